@@ -1,13 +1,15 @@
-// A library with one function.
+//! Exact whole numbers of the margin service: cents, ten-thousandths and quantities of contracts, their texts,
+//! and fractions that are rounded once.
 #![tactic(auto)]
 
-ghost use Rattle.std.specs.Prelude.{◌≡◌};
-ghost use Rattle.mgn_num.specs.Echo.{echo_of};
+pub mod cents;
+pub mod fraction;
+pub mod quantity;
+pub mod reading;
+pub mod tenk;
 
-// The `ensures` clause is the contract: what `echo` returns is `echo_of` of its argument, a definition
-// in `specs/Echo.antt`, which a caller's clause can cite too.
-pub fn echo(x: usize) -> usize
-    ensures { result ≡ echo_of x }
-{
-    x
-}
+pub use cents::Cents;
+pub use fraction::{mul_div_ceil, mul_div_floor};
+pub use quantity::Quantity;
+pub use reading::{NumFault, read_signed, read_unsigned};
+pub use tenk::Tenk;
