@@ -1,13 +1,13 @@
-// A library with one function.
+//! Names and numbers by which commands and parameter sets speak of accounts, contracts, lots and the like.
 #![tactic(auto)]
 
-ghost use Rattle.std.specs.Prelude.{◌≡◌};
-ghost use Rattle.mgn_ids.specs.Echo.{echo_of};
+pub mod fault;
+pub mod name;
+pub mod names;
+pub mod numbers;
+pub mod places;
 
-// The `ensures` clause is the contract: what `echo` returns is `echo_of` of its argument, a definition
-// in `specs/Echo.antt`, which a caller's clause can cite too.
-pub fn echo(x: usize) -> usize
-    ensures { result ≡ echo_of x }
-{
-    x
-}
+pub use fault::IdFault;
+pub use names::{AccountName, ClassName, CommodityName, ContractName, OriginName, SetName};
+pub use numbers::{LotId, OrderId, SessionNo, UnitNo};
+pub use places::Places;

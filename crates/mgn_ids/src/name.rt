@@ -1,0 +1,128 @@
+ghost use Rattle.std.specs.Prelude.{◌≡◌, [], ◌∷◌};
+ghost use Rattle.std.proofs.Common.{rules};
+ghost use Rattle.std.specs.Str.{bytes_eq};
+ghost use Rattle.std.specs.Cmp.{partial_order_from_own_ties};
+ghost use Rattle.std.specs.Cmp.Rules.{comparing};
+ghost use Rattle.std.specs.Cmp.Lexicographic.{slice_cmp};
+ghost use Rattle.std.specs.Ordering.{nat_cmp, as_partial_cmp};
+ghost use Rattle.std.specs.List.{list_all};
+ghost use Rattle.mgn_ids.specs.Name.{is_name_byte, name_in};
+
+use crate::fault::IdFault;
+use std::cmp::Ordering;
+use std::hash::{Hash, Hasher};
+use std::marker::Model;
+
+/// 1 to 16 bytes of `A` to `Z` and `0` to `9`. Contracts see the list of the bytes.
+#[derive(Clone, Copy, Debug)]
+pub struct Name {
+    bytes: [u8; 16],
+    len: usize,
+}
+
+impl Model for Name {
+    ghost use Rattle.std.specs.Prelude.{List, ℕ, take};
+    ghost use Rattle.mgn_ids.specs.Name.{IsNameRow};
+
+    ghost Value = { List ℕ };
+
+    ghost use Rattle.mgn_ids.specs.NameRow.{inside_of, inside_is};
+
+    ghost view = { λ n. take n.len n.bytes };
+
+    ghost invariant = { λ n. IsNameRow n.bytes n.len };
+
+    ghost inverse = { inside_of };
+
+    ghost inverse_ok = { inside_is };
+}
+
+fn is_name_byte(byte: u8) -> bool
+    ensures { result ≡ is_name_byte byte }
+{
+    byte.is_ascii_uppercase() || byte.is_ascii_digit()
+}
+
+fn are_name_bytes(word: &[u8]) -> bool
+    ensures { result ≡ list_all is_name_byte word.now }
+{
+    word.iter().all(|byte| is_name_byte(*byte))
+}
+
+impl Name {
+    /// The name that a word spells. `Syntax` where a byte is none of a name's or there is none, `Range` where there
+    /// are more than 16. Takes no memory.
+    #[tactic(auto, unfolding(crate::specs::Name::name_in))]
+    pub fn read(word: &[u8]) -> Result<Name, IdFault>
+        ensures { result ≡ name_in word.now }
+    {
+        if word.is_empty() || !are_name_bytes(word) {
+            return Err(IdFault::Syntax);
+        }
+        let len = word.len();
+        if len > 16 {
+            return Err(IdFault::Range);
+        }
+        let mut bytes = [0u8; 16];
+        bytes[..len].copy_from_slice(word);
+        Ok(Name { bytes, len })
+    }
+
+    /// The bytes of the name.
+    pub fn as_bytes(&self) -> &[u8]
+        ensures { result.now ≡ self.now }
+    {
+        &self.bytes[..self.len]
+    }
+}
+
+// Names are equal, and stand in order, as their bytes do.
+
+impl PartialEq for Name {
+    ghost eq = { bytes_eq };
+
+    ghost laws = { Prim.search (comparing, rules) };
+
+    fn eq(&self, other: &Name) -> bool {
+        self.as_bytes() == other.as_bytes()
+    }
+}
+
+impl Eq for Name {
+    ghost laws = { Prim.search (comparing, rules) };
+}
+
+impl PartialOrd for Name {
+    ghost partial_cmp = { as_partial_cmp (slice_cmp nat_cmp) };
+
+    ghost laws = { partial_order_from_own_ties (Prim.search (comparing, rules)) (Prim.search (comparing, rules)) };
+
+    fn partial_cmp(&self, other: &Name) -> Option<Ordering> {
+        Some(self.cmp(other))
+    }
+}
+
+impl Ord for Name {
+    ghost cmp = { slice_cmp nat_cmp };
+
+    ghost total = { Prim.search (comparing, rules) };
+
+    ghost matches_partial_cmp = { Prim.search (comparing, rules) };
+
+    ghost matches_eq = { Prim.search (comparing, rules) };
+
+    fn cmp(&self, other: &Name) -> Ordering {
+        self.as_bytes().cmp(&other.as_bytes())
+    }
+}
+
+// One write of all its bytes.
+impl Hash for Name {
+    ghost hash_input = { λ name. name ∷ [] };
+
+    ghost respects_eq = { Prim.search rules };
+
+    fn hash<H: Hasher>(&self, state: &mut H) {
+        state.write(self.as_bytes());
+    }
+}
