@@ -17,7 +17,7 @@ use std::marker::Model;
 #[derive(Clone, Copy, Debug)]
 pub struct Name {
     bytes: [u8; 16],
-    len: usize,
+    len: u8,
 }
 
 impl Model for Name {
@@ -65,14 +65,17 @@ impl Name {
         }
         let mut bytes = [0u8; 16];
         bytes[..len].copy_from_slice(word);
-        Ok(Name { bytes, len })
+        Ok(Name {
+            bytes,
+            len: len as u8,
+        })
     }
 
     /// The bytes of the name.
     pub fn as_bytes(&self) -> &[u8]
         ensures { result.now ≡ self.now }
     {
-        &self.bytes[..self.len]
+        &self.bytes[..self.len as usize]
     }
 }
 

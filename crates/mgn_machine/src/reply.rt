@@ -1,0 +1,82 @@
+ghost use Rattle.std.specs.Prelude.{◌≡◌};
+
+use mgn_num::Cents;
+
+/// Why a command is refused.
+#[derive(Clone, Copy, PartialEq, Eq, Debug)]
+pub enum Refusal {
+    /// The line is no command.
+    Syntax,
+    /// The line is longer than 256 bytes.
+    Long,
+    /// A name or a number on the line is outside its range.
+    Range,
+    /// There is no such account.
+    NoAccount,
+    /// There is no such origin.
+    NoOrigin,
+    /// The name or number is there already.
+    Duplicate,
+    /// The current set has no such contract.
+    NoContract,
+    /// The class is neither CASH nor one of the current set.
+    NoClass,
+    /// A limit would be passed.
+    Limit,
+    /// The premium does not fit the contract.
+    Premium,
+    /// Memory could not be had. Nothing has changed.
+    Memory,
+    /// The history is full.
+    Full,
+}
+
+/// The figures of a margin unit, in cents.
+#[derive(Clone, Copy, PartialEq, Eq, Debug)]
+pub struct Figures {
+    /// What the positions must have deposited.
+    pub requirement: Cents,
+    /// What the portfolio with the least room must have deposited.
+    pub exposure_requirement: Cents,
+    /// What is there: collateral less what the live lots cost.
+    pub value: Cents,
+    /// What is there for the portfolio with the least room, its holds counted as filled at their limits.
+    pub exposure_value: Cents,
+    /// The exposure value less the exposure requirement: the least over the portfolios.
+    pub room: Cents,
+}
+
+/// What a command is answered.
+#[derive(Clone, Copy, PartialEq, Eq, Debug)]
+pub enum Reply {
+    /// It is done.
+    Done,
+    /// The figures asked for.
+    Figures(Figures),
+    /// It is refused, and nothing has changed.
+    Refused(Refusal),
+}
+
+/// A reply, with its place in the history where it has one.
+#[derive(Clone, Copy, PartialEq, Eq, Debug)]
+pub struct Answer {
+    /// The number of the entry in the history, from 1.
+    pub place: Option<u64>,
+    /// The reply.
+    pub reply: Reply,
+}
+
+impl Answer {
+    ghost use Rattle.std.specs.Prelude.{None, Some};
+
+    /// An answer that has no entry in the history.
+    pub fn refused(refusal: Refusal) -> Answer
+        ensures place { result.place ≡ None }
+        ensures reply { result.reply ≡ Reply.Refused refusal }
+    {
+        Answer {
+            place: None,
+            reply: Reply::Refused(refusal),
+        }
+    }
+}
