@@ -4,7 +4,7 @@ ghost use Rattle.mgn_holds.specs.Holds.{IsHeld, hold_at, place_of_order, has_ord
 ghost use Rattle.mgn_holds.specs.Refusals.{is_full, added, Explains, covers, meets_limit, fill_place, filled, released};
 
 use crate::fault::{AddFault, FillFault, ReleaseFault};
-use crate::fills::{cost_on, covers, meets_limit};
+use crate::fills::{cost_on, covers, held_share, meets_limit};
 use crate::held::Held;
 use crate::side::Side;
 use mgn_ids::{ContractName, OrderId};
@@ -111,6 +111,17 @@ impl Holds {
             Side::Buys => self.buys,
             Side::Sales => self.sales,
         }
+    }
+
+    /// What the holds of a side hold of a contract.
+    pub fn held(&self, side: Side, contract: &ContractName) -> Quantity
+        ensures { result ≡ held_net side contract.now self.now }
+    {
+        let mut total = Quantity::ZERO;
+        for held in &self.holds {
+            total = total.plus(held_share(side, contract, held));
+        }
+        total
     }
 
     /// Adds a hold of a new order. Where memory is refused nothing has changed.
