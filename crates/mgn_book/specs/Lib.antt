@@ -1,0 +1,2 @@
+-- The state with its rows, and days of them.
+pub mod Floors

@@ -1,0 +1,92 @@
+ghost use Rattle.std.specs.Prelude.{◌≡◌, Ok, OnOk, OnErr, false, length};
+ghost use Rattle.mgn_lots.specs.Refusals.{has_number, is_full};
+ghost use Rattle.mgn_machine.specs.State.{with_lot};
+ghost use Rattle.mgn_machine.specs.Rows.{IsRow, IsChange, IsRoomy, Prices, row_with};
+ghost use Rattle.mgn_machine.specs.declared.row.Priced.{Priced};
+ghost use Rattle.mgn_machine.specs.Step.{traded, traded_lot, posted};
+ghost use Rattle.mgn_lots.specs.Lots.{IsLot};
+ghost use Rattle.mgn_book.specs.Floors.{IsKept, Steps};
+
+use crate::fault::Fault;
+use crate::register::Register;
+use mgn_ids::{AccountName, ClassName, ContractName, LotId, LotQuantity, Premium, Units};
+use mgn_lots::{Lot, Mark};
+use mgn_machine::{Account, Change, Row};
+use mgn_params::{ParamSet, Work};
+use std::alloc::{AllocError, Global};
+
+// A lot as it is traded.
+fn traded_lot(number: LotId, contract: ContractName, quantity: LotQuantity, premium: Premium) -> Lot
+    ensures lot { result ≡ traded_lot number contract quantity premium }
+    ensures limits { IsLot result }
+{
+    Lot {
+        number,
+        contract,
+        quantity: quantity.quantity(),
+        premium: premium.cents(),
+        mark: Mark::Traded,
+    }
+}
+
+impl Register {
+    /// A lot is traded.
+    pub fn trade(
+        &mut self,
+        alloc: Global,
+        set: &ParamSet,
+        account: AccountName,
+        number: LotId,
+        contract: ContractName,
+        quantity: LotQuantity,
+        premium: Premium,
+    ) -> Result<(), Fault>
+        requires kept { IsKept set.now self.old }
+        ensures kept { IsKept set.now self.new }
+        ensures steps { Steps (traded set.now self.old.state account number contract quantity premium) result self.old self.new }
+    {
+        set.limits();
+        let (place, i) = match self.trade_places(
+            set, account, number, contract, quantity, premium,
+        ) {
+            Ok(places) => places,
+            Err(why) => return Err(Fault::Refused(why)),
+        };
+        let change = Change::of_lot(i, quantity, premium);
+        let lot = traded_lot(number, contract, quantity, premium);
+        let owner = &mut self.accounts[place];
+        let row = &mut self.rows[owner.unit()];
+        match enter_lot(alloc, set, owner, row, &change, &lot) {
+            Ok(()) => {}
+            Err(_) => return Err(Fault::Memory),
+        }
+        Ok(())
+    }
+}
+
+// A lot more in an account, and its change in the row of the unit; at an error nothing has changed in either.
+fn enter_lot(
+    alloc: Global,
+    set: &ParamSet,
+    owner: &mut Account,
+    row: &mut Row,
+    change: &Change,
+    lot: &Lot,
+) -> Result<(), AllocError>
+    requires row { IsRow set.now row.old }
+    requires change { IsChange set.now change.now }
+    requires roomy { IsRoomy change.now row.old }
+    requires lot { IsLot lot.now }
+    requires fresh { has_number owner.old.lots lot.now.number ≡ false }
+    requires few { is_full owner.old.lots ≡ false }
+    ensures added { OnOk result (owner.new ≡ with_lot owner.old lot.now) }
+    ensures changed { OnOk result (row.new ≡ row_with set.now change.now row.old) }
+    ensures priced { OnOk result ((priced : Priced) × Prices set.now change.now row.old priced) }
+    ensures same_account { OnErr result (owner.new ≡ owner.old) }
+    ensures same_row { OnErr result (row.new ≡ row.old) }
+{
+    let priced = row.priced_with(alloc, set, change, &mut Work::new())?;
+    owner.add_lot(lot)?;
+    row.apply(set, change, &priced);
+    Ok(())
+}
