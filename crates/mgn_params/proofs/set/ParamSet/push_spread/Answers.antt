@@ -1,0 +1,16 @@
+use Rattle.std.proofs.Common.{◌∙◌, ◌∷◌, [], ap, ◌++◌, List, sym, ℕ}
+use Rattle.std.proofs.lemmas.List.{map-append}
+use Rattle.mgn_params.proofs.LimitsLemmas.{IsWithinLimits-spread}
+use Rattle.mgn_params.proofs.set.ParamSet.push_spread.Goals as goal
+
+pub invariant_of-self-2 : goal.invariant_of-self-2
+invariant_of-self-2 c =
+    let next = rw (← c.self.view_is) at c.requires in
+    let limits = IsWithinLimits-spread _ c.args.spread c.self.invariant.limits next in
+    let grown = c.in_ok-push.ensures.items in
+    record {
+      limits = rw grown limits;
+      commodity_places = c.self.invariant.commodity_places;
+      contract_places = c.self.invariant.contract_places;
+      class_places = c.self.invariant.class_places;
+    }

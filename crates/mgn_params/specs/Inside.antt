@@ -1,0 +1,24 @@
+-- How a set is kept: its tables, and an index of each kind of name.
+use Rattle.std.specs.Prelude.{◌≡◌}
+use Rattle.mgn_params.specs.declared.set.ParamSet.TheInside.{Inside}
+use Rattle.mgn_params.specs.Limits.{IsWithinLimits, class_names, commodity_names, contract_names}
+use Rattle.mgn_params.specs.Tables.{Tables}
+
+abbrev pub tables_of : Inside → Tables
+tables_of s = record {
+  name = s.name;
+  commodities = s.commodities.items;
+  months = s.months.items;
+  contracts = s.contracts.items;
+  spreads = s.spreads.items;
+  credits = s.credits.items;
+  classes = s.classes.items;
+  spots = s.spots.items;
+}
+
+-- the limits hold, and each index lists the names of its table
+pub record IsParamSet (s : Inside) : Type 0 where
+  pub limits : IsWithinLimits (tables_of s)
+  pub commodity_places : s.commodity_places ≡ commodity_names s.commodities.items
+  pub contract_places : s.contract_places ≡ contract_names s.contracts.items
+  pub class_places : s.class_places ≡ class_names s.classes.items

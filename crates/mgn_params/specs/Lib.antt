@@ -1,0 +1,12 @@
+-- The tables of a parameter set and the margin calculation over them.
+pub mod Tables
+pub mod Positions
+pub mod Scan
+pub mod Deltas
+pub mod Stages
+pub mod Credits
+pub mod Options
+pub mod Spot
+pub mod Requirement
+pub mod Limits
+pub mod Inside

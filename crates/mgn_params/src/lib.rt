@@ -1,0 +1,13 @@
+//! Parameter sets of the margin calculation, and the definitions of the calculation itself.
+#![tactic(auto)]
+
+mod set;
+mod tables;
+mod work;
+
+pub use set::ParamSet;
+pub use tables::{
+    Class, Commodity, Contract, CreditSpread, Kind, Leg, Month, Side, SpotCharge, Spread, Stage,
+    Style,
+};
+pub use work::Work;
