@@ -1,0 +1,3 @@
+pub mod DeltaLemmas
+pub mod PositionLemmas
+pub mod StageLemmas

@@ -1,0 +1,88 @@
+-- How sums over the positions grow, position by position, and how large they are.
+use Rattle.std.proofs.Common.{◌≡◌, ◌≢◌, ℕ, zero, suc, ◌+◌, ◌*◌, ◌<◌, ◌≤◌, ◌^◌, List, [], ◌∷◌, length, take, get_or, pos, ℤ, ⊎_elim, ap, ◌∙◌, sym, arith, take_all, add-one, refl, eq-eqb, ne_eqb, unsigned_abs, All}
+use Rattle.std.specs.Prelude.{◌+ℤ◌, ◌*ℤ◌, ◌==◌, if◌then◌else◌}
+use Rattle.std.specs.List.{count_by, sum_by}
+use Rattle.std.proofs.lemmas.Bool.{cases_eq, cases_lt}
+use Rattle.std.proofs.lemmas.Int.{ints}
+use Rattle.std.proofs.lemmas.List.{get_or_past}
+use Rattle.std.proofs.lemmas.List.Sums.{fold_more, count_by_more_yes, count_by_more_no}
+use Rattle.std.proofs.lemmas.Slice.Zip.{get_or-zip, length-zip}
+use Rattle.mgn_num.specs.Signed.{signed_sum_by}
+use Rattle.mgn_num.proofs.SignedLemmas.{size-*ℤ-le}
+use Rattle.mgn_params.specs.declared.tables.Contract.{Contract}
+use Rattle.mgn_params.specs.declared.tables.Month.{Month}
+use Rattle.mgn_params.specs.Deltas.{month_share}
+use Rattle.mgn_params.specs.Limits.{IsContract, IsWithinLimits}
+use Rattle.mgn_params.specs.Positions.{Position, positions, IsNet}
+use Rattle.mgn_params.specs.Scan.{value_at, scenario_share, scenario_total}
+use Rattle.mgn_params.specs.Tables.{Tables, contract_at, no_contract}
+
+-- one position more, whatever is counted
+pub position_sum_more : (f : Position → ℤ) (cs : List Contract) (ns : List ℤ) (i : ℕ) → i < length cs → length ns ≡ length cs → signed_sum_by f (take (i + 1) (positions cs ns)) ≡ signed_sum_by f (take i (positions cs ns)) +ℤ f (contract_at cs i, value_at ns i)
+position_sum_more f cs ns i h e =
+    let inside : i < length ns = omega arith in
+    let within : i < length (positions cs ns) = omega (arith, length-zip cs ns) in
+    fold_more (λ (total : ℤ) (p : Position). total +ℤ f p) (pos 0) (positions cs ns) i (no_contract, pos 0) within ∙ ap (λ (p : Position). signed_sum_by f (take i (positions cs ns)) +ℤ f p) (get_or-zip cs ns i (no_contract, pos 0) h inside)
+
+-- all positions
+pub position_sum_all : (f : Position → ℤ) (cs : List Contract) (ns : List ℤ) (i : ℕ) → length cs ≤ i → length ns ≡ length cs → signed_sum_by f (take i (positions cs ns)) ≡ signed_sum_by f (positions cs ns)
+position_sum_all f cs ns i h e =
+    ap (λ (ps : List Position). signed_sum_by f ps) (take_all i (positions cs ns) (omega (arith, length-zip cs ns)))
+
+-- the same for unsigned counts
+pub position_count_more : (f : Position → ℕ) (cs : List Contract) (ns : List ℤ) (i : ℕ) → i < length cs → length ns ≡ length cs → sum_by f (take (i + 1) (positions cs ns)) ≡ sum_by f (take i (positions cs ns)) + f (contract_at cs i, value_at ns i)
+position_count_more f cs ns i h e =
+    let inside : i < length ns = omega arith in
+    let within : i < length (positions cs ns) = omega (arith, length-zip cs ns) in
+    fold_more (λ (total : ℕ) (p : Position). total + f p) 0 (positions cs ns) i (no_contract, pos 0) within ∙ ap (λ (p : Position). sum_by f (take i (positions cs ns)) + f p) (get_or-zip cs ns i (no_contract, pos 0) h inside)
+
+pub position_count_all : (f : Position → ℕ) (cs : List Contract) (ns : List ℤ) (i : ℕ) → length cs ≤ i → length ns ≡ length cs → sum_by f (take i (positions cs ns)) ≡ sum_by f (positions cs ns)
+position_count_all f cs ns i h e =
+    ap (λ (ps : List Position). sum_by f ps) (take_all i (positions cs ns) (omega (arith, length-zip cs ns)))
+
+-- each value of an array of small numbers is small
+pub value_at_small : (array : List ℤ) (m s : ℕ) → All (λ a. unsigned_abs a ≤ m) array → unsigned_abs (value_at array s) ≤ m
+value_at_small array m s h =
+    ⊎_elim (λ inside. h s (pos 0) inside) (λ past. rw (get_or_past array s (pos 0) past) (omega arith)) (cases_lt s (length array))
+
+-- a position counts for at most 10^15 in a scenario
+pub scenario_share_small : (commodities : ℕ) (months : List Month) (g s : ℕ) (c : Contract) (n : ℤ) → IsContract commodities months c → IsNet n → unsigned_abs (scenario_share g s (c, n)) ≤ 10 ^ 15
+scenario_share_small commodities months g s c n limits small =
+    let product = size-*ℤ-le n (value_at c.array s) (10 ^ 7) (10 ^ 8) small (value_at_small c.array (10 ^ 8) s limits.array) in
+    grind (arith, ints, product)
+
+-- a position counts for at most 10^12 in a month
+pub month_share_small : (commodities : ℕ) (months : List Month) (m : ℕ) (c : Contract) (n : ℤ) → IsContract commodities months c → IsNet n → unsigned_abs (month_share m (c, n)) ≤ 10 ^ 12
+month_share_small commodities months m c n limits small =
+    let product = size-*ℤ-le n c.delta (10 ^ 7) (10 ^ 5) small limits.delta in
+    grind (arith, ints, product)
+
+-- what only the positions of a commodity count for, each at most `most` in size, comes to no more than that for each of its contracts
+pub share_sum_by_count : (f : Position → ℤ) (g most : ℕ) (cs : List Contract) (ns : List ℤ) (i : ℕ) → length ns ≡ length cs → ((c : Contract) (n : ℤ) → c.commodity ≢ g → f (c, n) ≡ pos 0) → ((k : ℕ) → k < length cs → unsigned_abs (f (contract_at cs k, value_at ns k)) ≤ most) → i ≤ length cs → unsigned_abs (signed_sum_by f (take i (positions cs ns))) ≤ count_by (λ c. c.commodity == g) (take i cs) * most
+share_sum_by_count f g most cs ns zero e outside small h = omega (arith, ints)
+share_sum_by_count f g most cs ns (suc i) e outside small h =
+    let before = share_sum_by_count f g most cs ns i e outside small (omega arith) in
+    let more = rw add-one at (position_sum_more f cs ns i (omega arith) e) in
+    let share = small i (omega arith) in
+    ⊎_elim
+    (λ (same : (contract_at cs i).commodity ≡ g).
+    let counted = rw add-one at (count_by_more_yes (λ (c : Contract). c.commodity == g) cs i no_contract (omega arith) (eq-eqb (contract_at cs i).commodity g same)) in
+    omega (arith, ints, before, more, share, ap (λ (n : ℕ). n * most) counted))
+    (λ (other : (contract_at cs i).commodity ≢ g).
+    let counted = rw add-one at (count_by_more_no (λ (c : Contract). c.commodity == g) cs i no_contract (omega arith) (ne_eqb (contract_at cs i).commodity g other)) in
+    omega (arith, ints, before, more, ap (λ (n : ℕ). n * most) counted, outside (contract_at cs i) (value_at ns i) other))
+    (cases_eq (contract_at cs i).commodity g)
+
+-- a position of another commodity counts for nothing
+pub scenario_share_out : (g s : ℕ) (c : Contract) (n : ℤ) → c.commodity ≢ g → scenario_share g s (c, n) ≡ pos 0
+scenario_share_out g s c n e = grind arith
+
+-- no total is larger than the 256 contracts of a commodity at their limits
+pub scenario_total_small : (t : Tables) (ns : List ℤ) (g s : ℕ) → IsWithinLimits t → length ns ≡ length t.contracts → All IsNet ns → unsigned_abs (scenario_total g (positions t.contracts ns) s) ≤ 256 * 10 ^ 15
+scenario_total_small t ns g s limits e nets =
+    let n = length t.contracts in
+    let small = share_sum_by_count (scenario_share g s) g (10 ^ 15) t.contracts ns n e (λ c m h. scenario_share_out g s c m h) (λ k h. scenario_share_small (length t.commodities) t.months g s (contract_at t.contracts k) (value_at ns k) (limits.contracts k no_contract h) (nets k (pos 0) (omega arith))) (omega arith) in
+    let all = position_sum_all (scenario_share g s) t.contracts ns n (omega arith) e in
+    let every = ap (λ (cs : List Contract). count_by (λ (c : Contract). c.commodity == g) cs) (take_all n t.contracts (omega arith)) in
+    let few = limits.few_contracts_in_each g in
+    omega (arith, ints, small, all, every, few)

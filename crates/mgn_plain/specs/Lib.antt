@@ -1,0 +1,2 @@
+-- How the rows of a calculation are kept.
+pub mod Kept
