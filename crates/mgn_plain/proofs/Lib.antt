@@ -1,3 +1,4 @@
+pub mod CreditLemmas
 pub mod DeltaLemmas
 pub mod PositionLemmas
 pub mod StageLemmas

@@ -1,5 +1,8 @@
 -- The rows that a calculation keeps: one for each commodity of a set, in file order.
-use Rattle.std.specs.Prelude.{ℕ, ◌-◌, ◌==◌, ◌&&◌, nat_lt, if◌then◌else◌, ℤ, pos, List, [], slice_index_or, slice_index}
+use Rattle.std.specs.Prelude.{ℕ, Option, Some, None, ◌+◌, ◌*◌, ◌-◌, ◌==◌, ◌&&◌, nat_lt, if◌then◌else◌, ℤ, pos, List, [], slice_index_or, slice_index}
+use Rattle.std.specs.Int.{div_ceil}
+use Rattle.mgn_params.specs.declared.tables.SpotCharge.{SpotCharge}
+use Rattle.mgn_params.specs.Stages.{long_leg, short_leg}
 use Rattle.mgn_params.specs.declared.tables.Month.{Month}
 use Rattle.mgn_params.specs.Deltas.{positive_part, negative_part}
 use Rattle.mgn_params.specs.Tables.{month_at}
@@ -38,3 +41,15 @@ month_start months deltas commodity leg m = start_share (month_at months m) (val
 
 abbrev pub month_net_share : List Month → List ℤ → ℕ → ℕ → ℤ
 month_net_share months deltas commodity m = month_net (month_at months m) (value_at deltas m) commodity
+
+-- the spot month charge by what the legs started with and what is left of them
+abbrev pub kept_charge_at : List ℕ → List ℕ → SpotCharge → ℕ
+kept_charge_at starts left spot =
+    let outright = slice_index left (long_leg spot.tier) + slice_index left (short_leg spot.tier) in
+    let spread = slice_index starts (long_leg spot.tier) + slice_index starts (short_leg spot.tier) - outright in
+    div_ceil (spread * spot.spread_rate) 10000 + div_ceil (outright * spot.outright_rate) 10000
+
+-- 0 where the commodity has none
+abbrev pub kept_charge_of : List ℕ → List ℕ → Option SpotCharge → ℕ
+kept_charge_of starts left None = 0
+kept_charge_of starts left (Some spot) = kept_charge_at starts left spot

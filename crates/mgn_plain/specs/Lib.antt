@@ -1,2 +1,3 @@
 -- How the rows of a calculation are kept.
 pub mod Kept
+pub mod Rests

@@ -1,7 +1,10 @@
 //! The margin calculation of a list of nets, worked out anew from a set.
 #![tactic(auto)]
 
-pub mod deltas;
-pub mod rows;
-pub mod scan;
-pub mod stages;
+mod credits;
+mod deltas;
+mod options;
+mod rows;
+mod scan;
+mod spot;
+mod stages;

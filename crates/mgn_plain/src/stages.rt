@@ -33,8 +33,8 @@ fn form_stage(left: &mut [u128; 16], stage: &Stage) -> u128
 }
 
 // What the stages of a spread charge: the first tier long and the second short, then the other way round if they differ.
-fn form_spread(left: &mut [u128; 16], spread: &Spread, commodities: usize) -> u128
-    requires spread { IsSpread commodities spread.now }
+fn form_spread(left: &mut [u128; 16], spread: &Spread) -> u128
+    requires spread { (commodities : ℕ) × IsSpread commodities spread.now }
     requires left { (k : ℕ) → k < 16 → slice_index left.old k ≤ 10 ^ 16 }
     ensures charge { result ≡ charges_of left.old (stages_of_spread spread.now) }
     ensures left { left.new ≡ left_by left.old (stages_of_spread spread.now) }
@@ -78,8 +78,7 @@ fn add_spread(left: &mut [[u128; 16]], charges: &mut [u128], spread: &Spread)
     ensures small_charges { (g : ℕ) → g < length left.old → slice_index charges.new g ≤ slice_index charges.old g + 2 * 10 ^ 25 }
 {
     let commodity = spread.commodity;
-    let commodities = left.len();
-    charges[commodity] += form_spread(&mut left[commodity], spread, commodities);
+    charges[commodity] += form_spread(&mut left[commodity], spread);
 }
 
 /// Forms the spreads in file order, each of what the earlier ones of its commodity left, and adds up what they charge.
