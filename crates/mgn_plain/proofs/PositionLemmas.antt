@@ -15,6 +15,7 @@ use Rattle.mgn_params.specs.Deltas.{month_share}
 use Rattle.mgn_params.specs.Limits.{IsContract, IsWithinLimits}
 use Rattle.mgn_params.specs.Positions.{Position, positions, IsNet}
 use Rattle.mgn_params.specs.Scan.{value_at, scenario_share, scenario_total}
+use Rattle.mgn_plain.specs.Parts.{AreNets}
 use Rattle.mgn_params.specs.Tables.{Tables, contract_at, no_contract}
 
 -- one position more, whatever is counted
@@ -78,11 +79,11 @@ pub scenario_share_out : (g s : ℕ) (c : Contract) (n : ℤ) → c.commodity �
 scenario_share_out g s c n e = grind arith
 
 -- no total is larger than the 256 contracts of a commodity at their limits
-pub scenario_total_small : (t : Tables) (ns : List ℤ) (g s : ℕ) → IsWithinLimits t → length ns ≡ length t.contracts → All IsNet ns → unsigned_abs (scenario_total g (positions t.contracts ns) s) ≤ 256 * 10 ^ 15
-scenario_total_small t ns g s limits e nets =
+pub scenario_total_small : (t : Tables) (nets : List ℤ) (g s : ℕ) → IsWithinLimits t → AreNets t nets → unsigned_abs (scenario_total g (positions t.contracts nets) s) ≤ 256 * 10 ^ 15
+scenario_total_small t nets g s limits are =
     let n = length t.contracts in
-    let small = share_sum_by_count (scenario_share g s) g (10 ^ 15) t.contracts ns n e (λ c m h. scenario_share_out g s c m h) (λ k h. scenario_share_small (length t.commodities) t.months g s (contract_at t.contracts k) (value_at ns k) (limits.contracts k no_contract h) (nets k (pos 0) (omega arith))) (omega arith) in
-    let all = position_sum_all (scenario_share g s) t.contracts ns n (omega arith) e in
+    let small = share_sum_by_count (scenario_share g s) g (10 ^ 15) t.contracts nets n are.one_each (λ c m h. scenario_share_out g s c m h) (λ k h. scenario_share_small (length t.commodities) t.months g s (contract_at t.contracts k) (value_at nets k) (limits.contracts k no_contract h) (are.small k (pos 0) (omega (arith, are.one_each)))) (omega arith) in
+    let all = position_sum_all (scenario_share g s) t.contracts nets n (omega arith) are.one_each in
     let every = ap (λ (cs : List Contract). count_by (λ (c : Contract). c.commodity == g) cs) (take_all n t.contracts (omega arith)) in
     let few = limits.few_contracts_in_each g in
     omega (arith, ints, small, all, every, few)

@@ -1,3 +1,4 @@
 -- How the rows of a calculation are kept.
 pub mod Kept
+pub mod Parts
 pub mod Rests
