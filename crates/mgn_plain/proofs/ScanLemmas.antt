@@ -1,9 +1,10 @@
 -- Scan figures of totals that agree in the 16 scenarios.
-use Rattle.std.proofs.Common.{◌≡◌, ℕ, zero, suc, ◌+◌, ◌*◌, ◌<◌, ◌≤◌, ◌^◌, ap, ◌∙◌, sym, arith, refl, pos, ℤ, unsigned_abs}
-use Rattle.std.specs.Prelude.{◌+ℤ◌, ◌-ℤ◌, int_lt, if◌then◌else◌}
+use Rattle.std.proofs.Common.{◌≡◌, ℕ, zero, suc, ◌+◌, ◌*◌, ◌<◌, ◌≤◌, ◌^◌, ap, ◌∙◌, sym, arith, refl, pos, ℤ, unsigned_abs, ⊎_elim}
+use Rattle.std.specs.Prelude.{◌≤ℤ◌, ◌<ℤ◌, ◌+ℤ◌, ◌-ℤ◌, int_lt, if◌then◌else◌}
 use Rattle.std.specs.Int.{int_max}
+use Rattle.std.proofs.lemmas.Bool.{cases_lt}
 use Rattle.std.proofs.lemmas.Int.{ints}
-use Rattle.mgn_params.specs.Scan.{lowest_largest, active, scan_risk, pair_of, price_risk2, price_risk2_at}
+use Rattle.mgn_params.specs.Scan.{IsActive, lowest_largest, active, scan_risk, pair_of, price_risk2, price_risk2_at}
 
 lowest_largest-le : (t : ℕ → ℤ) (last : ℕ) → lowest_largest t last ≤ last
 lowest_largest-le t zero = omega arith
@@ -48,3 +49,25 @@ price_risk2_small t most small =
     let three = small 0 (omega arith) in
     let four = small 1 (omega arith) in
     grind (arith, ints, one, two, three, four)
+
+lowest_largest_is : (t : ℕ → ℤ) (a last : ℕ) → IsActive t a → a ≤ last → last < 16 → lowest_largest t last ≡ a
+lowest_largest_is t a zero is low h = omega arith
+lowest_largest_is t a (suc last) is low h =
+    let best = lowest_largest t last in
+    let within : best ≤ last = lowest_largest-le t last in
+    ⊎_elim
+    (λ (earlier : a < suc last).
+    let was : best ≡ a = lowest_largest_is t a last is (omega arith) (omega arith) in
+    let most = is.largest (suc last) h in
+    rw was (grind (arith, ints, most)))
+    (λ (here : suc last ≤ a).
+    let same : a ≡ suc last = omega arith in
+    let more = is.lowest best (omega arith) in
+    let at = ap t same in
+    grind (arith, ints, more, at))
+    (cases_lt a (suc last))
+
+-- the lowest of the 16 with the largest total is the active one
+pub active_is : (t : ℕ → ℤ) (a : ℕ) → IsActive t a → a ≡ active t
+unfolding active
+active_is t a is = sym (lowest_largest_is t a 15 is (omega (arith, is.scenario)) (omega arith))

@@ -1,9 +1,9 @@
-ghost use Rattle.std.specs.Prelude.{◌≡◌, ℕ, ◌+◌, ◌*◌, ◌<◌, ◌≤◌, ◌^◌, ℤ, pos, ◌+ℤ◌, ◌*ℤ◌, unsigned_abs, length, All, replicate};
+ghost use Rattle.std.specs.Prelude.{◌≡◌, ℕ, ◌+◌, ◌*◌, ◌<◌, ◌≤◌, ◌^◌, ℤ, pos, ◌+ℤ◌, ◌*ℤ◌, unsigned_abs, length, All, replicate, slice_index};
 ghost use Rattle.std.specs.Int.{int_max};
 ghost use Rattle.mgn_params.specs.Tables.{contract_at};
 ghost use Rattle.mgn_params.specs.Positions.{positions, IsNet};
-ghost use Rattle.mgn_params.specs.Scan.{value_at, scenario_share, scenario_total, active, scan_risk, pair_of, price_risk2, IsActive, price_risk2_at};
-ghost use Rattle.mgn_plain.specs.Kept.{total_of};
+ghost use Rattle.mgn_params.specs.Scan.{value_at, scenario_share, scenario_total, active, scan_risk, pair_of, price_risk2, price_risk2_at};
+ghost use Rattle.mgn_plain.specs.Kept.{total_of, totals_of};
 
 use crate::rows::net_at;
 use mgn_num::{Cents, Quantity};
@@ -41,8 +41,9 @@ fn add_scaled(totals: &mut [Cents; 16], array: &[i64; 16], net: Quantity)
 }
 
 // The lowest-numbered scenario with the largest total.
-pub(crate) fn active_scenario(totals: &[Cents; 16]) -> usize
-    ensures { IsActive (value_at totals.now) result }
+fn active_scenario(totals: &[Cents; 16]) -> usize
+    ensures active { result ≡ active (value_at totals.now) }
+    ensures scenario { result < 16 }
 {
     let mut best = 0;
     for s in 1..16 {
@@ -77,7 +78,7 @@ fn add_position(
 }
 
 #[tactic(auto, using(crate::proofs::PositionLemmas::position_sum_more, crate::proofs::PositionLemmas::position_sum_all, crate::proofs::PositionLemmas::scenario_share_small))]
-/// Adds up the totals of the 16 scenarios of each commodity, one net for each contract of the set.
+// Adds up the totals of the 16 scenarios of each commodity, one net for each contract of the set.
 pub(crate) fn add_positions(
     totals: &mut [[Cents; 16]],
     set: &ParamSet,
@@ -116,7 +117,7 @@ fn pair_of_scenario(scenario: usize) -> usize
 
 // Twice the price risk, from the totals and the active scenario.
 fn doubled_price_risk(totals: &[Cents; 16], active: usize) -> Cents
-    requires small { (s : ℕ) → s < 16 → unsigned_abs (value_at totals.now s) ≤ 10 ^ 19 }
+    requires small { (s : ℕ) → s < 16 → unsigned_abs (value_at totals.now s) ≤ 256 * 10 ^ 15 }
     requires active { active < 16 }
     ensures { result ≡ price_risk2_at (value_at totals.now) active }
 {
@@ -128,4 +129,49 @@ fn doubled_price_risk(totals: &[Cents; 16], active: usize) -> Cents
     let first = total_at(totals, 0);
     let second = total_at(totals, 1);
     own.plus(pair).minus(first).minus(second).or_zero()
+}
+
+// The scan risk of a commodity, its active scenario and twice its price risk.
+#[derive(Clone, Copy)]
+pub(crate) struct ScanFigures {
+    pub scan: Cents,
+    pub active: usize,
+    pub price_risk2: Cents,
+}
+
+// The scan figures of the totals of a commodity.
+pub(crate) fn scan_figures(totals: &[Cents; 16]) -> ScanFigures
+    requires { (s : ℕ) → s < 16 → unsigned_abs (value_at totals.now s) ≤ 256 * 10 ^ 15 }
+    ensures scan { result.scan ≡ scan_risk (value_at totals.now) }
+    ensures active { result.active ≡ active (value_at totals.now) }
+    ensures price_risk2 { result.price_risk2 ≡ price_risk2 (value_at totals.now) }
+    ensures small_scan { unsigned_abs result.scan ≤ 256 * 10 ^ 15 }
+{
+    let active = active_scenario(totals);
+    ScanFigures {
+        scan: total_at(totals, active).or_zero(),
+        active,
+        price_risk2: doubled_price_risk(totals, active),
+    }
+}
+
+// The totals of a commodity.
+pub(crate) fn totals_row(totals: &[[Cents; 16]], commodity: usize) -> &[Cents; 16]
+    requires { commodity < length totals.now }
+    ensures { result.now ≡ totals_of totals.now commodity }
+{
+    &totals[commodity]
+}
+
+// Twice the price risk of each commodity.
+pub(crate) fn fill_price_risks(risks: &mut [u128], totals: &[[Cents; 16]])
+    requires one_each { length risks.old ≡ length totals.now }
+    requires small { (g s : ℕ) → g < length totals.now → s < 16 → unsigned_abs (total_of totals.now g s) ≤ 256 * 10 ^ 15 }
+    ensures one_each { length risks.new ≡ length totals.now }
+    ensures risks { (g : ℕ) → g < length totals.now →
+        slice_index risks.new g ≡ unsigned_abs (price_risk2 (total_of totals.now g)) }
+{
+    for g in 0..totals.len() {
+        risks[g] = scan_figures(totals_row(totals, g)).price_risk2.size();
+    }
 }
