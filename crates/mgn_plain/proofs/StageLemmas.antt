@@ -44,10 +44,10 @@ stages_of-drop_out spreads i g spread h e other =
 left_after-le : (left : List ℕ) (stage : Stage) (k : ℕ) → slice_index (left_after left stage) k ≤ slice_index left k
 left_after-le left stage k = grind (arith, common_steps)
 
-pub left_by-le : (left : List ℕ) (stages : List Stage) (k : ℕ) → slice_index (left_by left stages) k ≤ slice_index left k
-left_by-le left [] k = omega arith
-left_by-le left (stage ∷ stages) k =
-    omega (arith, left_by-le (left_after left stage) stages k, left_after-le left stage k)
+pub left_by_le : (left : List ℕ) (stages : List Stage) (k : ℕ) → slice_index (left_by left stages) k ≤ slice_index left k
+left_by_le left [] k = omega arith
+left_by_le left (stage ∷ stages) k =
+    omega (arith, left_by_le (left_after left stage) stages k, left_after-le left stage k)
 
 -- the stages of spreads within their limits are within theirs
 stages_of_spread-are : (commodities : ℕ) (s : Spread) → IsSpread commodities s → AllByRecursion IsStage (stages_of_spread s)

@@ -182,6 +182,7 @@ pub(crate) fn add_credits(
     requires rests { rests.old ≡ deltas.now }
     requires credits { credits.old ≡ replicate (length deltas.now) 0 }
     ensures credits { credits.new ≡ credits_of deltas.now risks.now spreads.now }
+    ensures one_each { length credits.new ≡ length deltas.now }
     ensures small { (g : ℕ) → slice_index credits.new g ≤ 10 ^ 36 }
 {
     for spread in spreads {

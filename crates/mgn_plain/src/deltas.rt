@@ -4,7 +4,7 @@ ghost use Rattle.mgn_params.specs.Deltas.{month_share, month_delta, net_delta, s
 ghost use Rattle.mgn_params.specs.Positions.{positions, IsNet};
 ghost use Rattle.mgn_params.specs.Scan.{value_at};
 ghost use Rattle.mgn_params.specs.Tables.{contract_at, month_at};
-ghost use Rattle.mgn_plain.specs.Kept.{leg_of, start_share, month_net, month_start, month_net_share};
+ghost use Rattle.mgn_plain.specs.Kept.{leg_of, legs_row, start_share, month_net, month_start, month_net_share};
 
 use crate::rows::net_at;
 use mgn_num::{Quantity, Tenk};
@@ -53,6 +53,7 @@ pub(crate) fn add_positions(deltas: &mut [Tenk], set: &ParamSet, nets: &[Quantit
     ensures one_each { length deltas.new ≡ length set.now.months }
     ensures deltas { (m : ℕ) → m < length set.now.months →
         value_at deltas.new m ≡ month_delta (positions set.now.contracts nets.now) m }
+    ensures small { (m : ℕ) → m < length set.now.months → unsigned_abs (value_at deltas.new m) ≤ 10 ^ 16 }
 {
     set.limits();
     for i in 0..set.contract_count() {
@@ -69,6 +70,7 @@ fn add_start(starts: &mut [[u128; 16]], month: &Month, delta: Tenk)
     ensures one_each { length starts.new ≡ length starts.old }
     ensures starts { (g leg : ℕ) → g < length starts.old → leg < 16 →
         leg_of starts.new g leg ≡ leg_of starts.old g leg + start_share month.now delta g leg }
+    ensures as_long { (g : ℕ) → g < length starts.old → length (legs_row starts.new g) ≡ length (legs_row starts.old g) }
 {
     let row = &mut starts[month.commodity];
     if delta.is_negative() {
@@ -99,6 +101,7 @@ pub(crate) fn add_starts(starts: &mut [[u128; 16]], set: &ParamSet, deltas: &[Te
     ensures one_each { length starts.new ≡ length set.now.commodities }
     ensures starts { (g leg : ℕ) → g < length set.now.commodities → leg < 16 →
         leg_of starts.new g leg ≡ sum_below (month_start set.now.months deltas.now g leg) (length set.now.months) }
+    ensures sixteen { (g : ℕ) → g < length set.now.commodities → length (legs_row starts.new g) ≡ 16 }
 {
     set.limits();
     for m in 0..set.month_count() {

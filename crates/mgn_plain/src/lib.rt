@@ -4,6 +4,7 @@
 mod credits;
 mod deltas;
 mod options;
+mod parts;
 mod rows;
 mod scan;
 mod spot;

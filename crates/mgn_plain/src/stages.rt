@@ -23,7 +23,7 @@ fn form_stage(left: &mut [u128; 16], stage: &Stage) -> u128
     requires left { (k : ℕ) → k < 16 → slice_index left.old k ≤ 10 ^ 16 }
     ensures charge { result ≡ charge_of left.old stage.now }
     ensures left { left.new ≡ left_after left.old stage.now }
-    ensures small { (k : ℕ) → k < 16 → slice_index left.new k ≤ 10 ^ 16 }
+    ensures fewer { (k : ℕ) → slice_index left.new k ≤ slice_index left.old k }
     ensures small_charge { result ≤ 10 ^ 25 }
 {
     let amount = stage_amount(left, stage);
@@ -38,7 +38,7 @@ fn form_spread(left: &mut [u128; 16], spread: &Spread) -> u128
     requires left { (k : ℕ) → k < 16 → slice_index left.old k ≤ 10 ^ 16 }
     ensures charge { result ≡ charges_of left.old (stages_of_spread spread.now) }
     ensures left { left.new ≡ left_by left.old (stages_of_spread spread.now) }
-    ensures small { (k : ℕ) → k < 16 → slice_index left.new k ≤ 10 ^ 16 }
+    ensures fewer { (k : ℕ) → slice_index left.new k ≤ slice_index left.old k }
     ensures small_charge { result ≤ 2 * 10 ^ 25 }
 {
     let there = Stage {
@@ -74,7 +74,7 @@ fn add_spread(left: &mut [[u128; 16]], charges: &mut [u128], spread: &Spread)
         (if spread.now.commodity == g then left_by (legs_row left.old g) (stages_of_spread spread.now) else legs_row left.old g) }
     ensures charges { (g : ℕ) → g < length left.old → slice_index charges.new g ≡
         slice_index charges.old g + (if spread.now.commodity == g then charges_of (legs_row left.old g) (stages_of_spread spread.now) else 0) }
-    ensures small { (g k : ℕ) → g < length left.old → k < 16 → leg_of left.new g k ≤ 10 ^ 16 }
+    ensures fewer { (g k : ℕ) → g < length left.old → k < 16 → leg_of left.new g k ≤ leg_of left.old g k }
     ensures small_charges { (g : ℕ) → g < length left.old → slice_index charges.new g ≤ slice_index charges.old g + 2 * 10 ^ 25 }
 {
     let commodity = spread.commodity;
@@ -93,7 +93,7 @@ pub(crate) fn add_spreads(left: &mut [[u128; 16]], charges: &mut [u128], spreads
         legs_row left.new g ≡ left_by (legs_row left.old g) (stages_of spreads.now g) }
     ensures charges { (g : ℕ) → g < length left.old →
         slice_index charges.new g ≡ charges_of (legs_row left.old g) (stages_of spreads.now g) }
-    ensures small { (g k : ℕ) → g < length left.old → k < 16 → leg_of left.new g k ≤ 10 ^ 16 }
+    ensures fewer { (g k : ℕ) → g < length left.old → k < 16 → leg_of left.new g k ≤ leg_of left.old g k }
 {
     for spread in spreads {
         add_spread(left, charges, spread);

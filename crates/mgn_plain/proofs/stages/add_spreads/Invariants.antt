@@ -9,6 +9,6 @@ invariant-loop-spread l = record {
   one_each : length l.charges ≡ length l.initial.left;
   left : (g : ℕ) → g < length l.initial.left → left_by (legs_row l.left g) (stages_of (drop l.spread-index l.spreads) g) ≡ left_by (legs_row l.initial.left g) (stages_of l.spreads g);
   charges : (g : ℕ) → g < length l.initial.left → slice_index l.charges g + charges_of (legs_row l.left g) (stages_of (drop l.spread-index l.spreads) g) ≡ charges_of (legs_row l.initial.left g) (stages_of l.spreads g);
-  small : (g k : ℕ) → g < length l.initial.left → k < 16 → leg_of l.left g k ≤ 10 ^ 16;
+  fewer : (g k : ℕ) → g < length l.initial.left → k < 16 → leg_of l.left g k ≤ leg_of l.initial.left g k;
   size : (g : ℕ) → g < length l.initial.left → slice_index l.charges g ≤ l.spread-index * (2 * 10 ^ 25);
 }
