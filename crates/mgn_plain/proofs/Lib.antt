@@ -1,5 +1,6 @@
 pub mod CreditLemmas
 pub mod DeltaLemmas
+pub mod PartLemmas
 pub mod PositionLemmas
 pub mod ScanLemmas
 pub mod StageLemmas

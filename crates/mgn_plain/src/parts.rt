@@ -1,12 +1,7 @@
-ghost use Rattle.std.specs.Prelude.{◌≡◌, ℕ, ◌*◌, ◌<◌, ◌≤◌, ◌^◌, ℤ, List, unsigned_abs, length, slice_index, map, IfOk};
-ghost use Rattle.std.specs.List.{range_with_len};
-ghost use Rattle.mgn_num.specs.Signed.{signed_sum_below, sum_below};
-ghost use Rattle.mgn_params.specs.Credits.{credits_of};
-ghost use Rattle.mgn_params.specs.Scan.{price_risk2, value_at};
-ghost use Rattle.mgn_params.specs.Spot.{spot_of};
-ghost use Rattle.mgn_params.specs.Stages.{charges_of, left_by, stages_of};
-ghost use Rattle.mgn_plain.specs.Kept.{kept_charge_of, leg_of, legs_row, month_net_share, month_start, total_of};
-ghost use Rattle.mgn_plain.specs.Parts.{AreDeltas, AreMinimums, AreNets, AreTotals};
+ghost use Rattle.std.specs.Prelude.{◌≡◌, ℕ, ◌*◌, ◌<◌, ◌≤◌, ◌^◌, ℤ, List, unsigned_abs, length, IfOk};
+ghost use Rattle.mgn_params.specs.Scan.{value_at};
+ghost use Rattle.mgn_plain.specs.Kept.{leg_of, total_of};
+ghost use Rattle.mgn_plain.specs.Parts.{AreCharges, AreChargesFrom, AreCredits, AreCreditsFrom, AreDeltas, AreMinimums, AreNetDeltas, AreNets, AreRisks, AreStarts, AreTotals};
 ghost use Rattle.mgn_plain.specs.Rests.{AreCreditNumbers};
 
 use crate::rows::filled;
@@ -33,9 +28,7 @@ pub(crate) fn total_rows(
 // The doubled price risks of the commodities.
 pub(crate) fn price_risks(alloc: Global, totals: &[[Cents; 16]]) -> Result<Vec<u128>, AllocError>
     requires small { (g s : ℕ) → g < length totals.now → s < 16 → unsigned_abs (total_of totals.now g s) ≤ 256 * 10 ^ 15 }
-    ensures one_each { IfOk result (λ risks. length risks.items ≡ length totals.now) }
-    ensures each { IfOk result (λ risks. (g : ℕ) → g < length totals.now →
-        slice_index risks.items g ≡ unsigned_abs (price_risk2 (total_of totals.now g))) }
+    ensures { IfOk result (λ risks. AreRisks totals.now risks.items) }
 {
     let mut risks = filled(alloc, totals.len(), 0)?;
     scan::fill_price_risks(&mut risks, totals);
@@ -65,10 +58,7 @@ pub(crate) fn start_rows(
 ) -> Result<Vec<[u128; 16]>, AllocError>
     requires one_each { length deltas.now ≡ length set.now.months }
     requires small { (m : ℕ) → m < length deltas.now → unsigned_abs (value_at deltas.now m) ≤ 10 ^ 16 }
-    ensures one_row_each { IfOk result (λ rows. length rows.items ≡ length set.now.commodities) }
-    ensures sixteen { IfOk result (λ rows. (g : ℕ) → g < length set.now.commodities → length (legs_row rows.items g) ≡ 16) }
-    ensures each { IfOk result (λ rows. (g leg : ℕ) → g < length set.now.commodities → leg < 16 →
-        leg_of rows.items g leg ≡ sum_below (month_start set.now.months deltas.now g leg) (length set.now.months)) }
+    ensures { IfOk result (λ rows. AreStarts set.now deltas.now rows.items) }
 {
     let mut rows = filled(alloc, set.commodity_count(), [0; 16])?;
     deltas::add_starts(&mut rows, set, deltas);
@@ -83,9 +73,7 @@ pub(crate) fn net_deltas(
 ) -> Result<Vec<Tenk>, AllocError>
     requires one_each { length deltas.now ≡ length set.now.months }
     requires small { (m : ℕ) → m < length deltas.now → unsigned_abs (value_at deltas.now m) ≤ 10 ^ 16 }
-    ensures one_each { IfOk result (λ row. length row.items ≡ length set.now.commodities) }
-    ensures each { IfOk result (λ row. (g : ℕ) → g < length set.now.commodities →
-        value_at row.items g ≡ signed_sum_below (month_net_share set.now.months deltas.now g) (length set.now.months)) }
+    ensures { IfOk result (λ row. AreNetDeltas set.now deltas.now row.items) }
 {
     let mut row = filled(alloc, set.commodity_count(), Tenk::ZERO)?;
     deltas::add_nets(&mut row, set, deltas);
@@ -107,13 +95,7 @@ pub(crate) fn charge_rows(
 ) -> Result<Charges, AllocError>
     requires one_row_each { length starts.now ≡ length set.now.commodities }
     requires small { (g k : ℕ) → g < length starts.now → k < 16 → leg_of starts.now g k ≤ 10 ^ 16 }
-    ensures intra { IfOk result (λ charges. (g : ℕ) → g < length set.now.commodities →
-        slice_index charges.intra.items g ≡ charges_of (legs_row starts.now g) (stages_of set.now.spreads g)) }
-    ensures intra_each { IfOk result (λ charges. length charges.intra.items ≡ length set.now.commodities) }
-    ensures spot { IfOk result (λ charges. (g : ℕ) → g < length set.now.commodities → slice_index charges.spot.items g
-        ≡ kept_charge_of (legs_row starts.now g) (left_by (legs_row starts.now g) (stages_of set.now.spreads g)) (spot_of set.now.spots g)) }
-    ensures spot_each { IfOk result (λ charges. length charges.spot.items ≡ length set.now.commodities) }
-    ensures small_spot { IfOk result (λ charges. (g : ℕ) → g < length set.now.commodities → slice_index charges.spot.items g ≤ 10 ^ 23) }
+    ensures { IfOk result (λ charges. AreChargesFrom set.now starts.now charges.intra.items charges.spot.items) }
 {
     set.limits();
     let mut left = Vec::from_slice(alloc, starts)?;
@@ -133,9 +115,7 @@ pub(crate) fn credit_row(
 ) -> Result<Vec<u128>, AllocError>
     requires one_each { length deltas.now ≡ length set.now.commodities }
     requires numbers { AreCreditNumbers deltas.now risks.now }
-    ensures credits { IfOk result (λ row. row.items ≡ credits_of deltas.now risks.now set.now.credits) }
-    ensures one_each { IfOk result (λ row. length row.items ≡ length set.now.commodities) }
-    ensures small { IfOk result (λ row. (g : ℕ) → slice_index row.items g ≤ 10 ^ 36) }
+    ensures { IfOk result (λ row. AreCreditsFrom set.now deltas.now risks.now row.items) }
 {
     set.limits();
     let mut rests = Vec::from_slice(alloc, deltas)?;
@@ -156,4 +136,38 @@ pub(crate) fn minimum_row(
     let mut row = filled(alloc, set.commodity_count(), 0)?;
     options::add_minimums(&mut row, set, nets);
     Ok(row)
+}
+
+// The charges by the deltas of the months.
+pub(crate) fn work_out_charges(
+    alloc: Global,
+    set: &ParamSet,
+    deltas: &[Tenk],
+) -> Result<Charges, AllocError>
+    requires nets { (nets : List ℤ) × AreDeltas set.now nets deltas.now }
+    requires small { (m : ℕ) → m < length deltas.now → unsigned_abs (value_at deltas.now m) ≤ 10 ^ 16 }
+    ensures { IfOk result (λ charges. (nets : List ℤ) → AreDeltas set.now nets deltas.now →
+        AreCharges set.now nets charges.intra.items charges.spot.items) }
+{
+    set.limits();
+    let starts = start_rows(alloc, set, deltas)?;
+    charge_rows(alloc, set, &starts)
+}
+
+// The credits by the deltas of the months and the totals of the scenarios.
+pub(crate) fn work_out_credits(
+    alloc: Global,
+    set: &ParamSet,
+    deltas: &[Tenk],
+    totals: &[[Cents; 16]],
+) -> Result<Vec<u128>, AllocError>
+    requires nets { (nets : List ℤ) × AreDeltas set.now nets deltas.now × AreTotals set.now nets totals.now }
+    requires small { (m : ℕ) → m < length deltas.now → unsigned_abs (value_at deltas.now m) ≤ 10 ^ 16 }
+    ensures { IfOk result (λ row. (nets : List ℤ) → AreDeltas set.now nets deltas.now → AreTotals set.now nets totals.now →
+        AreCredits set.now nets row.items) }
+{
+    set.limits();
+    let nets = net_deltas(alloc, set, deltas)?;
+    let risks = price_risks(alloc, totals)?;
+    credit_row(alloc, set, &nets, &risks)
 }

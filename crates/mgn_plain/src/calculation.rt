@@ -1,0 +1,68 @@
+ghost use Rattle.std.specs.Prelude.{◌≡◌, ℕ, ◌*◌, ◌<◌, ◌≤◌, ◌^◌, ℤ, pos, ◌+ℤ◌, ◌-ℤ◌, List, unsigned_abs, length, slice_index, All, IfOk};
+ghost use Rattle.std.specs.Int.{int_max};
+ghost use Rattle.mgn_num.specs.Signed.{signed_sum_below};
+ghost use Rattle.mgn_params.specs.Positions.{IsNet, positions};
+ghost use Rattle.mgn_params.specs.Requirement.{requirement, risk};
+ghost use Rattle.mgn_plain.specs.Figures.{commodity_figures};
+ghost use Rattle.mgn_plain.specs.Parts.{AreNets, AreParts};
+
+use crate::figures::CommodityFigures;
+use crate::options::option_value;
+use crate::parts::{minimum_row, month_deltas, total_rows, work_out_charges, work_out_credits};
+use crate::scan::{scan_figures, totals_row};
+use mgn_num::{Cents, Quantity};
+use mgn_params::{ParamSet, Work};
+use std::alloc::{AllocError, Global};
+
+// What the figures of the commodities are worked out from: rows with an entry for each commodity.
+#[derive(Drop)]
+struct Parts {
+    totals: Vec<[Cents; 16]>,
+    intra: Vec<u128>,
+    spot: Vec<u128>,
+    credits: Vec<u128>,
+    minimums: Vec<u128>,
+}
+
+// One pass over the contracts for each kind of row, then one over the months, the spreads and the commodities.
+fn work_out(
+    alloc: Global,
+    set: &ParamSet,
+    nets: &[Quantity],
+    work: &mut Work,
+) -> Result<Parts, AllocError>
+    requires { AreNets set.now nets.now }
+    ensures { IfOk result (λ p.
+        AreParts set.now nets.now p.totals.items p.intra.items p.spot.items p.credits.items p.minimums.items) }
+{
+    let totals = total_rows(alloc, set, nets, work)?;
+    let deltas = month_deltas(alloc, set, nets)?;
+    let charges = work_out_charges(alloc, set, &deltas)?;
+    let credits = work_out_credits(alloc, set, &deltas, &totals)?;
+    let minimums = minimum_row(alloc, set, nets)?;
+    Ok(Parts {
+        totals,
+        intra: charges.intra,
+        spot: charges.spot,
+        credits,
+        minimums,
+    })
+}
+
+// A number of a row of cents.
+fn cents_at(row: &[u128], commodity: usize) -> Cents
+    requires commodity { commodity < length row.now }
+    requires small { slice_index row.now commodity ≤ 10 ^ 36 }
+    ensures { result ≡ pos (slice_index row.now commodity) }
+{
+    Cents::new(row[commodity] as i128)
+}
+
+// Scan risk and charges less the credit, and at least the minimum.
+fn risk_of(scan: Cents, charges: Cents, credit: Cents, minimum: Cents) -> Cents
+    requires sum { unsigned_abs (scan +ℤ charges) ≤ 10 ^ 36 }
+    requires difference { unsigned_abs (scan +ℤ charges -ℤ credit) ≤ 10 ^ 36 }
+    ensures { result ≡ int_max (scan +ℤ charges -ℤ credit) minimum }
+{
+    scan.plus(charges).minus(credit).larger(minimum)
+}
