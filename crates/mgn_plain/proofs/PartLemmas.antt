@@ -1,6 +1,9 @@
 -- From the rows that loops fill to the words of the definitions.
 use Rattle.std.proofs.Common.{◌≡◌, ℕ, ◌+◌, ◌*◌, ◌<◌, ◌≤◌, ◌^◌, List, length, get_or, ⊎_elim, ap, ◌∙◌, sym, arith, refl, All, map, pos, ℤ, unsigned_abs}
-use Rattle.std.specs.Prelude.{slice_index, Result, Ok, Err, IfOk}
+use Rattle.std.specs.Int.{int_max}
+use Rattle.mgn_plain.specs.Figures.{commodity_figures}
+use Rattle.mgn_plain.specs.declared.figures.CommodityFigures.{CommodityFigures}
+use Rattle.std.specs.Prelude.{◌+ℤ◌, ◌-ℤ◌, slice_index, Result, Ok, Err, IfOk}
 use Rattle.std.specs.List.{range_with_len}
 use Rattle.std.proofs.lemmas.Bool.{cases_lt}
 use Rattle.std.proofs.lemmas.Int.{ints}
@@ -12,17 +15,17 @@ use Rattle.mgn_params.specs.Credits.{credits_of}
 use Rattle.mgn_params.specs.Deltas.{net_delta, start_of, starts_of}
 use Rattle.mgn_params.specs.Limits.{IsWithinLimits}
 use Rattle.mgn_params.specs.Positions.{Position, positions}
-use Rattle.mgn_params.specs.Requirement.{commodities_of, credits, intra_charge, price_risk2_of, spot_charge}
-use Rattle.mgn_params.specs.Scan.{price_risk2, scenario_total, value_at}
+use Rattle.mgn_params.specs.Requirement.{commodities_of, credit, credits, intra_charge, minimum, price_risk2_of, risk, scan_of, spot_charge}
+use Rattle.mgn_params.specs.Scan.{active, price_risk2, scan_risk, scenario_total, value_at}
 use Rattle.mgn_params.specs.Spot.{spot_charge_of, spot_of}
 use Rattle.mgn_params.specs.Stages.{charges_of, left_by, stages_of}
 use Rattle.mgn_params.specs.Tables.{Tables}
-use Rattle.mgn_plain.specs.Kept.{kept_charge_of, leg_of, legs_row, month_net_share, month_start, total_of}
-use Rattle.mgn_plain.specs.Parts.{AreCharges, AreChargesFrom, AreCredits, AreCreditsFrom, AreDeltas, AreNetDeltas, AreNets, AreRisks, AreStarts, AreTotals}
+use Rattle.mgn_plain.specs.Kept.{kept_charge_of, leg_of, legs_row, month_net_share, month_start, total_of, totals_of}
+use Rattle.mgn_plain.specs.Parts.{AreCharges, AreChargesFrom, AreCredits, AreCreditsFrom, AreDeltas, AreNetDeltas, AreNets, AreParts, AreRisks, AreStarts, AreTotals}
 use Rattle.mgn_plain.specs.Rests.{AreCreditNumbers}
 use Rattle.mgn_plain.proofs.DeltaLemmas.{net_is, net_small, start_is, start_small, starts_are}
 use Rattle.mgn_plain.proofs.PositionLemmas.{scenario_total_small}
-use Rattle.mgn_plain.proofs.ScanLemmas.{price_risk2_same, price_risk2_small}
+use Rattle.mgn_plain.proofs.ScanLemmas.{active_same, scan_risk_same, price_risk2_same, price_risk2_small}
 use Rattle.mgn_plain.proofs.StageLemmas.{charges_of-small, kept_charge_is, stages_of-are, stages_of-few}
 
 -- no kept total is large
@@ -89,3 +92,18 @@ credits_are t nets deltas row totals risks credited are totalled netted priced f
 pub if_ok_along : {T E : Type 0} → (r : Result T E) (P Q : T → Type 0) → ((x : T) → P x → Q x) → IfOk r P → IfOk r Q
 if_ok_along (Ok x) P Q along h = along x h
 if_ok_along (Err e) P Q along h = h
+
+-- the figures from the rows are those of the definitions
+pub figures_are : (t : Tables) (nets : List ℤ) (rows : List (List ℤ)) (row : List ℤ) (intra spot credited least : List ℕ) (g : ℕ) → (scan : ℤ) (a : ℕ) (x i s c m r : ℤ) → AreParts t nets rows intra spot credited least → g < length t.commodities → row ≡ totals_of rows g → scan ≡ scan_risk (value_at row) → a ≡ active (value_at row) → x ≡ price_risk2 (value_at row) → i ≡ pos (slice_index intra g) → s ≡ pos (slice_index spot g) → c ≡ pos (slice_index credited g) → m ≡ pos (slice_index least g) → r ≡ int_max (scan +ℤ i +ℤ s -ℤ c) m → let built : CommodityFigures = record { scan = scan; active = a; price_risk2 = x; intra = i; spot = s; credit = c; minimum = m; risk = r } in built ≡ commodity_figures t (positions t.contracts nets) g
+unfolding commodity_figures risk
+figures_are t nets rows row intra spot credited least g scan a x i s c m r are h read scanned acted priced charged spotted creditted lowest risked =
+    let held : List Position = positions t.contracts nets in
+    let same : (k : ℕ) → k < 16 → value_at row k ≡ scenario_total g held k = λ k p. ap (λ (xs : List ℤ). value_at xs k) read ∙ are.totals.each g k h p in
+    let scan_is : scan ≡ scan_of held g = scanned ∙ scan_risk_same (value_at row) (scenario_total g held) same in
+    let active_is : a ≡ active (scenario_total g held) = acted ∙ active_same (value_at row) (scenario_total g held) same in
+    let price_is : x ≡ price_risk2 (scenario_total g held) = priced ∙ price_risk2_same (value_at row) (scenario_total g held) same in
+    let intra_is : i ≡ pos (intra_charge t held g) = charged ∙ ap pos (are.charges.intra_is g h) in
+    let spot_is : s ≡ pos (spot_charge t held g) = spotted ∙ ap pos (are.charges.spot_is g h) in
+    let credit_is : c ≡ pos (credit t held g) = creditted ∙ ap (λ (xs : List ℕ). pos (slice_index xs g)) are.credits.is in
+    let minimum_is : m ≡ pos (minimum t held g) = lowest ∙ ap pos (are.minimums.each g h) in
+    rw (risked, scan_is, active_is, price_is, intra_is, spot_is, credit_is, minimum_is) refl

@@ -62,7 +62,7 @@ pub record AreChargesFrom (set : Tables) (starts : List (List ℕ)) (intra spot 
 pub record AreCreditsFrom (set : Tables) (deltas : List ℤ) (risks row : List ℕ) : Type 0 where
   pub is : row ≡ credits_of deltas risks set.credits
   pub one_each : length row ≡ length set.commodities
-  pub small : (g : ℕ) → slice_index row g ≤ 10 ^ 36
+  pub small : (g : ℕ) → slice_index row g ≤ 256 * 10 ^ 33
 
 -- what spreading and spot months charge each commodity
 pub record AreCharges (set : Tables) (nets : List ℤ) (intra spot : List ℕ) : Type 0 where
@@ -77,7 +77,7 @@ pub record AreCharges (set : Tables) (nets : List ℤ) (intra spot : List ℕ) :
 pub record AreCredits (set : Tables) (nets : List ℤ) (row : List ℕ) : Type 0 where
   pub is : row ≡ credits set (positions set.contracts nets)
   pub one_each : length row ≡ length set.commodities
-  pub small : (g : ℕ) → slice_index row g ≤ 10 ^ 36
+  pub small : (g : ℕ) → slice_index row g ≤ 256 * 10 ^ 33
 
 -- all rows that the figures of the commodities are worked out from
 pub record AreParts (set : Tables) (nets : List ℤ) (rows : List (List ℤ)) (intra spot credited least : List ℕ) : Type 0 where

@@ -1,4 +1,4 @@
-ghost use Rattle.std.specs.Prelude.{◌≡◌, ℕ, ◌*◌, ◌<◌, ◌≤◌, ◌^◌, ℤ, pos, ◌+ℤ◌, ◌-ℤ◌, List, unsigned_abs, length, slice_index, All, IfOk};
+ghost use Rattle.std.specs.Prelude.{◌≡◌, ℕ, ◌*◌, ◌<◌, ◌≤◌, ◌^◌, ℤ, pos, ◌+ℤ◌, ◌-ℤ◌, ◌≤ℤ◌, List, unsigned_abs, length, slice_index, All, IfOk};
 ghost use Rattle.std.specs.Int.{int_max};
 ghost use Rattle.mgn_num.specs.Signed.{signed_sum_below};
 ghost use Rattle.mgn_params.specs.Positions.{IsNet, positions};
@@ -59,10 +59,45 @@ fn cents_at(row: &[u128], commodity: usize) -> Cents
 }
 
 // Scan risk and charges less the credit, and at least the minimum.
-fn risk_of(scan: Cents, charges: Cents, credit: Cents, minimum: Cents) -> Cents
-    requires sum { unsigned_abs (scan +ℤ charges) ≤ 10 ^ 36 }
-    requires difference { unsigned_abs (scan +ℤ charges -ℤ credit) ≤ 10 ^ 36 }
-    ensures { result ≡ int_max (scan +ℤ charges -ℤ credit) minimum }
+fn risk_of(scan: Cents, intra: Cents, spot: Cents, credit: Cents, minimum: Cents) -> Cents
+    requires scan { unsigned_abs scan ≤ 256 * 10 ^ 15 }
+    requires intra { unsigned_abs intra ≤ 64 * 10 ^ 25 }
+    requires spot { unsigned_abs spot ≤ 10 ^ 23 }
+    requires credit { unsigned_abs credit ≤ 256 * 10 ^ 33 }
+    requires a_credit { pos 0 ≤ℤ credit }
+    requires minimum { unsigned_abs minimum ≤ 10 ^ 20 }
+    requires a_minimum { pos 0 ≤ℤ minimum }
+    ensures risk { result ≡ int_max (scan +ℤ intra +ℤ spot -ℤ credit) minimum }
+    ensures small { unsigned_abs result ≤ 10 ^ 27 }
 {
-    scan.plus(charges).minus(credit).larger(minimum)
+    let spread = scan.plus(intra).plus(spot).minus(credit);
+    spread.larger(minimum)
+}
+
+#[tactic(auto, using(crate::proofs::PartLemmas::total_small))]
+// The figures of a commodity.
+fn figures_of(set: &ParamSet, parts: &Parts, commodity: usize) -> CommodityFigures
+    requires parts { (nets : List ℤ) × AreParts set.now nets parts.now.totals.items parts.now.intra.items parts.now.spot.items parts.now.credits.items parts.now.minimums.items }
+    requires commodity { commodity < length set.now.commodities }
+    ensures figures { (nets : List ℤ) →
+        AreParts set.now nets parts.now.totals.items parts.now.intra.items parts.now.spot.items parts.now.credits.items parts.now.minimums.items →
+        result ≡ commodity_figures set.now (positions set.now.contracts nets) commodity }
+    ensures small { unsigned_abs result.risk ≤ 10 ^ 27 }
+{
+    set.limits();
+    let scan = scan_figures(totals_row(&parts.totals, commodity));
+    let intra = cents_at(&parts.intra, commodity);
+    let spot = cents_at(&parts.spot, commodity);
+    let credit = cents_at(&parts.credits, commodity);
+    let minimum = cents_at(&parts.minimums, commodity);
+    CommodityFigures {
+        scan: scan.scan,
+        active: scan.active,
+        price_risk2: scan.price_risk2,
+        intra,
+        spot,
+        credit,
+        minimum,
+        risk: risk_of(scan.scan, intra, spot, credit, minimum),
+    }
 }

@@ -183,7 +183,7 @@ pub(crate) fn add_credits(
     requires credits { credits.old ≡ replicate (length deltas.now) 0 }
     ensures credits { credits.new ≡ credits_of deltas.now risks.now spreads.now }
     ensures one_each { length credits.new ≡ length deltas.now }
-    ensures small { (g : ℕ) → slice_index credits.new g ≤ 10 ^ 36 }
+    ensures small { (g : ℕ) → slice_index credits.new g ≤ 256 * 10 ^ 33 }
 {
     for spread in spreads {
         form_spread(deltas, risks, rests, credits, spread);
