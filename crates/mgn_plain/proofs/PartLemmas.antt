@@ -107,3 +107,8 @@ figures_are t nets rows row intra spot credited least g scan a x i s c m r are h
     let credit_is : c ≡ pos (credit t held g) = creditted ∙ ap (λ (xs : List ℕ). pos (slice_index xs g)) are.credits.is in
     let minimum_is : m ≡ pos (minimum t held g) = lowest ∙ ap pos (are.minimums.each g h) in
     rw (risked, scan_is, active_is, price_is, intra_is, spot_is, credit_is, minimum_is) refl
+
+-- the risk among the figures of a commodity
+pub risk_is : (t : Tables) (held : List Position) (g : ℕ) → (commodity_figures t held g).risk ≡ risk t held g
+unfolding commodity_figures
+risk_is t held g = refl

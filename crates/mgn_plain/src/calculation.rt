@@ -101,3 +101,51 @@ fn figures_of(set: &ParamSet, parts: &Parts, commodity: usize) -> CommodityFigur
         risk: risk_of(scan.scan, intra, spot, credit, minimum),
     }
 }
+
+#[tactic(auto, using(mgn_num::proofs::SignedLemmas::signed_sum_below_more, crate::proofs::PartLemmas::risk_is))]
+// The sum of the commodities' risks.
+fn sum_of_risks(set: &ParamSet, parts: &Parts) -> Cents
+    requires { (nets : List ℤ) × AreParts set.now nets parts.now.totals.items parts.now.intra.items parts.now.spot.items parts.now.credits.items parts.now.minimums.items }
+    ensures sum { (nets : List ℤ) →
+        AreParts set.now nets parts.now.totals.items parts.now.intra.items parts.now.spot.items parts.now.credits.items parts.now.minimums.items →
+        result ≡ signed_sum_below (risk set.now (positions set.now.contracts nets)) (length set.now.commodities) }
+    ensures small { unsigned_abs result ≤ 256 * 10 ^ 27 }
+{
+    let mut total = Cents::ZERO;
+    for g in 0..set.commodity_count() {
+        total = total.plus(figures_of(set, parts, g).risk);
+    }
+    total
+}
+
+#[tactic(auto, unfolding(mgn_params::specs::Requirement::requirement))]
+// The sum of the risks less the net option value, or 0 where that is negative.
+fn requirement_of(set: &ParamSet, nets: &[Quantity], parts: &Parts) -> Cents
+    requires nets { AreNets set.now nets.now }
+    requires parts { AreParts set.now nets.now parts.now.totals.items parts.now.intra.items parts.now.spot.items parts.now.credits.items parts.now.minimums.items }
+    ensures requirement { result ≡ requirement set.now nets.now }
+    ensures small { unsigned_abs result ≤ 10 ^ 30 }
+{
+    let risks = sum_of_risks(set, parts);
+    risks.minus(option_value(set, nets)).or_zero()
+}
+
+/// What the nets require under the set, in whole cents, worked out anew: one net for each contract of the set in file
+/// order, each at most 10,000,000 in size.
+///
+/// It is 0 to 10^30. An error says that memory was refused, and nothing else fails. Each array of a contract with a
+/// net other than 0 is read once and counted in `work`.
+pub fn requirement(
+    alloc: Global,
+    set: &ParamSet,
+    nets: &[Quantity],
+    work: &mut Work,
+) -> Result<Cents, AllocError>
+    requires one_each { length nets.now ≡ length set.now.contracts }
+    requires nets { All IsNet nets.now }
+    ensures ok { IfOk result (λ r. r ≡ requirement set.now nets.now) }
+    ensures small { IfOk result (λ r. unsigned_abs r ≤ 10 ^ 30) }
+{
+    let parts = work_out(alloc, set, nets, work)?;
+    Ok(requirement_of(set, nets, &parts))
+}

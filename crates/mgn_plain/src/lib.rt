@@ -12,4 +12,5 @@ mod scan;
 mod spot;
 mod stages;
 
+pub use calculation::requirement;
 pub use figures::CommodityFigures;

@@ -16,4 +16,3 @@ returns-clause-figures c =
     (c.cents_at-credit.ensures ∙ ap (λ (row : List ℕ). pos (slice_index row c.args.commodity)) c.deref-4.ensures.value)
     (c.cents_at-minimum.ensures ∙ ap (λ (row : List ℕ). pos (slice_index row c.args.commodity)) c.deref-5.ensures.value)
     c.risk_of.ensures.risk
-

@@ -6,7 +6,7 @@ use Rattle.mgn_plain.proofs.parts.work_out_credits.Goals as goal
 
 pub price_risks-requires : goal.price_risks-requires
 price_risks-requires c = record {
-  small = λ g s h k. total_small c.args.set.now c.requires.nets.0 c.args.totals.now g s c.limits.ensures c.requires.nets.2 (omega (arith, c.requires.nets.2)) k
+  small = λ g s h k. total_small c.args.set.now c.requires.nets.0 c.args.totals.now g s c.limits.ensures c.requires.nets.2 (omega (arith, c.requires.nets.2)) k;
 }
 
 pub credit_row-requires-clause-numbers : goal.credit_row-requires-clause-numbers
