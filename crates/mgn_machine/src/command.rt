@@ -1,5 +1,6 @@
-use mgn_ids::{AccountName, ClassName, ContractName, LotId, OriginName};
-use mgn_num::Quantity;
+use mgn_ids::{
+    AccountName, ClassName, ContractName, LotId, LotQuantity, OriginName, Premium, Units,
+};
 
 /// How an origin is margined.
 #[derive(Clone, Copy, PartialEq, Eq, Debug)]
@@ -17,10 +18,12 @@ pub enum Command {
     NewOrigin(OriginName, Mode),
     /// `OPEN`: an account in an origin.
     NewAccount(AccountName, OriginName),
-    /// `TRADE`: a lot of an account, with the premium for each contract in cents (0 to 10^8).
-    Trade(AccountName, LotId, ContractName, Quantity, u32),
-    /// `POST`: units of a collateral class, or cents where the class is CASH (1 to 10^15).
-    Post(AccountName, ClassName, u64),
+    /// `TRADE`: a lot of an account, with the premium for each contract.
+    Trade(AccountName, LotId, ContractName, LotQuantity, Premium),
+    /// `POST`: units of a collateral class, or cents where the class is CASH.
+    Post(AccountName, ClassName, Units),
     /// `ASK`: the figures of the account's margin unit.
     Ask(AccountName),
+    /// `END`: the day is over, and the book changes no more.
+    EndDay,
 }

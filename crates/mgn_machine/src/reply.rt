@@ -25,6 +25,8 @@ pub enum Refusal {
     Limit,
     /// The premium does not fit the contract.
     Premium,
+    /// The day is over.
+    Closed,
     /// Memory could not be had. Nothing has changed.
     Memory,
     /// The history is full.

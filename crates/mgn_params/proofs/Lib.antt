@@ -1,3 +1,8 @@
 -- Laws of the definitions.
 pub mod Rows
 pub mod LimitsLemmas
+pub mod FlatLemmas
+pub mod PositionLemmas
+pub mod ActiveLemmas
+pub mod StageLemmas
+pub mod NameLemmas

@@ -8,6 +8,7 @@ use crate::work::Work;
 use mgn_ids::{ClassName, CommodityName, ContractName, Places, SetName};
 use std::marker::Model;
 
+mod copies;
 mod growth;
 
 /// A parameter set. Contracts see its tables, each in file order.

@@ -1,0 +1,15 @@
+-- The units of a class stay within their limit where one amount is written.
+use Rattle.std.proofs.Common.{◌≡◌, ℕ, ◌≤◌, ◌^◌, List, refl, true, false, Bool, Some, cond}
+use Rattle.std.specs.Map.{lookup}
+use Rattle.std.specs.Option.{unwrap_or}
+use Rattle.std.specs.Str.{bytes_eq}
+use Rattle.mgn_coll.specs.Posted.{units_of}
+
+pub units-written : (old new : List (List ℕ × ℕ)) (name : List ℕ) (amount : ℕ) → amount ≤ 10 ^ 9
+    → ((q : List ℕ) → lookup (bytes_eq q) new ≡ cond (bytes_eq name q) (Some amount) (lookup (bytes_eq q) old))
+    → ((q : List ℕ) → units_of q old ≤ 10 ^ 9) → (q : List ℕ) → units_of q new ≤ 10 ^ 9
+units-written old new name amount most written were q = rw (written q) (by (bytes_eq name q) refl)
+  where
+    by : (b : Bool) → bytes_eq name q ≡ b → unwrap_or (cond (bytes_eq name q) (Some amount) (lookup (bytes_eq q) old)) 0 ≤ 10 ^ 9
+    by true e = rw e most
+    by false e = rw e (were q)

@@ -1,0 +1,103 @@
+-- What single lots count for, and what a change of one of them does to the net and the gross of a contract.
+use Rattle.std.proofs.Common.{◌≡◌, ℕ, zero, suc, ◌+◌, ◌*◌, ◌≤◌, ◌<◌, ◌^◌, List, [], ◌∷◌, ◌++◌, length, set, get_or, refl, ap, ◌∙◌, arith, true, false, Bool, All}
+use Rattle.std.specs.Prelude.{ℤ, pos, ◌+ℤ◌, unsigned_abs}
+use Rattle.std.specs.Str.{bytes_eq}
+use Rattle.std.specs.List.{sum_by}
+use Rattle.std.proofs.lemmas.Int.{ints}
+use Rattle.std.proofs.lemmas.List.Sums.{fold-append, sum_by-cons, sum_by_push, sum_by-set, sum_by-le}
+use Rattle.std.proofs.lemmas.Slice.Eq.{bytes_eq-Decides}
+use Rattle.mgn_num.specs.Signed.{signed_sum_by}
+use Rattle.mgn_num.proofs.SignedLemmas.{signed_sum_by-cons, signed_sum_by-set}
+use Rattle.mgn_lots.specs.declared.lot.Lot.{Lot}
+use Rattle.mgn_lots.specs.Lots.{IsLot, is_live, live_quantity, lot_share, net, gross, busted}
+
+-- sums
+
+-- one item more
+pub signed_sum_by-push : {X : Type 0} (f : X → ℤ) → (xs : List X) (y : X) → signed_sum_by f (xs ++ y ∷ []) ≡ signed_sum_by f xs +ℤ f y
+signed_sum_by-push f xs y = fold-append (λ total x. total +ℤ f x) (pos 0) xs (y ∷ [])
+
+-- a sum is no larger than the sum of the sizes
+pub size-signed_sum_by : {X : Type 0} (f : X → ℤ) → (xs : List X) → unsigned_abs (signed_sum_by f xs) ≤ sum_by (λ x. unsigned_abs (f x)) xs
+size-signed_sum_by f [] = omega arith
+size-signed_sum_by f (x ∷ xs) =
+    omega (arith, ints, signed_sum_by-cons f x xs, sum_by-cons (λ x. unsigned_abs (f x)) x xs, size-signed_sum_by f xs)
+
+-- an item is no larger than the sum of all
+pub item-le-sum_by : {X : Type 0} (f : X → ℕ) → (xs : List X) (i : ℕ) (d : X) → i < length xs → f (get_or xs i d) ≤ sum_by f xs
+item-le-sum_by f [] i d inside = absurd (omega arith)
+item-le-sum_by f (x ∷ xs) zero d inside = omega (arith, sum_by-cons f x xs)
+item-le-sum_by f (x ∷ xs) (suc i) d inside = omega (arith, sum_by-cons f x xs, item-le-sum_by f xs i d (omega arith))
+
+-- one lot
+
+-- bytes are the same as themselves
+pub bytes_eq-same : (xs : List ℕ) → bytes_eq xs xs ≡ true
+bytes_eq-same xs = (bytes_eq-Decides xs xs).1 refl
+
+pub live_quantity-le : (x : Lot) → unsigned_abs (live_quantity x) ≤ unsigned_abs x.quantity
+live_quantity-le x = by (is_live x.mark) refl
+  where
+    by : (b : Bool) → is_live x.mark ≡ b → unsigned_abs (live_quantity x) ≤ unsigned_abs x.quantity
+    by true e = rw e (omega arith)
+    by false e = rw e (omega arith)
+
+pub lot_share-le : (contract : List ℕ) (x : Lot) → unsigned_abs (lot_share contract x) ≤ unsigned_abs x.quantity
+lot_share-le contract x = by (bytes_eq x.contract contract) refl
+  where
+    by : (b : Bool) → bytes_eq x.contract contract ≡ b → unsigned_abs (lot_share contract x) ≤ unsigned_abs x.quantity
+    by true e = rw e (live_quantity-le x)
+    by false e = rw e (omega arith)
+
+pub lot_share-own : (x : Lot) → lot_share x.contract x ≡ live_quantity x
+lot_share-own x = rw (bytes_eq-same x.contract) refl
+
+pub lot_share-other : (contract : List ℕ) (x : Lot) → bytes_eq x.contract contract ≡ false → lot_share contract x ≡ pos 0
+lot_share-other contract x other = rw other refl
+
+pub lot_share-busted : (contract : List ℕ) (x : Lot) → lot_share contract (busted x) ≡ pos 0
+lot_share-busted contract x = by (bytes_eq x.contract contract) refl
+  where
+    by : (b : Bool) → bytes_eq x.contract contract ≡ b → lot_share contract (busted x) ≡ pos 0
+    by true e = rw e refl
+    by false e = rw e refl
+
+-- the lots
+
+-- the net of a contract is no larger than its gross
+pub net-le-gross : (contract : List ℕ) (lots : List Lot) → unsigned_abs (net contract lots) ≤ gross contract lots
+net-le-gross contract lots = size-signed_sum_by (lot_share contract) lots
+
+pub gross-le : (contract : List ℕ) (lots : List Lot) → All IsLot lots → gross contract lots ≤ length lots * 10 ^ 6
+gross-le contract lots limits =
+    sum_by-le (λ (x : Lot). unsigned_abs (lot_share contract x)) (10 ^ 6) lots (λ i d inside. omega (arith, lot_share-le contract (get_or lots i d), (limits i d inside).most))
+
+-- a lot more
+pub net-push : (contract : List ℕ) (lots : List Lot) (x : Lot) → net contract (lots ++ x ∷ []) ≡ net contract lots +ℤ lot_share contract x
+net-push contract lots x = signed_sum_by-push (lot_share contract) lots x
+
+pub gross-push : (contract : List ℕ) (lots : List Lot) (x : Lot) → gross contract (lots ++ x ∷ []) ≡ gross contract lots + unsigned_abs (lot_share contract x)
+gross-push contract lots x = sum_by_push (λ (x : Lot). unsigned_abs (lot_share contract x)) lots x
+
+-- a lot that is busted
+pub net-busted : (contract : List ℕ) (lots : List Lot) (i : ℕ) (x : Lot) → i < length lots → x ≡ get_or lots i x → net contract (set lots i (busted x)) +ℤ lot_share contract x ≡ net contract lots
+net-busted contract lots i x inside is =
+    let moved : net contract (set lots i (busted x)) +ℤ lot_share contract (get_or lots i x) ≡ net contract lots +ℤ lot_share contract (busted x) =
+    signed_sum_by-set (lot_share contract) lots i (busted x) x inside
+    in
+    omega (arith, ints, moved, ap (lot_share contract) is, lot_share-busted contract x)
+
+pub gross-busted : (contract : List ℕ) (lots : List Lot) (i : ℕ) (x : Lot) → i < length lots → x ≡ get_or lots i x
+    → gross contract (set lots i (busted x)) + unsigned_abs (lot_share contract x) ≡ gross contract lots
+gross-busted contract lots i x inside is =
+    let size : Lot → ℕ = λ x. unsigned_abs (lot_share contract x) in
+    let moved : gross contract (set lots i (busted x)) + unsigned_abs (lot_share contract (get_or lots i x)) ≡ gross contract lots + unsigned_abs (lot_share contract (busted x)) =
+    sum_by-set size lots i (busted x) x inside
+    in
+    omega (arith, moved, ap size is, ap unsigned_abs (lot_share-busted contract x))
+
+pub gross-holds : (lots : List Lot) (i : ℕ) (x : Lot) → i < length lots → x ≡ get_or lots i x → is_live x.mark ≡ true → unsigned_abs x.quantity ≤ gross x.contract lots
+gross-holds lots i x inside is live =
+    let size : Lot → ℕ = λ y. unsigned_abs (lot_share x.contract y) in
+    let own : lot_share x.contract x ≡ x.quantity = lot_share-own x ∙ (rw live refl) in
+    omega (arith, item-le-sum_by size lots i x inside, ap size is, ap unsigned_abs own)

@@ -1,0 +1,4 @@
+pub mod Lots
+pub mod LotList
+pub mod Refusals
+pub mod Positions

@@ -1,0 +1,27 @@
+use mgn_ids::{ContractName, LotId};
+use mgn_num::Quantity;
+
+/// How a lot came, and whether it still counts.
+#[derive(Clone, Copy, PartialEq, Eq, Debug)]
+pub enum Mark {
+    /// By a trade or a fill.
+    Traded,
+    /// By a transfer between accounts. Such a lot cannot be busted.
+    Moved,
+    /// It was a traded lot and was taken back. It counts for nothing, but its number stays taken.
+    Busted,
+}
+
+/// A quantity of one contract that was entered at one premium.
+#[derive(Clone, Copy)]
+pub struct Lot {
+    /// Its number, used once in an account.
+    pub number: LotId,
+    /// The contract by its name, since a later set of parameters may number its contracts otherwise.
+    pub contract: ContractName,
+    /// 1 to 1,000,000 contracts in size, above 0 bought and below 0 sold.
+    pub quantity: Quantity,
+    /// Cents for each contract, 0 to 10^8.
+    pub premium: u32,
+    pub mark: Mark,
+}

@@ -1,0 +1,6 @@
+use Rattle.std.proofs.Common.{◌≡◌, take}
+use Rattle.mgn_params.specs.Limits.{commodity_names}
+use Rattle.mgn_params.proofs.set.copies.places_of_commodities.Given as goal
+
+abbrev pub invariant-loop-row : goal.invariant-loop-row
+invariant-loop-row l = l.places ≡ commodity_names (take l.row-index l.commodities)

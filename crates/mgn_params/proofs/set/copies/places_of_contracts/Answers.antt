@@ -1,0 +1,9 @@
+use Rattle.std.proofs.Common.{arith}
+use Rattle.mgn_params.specs.declared.tables.Contract.{Contract}
+use Rattle.mgn_params.proofs.NameLemmas.{new_at}
+use Rattle.mgn_params.proofs.set.copies.places_of_contracts.Goals as goal
+
+pub push-requires : goal.push-requires
+push-requires c =
+    let new = new_at (λ (x : Contract). x.name) c.args.contracts.now c.loop-row.row-index c.row-item.result (omega arith) c.requires in
+    rw c.loop-row.invariant (rw (← c.row-item.is) at new)

@@ -1,0 +1,6 @@
+use Rattle.std.proofs.Common.{◌≡◌, take}
+use Rattle.mgn_params.specs.Limits.{contract_names}
+use Rattle.mgn_params.proofs.set.copies.places_of_contracts.Given as goal
+
+abbrev pub invariant-loop-row : goal.invariant-loop-row
+invariant-loop-row l = l.places ≡ contract_names (take l.row-index l.contracts)

@@ -1,0 +1,4 @@
+-- What the contracts of lines and replies cite.
+pub mod Word
+pub mod Line
+pub mod Text

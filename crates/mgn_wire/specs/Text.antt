@@ -1,0 +1,45 @@
+-- The text of an answer (own format).
+use Rattle.std.specs.Prelude.{ℕ, ℤ, List, [], ◌++◌, Option, Some, None, codes}
+use Rattle.std.specs.Fmt.{decimal, signed_decimal}
+use Rattle.mgn_machine.specs.declared.reply.Refusal.{Refusal}
+use Rattle.mgn_machine.specs.declared.reply.Refusal.TheVariants.{Syntax, Long, Range, NoAccount, NoOrigin, Duplicate, NoContract, NoClass, Limit, Premium, Memory, Full}
+use Rattle.mgn_machine.specs.declared.reply.Figures.{Figures}
+use Rattle.mgn_machine.specs.declared.reply.Reply.{Reply}
+use Rattle.mgn_machine.specs.declared.reply.Reply.TheVariants as reply
+use Rattle.mgn_machine.specs.declared.reply.Answer.{Answer}
+
+-- each refusal with its code and its name
+abbrev pub refusal_text : Refusal → List ℕ
+refusal_text Syntax = codes "10 SYNTAX"
+refusal_text Long = codes "11 LONG"
+refusal_text Range = codes "12 RANGE"
+refusal_text NoAccount = codes "20 NOACCT"
+refusal_text NoOrigin = codes "21 NOORIGIN"
+refusal_text Duplicate = codes "22 DUP"
+refusal_text NoContract = codes "23 NOCONTRACT"
+refusal_text NoClass = codes "26 NOCLASS"
+refusal_text Limit = codes "31 LIMIT"
+refusal_text Premium = codes "32 PREMIUM"
+refusal_text Memory = codes "90 MEMORY"
+refusal_text Full = codes "91 FULL"
+
+-- a number of cents after a space
+abbrev pub field : ℤ → List ℕ
+field cents = codes " " ++ signed_decimal cents
+
+abbrev pub figures_text : Figures → List ℕ
+figures_text f = field f.requirement ++ field f.exposure_requirement ++ field f.value ++ field f.exposure_value ++ field f.room
+
+-- the place, where there is one, after the word that tells whether the command is done
+abbrev pub place_text : Option ℕ → List ℕ
+place_text None = []
+place_text (Some place) = codes " " ++ decimal place
+
+abbrev pub reply_of : Option ℕ → Reply → List ℕ
+reply_of place reply.Done = codes "OK" ++ place_text place
+reply_of place (reply.Figures figures) = codes "OK" ++ place_text place ++ figures_text figures
+reply_of place (reply.Refused refusal) = codes "ERR" ++ place_text place ++ codes " " ++ refusal_text refusal
+
+-- the text of an answer, a line
+unfoldable pub text_of : Answer → List ℕ
+text_of answer = reply_of answer.place answer.reply ++ codes "\n"

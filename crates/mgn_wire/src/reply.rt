@@ -1,0 +1,143 @@
+ghost use Rattle.std.specs.Prelude.{◌≡◌, ◌++◌, OnOk, OnErr, codes};
+ghost use Rattle.mgn_wire.specs.Text.{text_of, refusal_text, field, figures_text, place_text, reply_of};
+
+use crate::fault::Memory;
+use itoa::Buffer;
+use mgn_machine::{Answer, Figures, Refusal, Reply};
+use mgn_num::Cents;
+use std::alloc::AllocError;
+
+fn refusal_text(refusal: Refusal) -> &'static str
+    ensures { result.now ≡ refusal_text refusal }
+{
+    match refusal {
+        Refusal::Syntax => "10 SYNTAX",
+        Refusal::Long => "11 LONG",
+        Refusal::Range => "12 RANGE",
+        Refusal::NoAccount => "20 NOACCT",
+        Refusal::NoOrigin => "21 NOORIGIN",
+        Refusal::Duplicate => "22 DUP",
+        Refusal::NoContract => "23 NOCONTRACT",
+        Refusal::NoClass => "26 NOCLASS",
+        Refusal::Limit => "31 LIMIT",
+        Refusal::Premium => "32 PREMIUM",
+        Refusal::Memory => "90 MEMORY",
+        Refusal::Full => "91 FULL",
+    }
+}
+
+fn print(text: &str, out: &mut Vec<u8>) -> Result<(), AllocError>
+    ensures { OnOk result (out.new.items ≡ out.old.items ++ text.now) }
+{
+    out.extend_from_slice(text.as_bytes())
+}
+
+fn print_place(place: Option<u64>, out: &mut Vec<u8>) -> Result<(), AllocError>
+    ensures { OnOk result (out.new.items ≡ out.old.items ++ place_text place) }
+{
+    let Some(place) = place else {
+        return Ok(());
+    };
+    print(" ", out)?;
+    print(Buffer::new().format(place), out)
+}
+
+fn print_field(cents: Cents, out: &mut Vec<u8>) -> Result<(), AllocError>
+    ensures { OnOk result (out.new.items ≡ out.old.items ++ field cents) }
+{
+    print(" ", out)?;
+    cents.print(out)
+}
+
+fn print_figures(figures: &Figures, out: &mut Vec<u8>) -> Result<(), AllocError>
+    ensures { OnOk result (out.new.items ≡ out.old.items ++ figures_text figures.now) }
+{
+    print_field(figures.requirement, out)?;
+    print_field(figures.exposure_requirement, out)?;
+    print_field(figures.value, out)?;
+    print_field(figures.exposure_value, out)?;
+    print_field(figures.room, out)
+}
+
+fn print_answer(answer: &Answer, out: &mut Vec<u8>) -> Result<(), AllocError>
+    ensures { OnOk result (out.new.items ≡ out.old.items ++ reply_of answer.now.place answer.now.reply) }
+{
+    match &answer.reply {
+        Reply::Done => {
+            print("OK", out)?;
+            print_place(answer.place, out)
+        }
+        Reply::Figures(figures) => {
+            print("OK", out)?;
+            print_place(answer.place, out)?;
+            print_figures(figures, out)
+        }
+        Reply::Refused(refusal) => {
+            print("ERR", out)?;
+            print_place(answer.place, out)?;
+            print(" ", out)?;
+            print(refusal_text(*refusal), out)
+        }
+    }
+}
+
+/// Appends the text of an answer, a line with its line feed. On `Memory` the front of it may be there.
+#[tactic(auto, unfolding(crate::specs::Text::text_of))]
+pub fn reply_text(answer: &Answer, out: &mut Vec<u8>) -> Result<(), Memory>
+    ensures { OnOk result (out.new.items ≡ out.old.items ++ text_of answer.now) }
+{
+    print_answer(answer, out)?;
+    print("\n", out)?;
+    Ok(())
+}
+
+#[cfg(test)]
+mod tests {
+    use super::*;
+
+    fn figures(cents: [i64; 5]) -> Reply {
+        let [
+            requirement,
+            exposure_requirement,
+            value,
+            exposure_value,
+            room,
+        ] = cents;
+        Reply::Figures(Figures {
+            requirement: Cents::new(i128::from(requirement)),
+            exposure_requirement: Cents::new(i128::from(exposure_requirement)),
+            value: Cents::new(i128::from(value)),
+            exposure_value: Cents::new(i128::from(exposure_value)),
+            room: Cents::new(i128::from(room)),
+        })
+    }
+
+    #[test]
+    fn writes_replies(rt: HostRuntime) {
+        let refused = Answer::refused(Refusal::Syntax);
+        let cases = [
+            (Some(4), Reply::Done, "OK 4\n"),
+            (
+                Some(5),
+                figures([600, 600, 1000, 1000, 400]),
+                "OK 5 600 600 1000 1000 400\n",
+            ),
+            (
+                Some(6),
+                figures([140, 140, 0, 0, -140]),
+                "OK 6 140 140 0 0 -140\n",
+            ),
+            (
+                Some(1_000_000),
+                Reply::Refused(Refusal::NoAccount),
+                "ERR 1000000 20 NOACCT\n",
+            ),
+            (refused.place, refused.reply, "ERR 10 SYNTAX\n"),
+        ];
+        for (place, reply, text) in cases {
+            let mut out = Vec::new(rt.alloc());
+            assert!(rt; reply_text(&Answer { place, reply }, &mut out).is_ok());
+            assert!(rt; out.as_slice() == text.as_bytes(), "for {text}");
+        }
+    }
+}
