@@ -11,7 +11,7 @@ use Rattle.mgn_params.specs.Credits.{fits, leg_amount, formed}
 use Rattle.mgn_params.specs.Scan.{value_at}
 use Rattle.mgn_params.specs.Stages.{used}
 use Rattle.mgn_plain.specs.Rests.{AreCreditNumbers, AreRests, IsCreditable}
-use Rattle.mgn_plain.proofs.StageLemmas.{used-le-left}
+use Rattle.mgn_params.proofs.StageLemmas.{used_le_left}
 
 -- a leg that fits has a rest other than 0
 pub fits_size : (a_long : Bool) (rests : List ℤ) (leg : Leg) → fits a_long rests leg ≡ true → 0 < unsigned_abs (value_at rests leg.commodity)
@@ -36,7 +36,7 @@ legs_creditable deltas rests risks amount legs numbers are low ratios none_zero 
     let near = are.near leg.commodity in
     let some = none_zero k d inside in
     let small = numbers.small_deltas leg.commodity (pos 0) here in
-    let left = used-le-left amount (unsigned_abs (value_at rests leg.commodity)) leg.ratio (ratios k d inside) (least k d inside) in
+    let left = used_le_left amount (unsigned_abs (value_at rests leg.commodity)) leg.ratio (ratios k d inside) (least k d inside) in
     record {
       delta_there = here;
       risk_there = omega (arith, numbers.one_each);

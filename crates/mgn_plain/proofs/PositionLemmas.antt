@@ -1,4 +1,4 @@
--- How sums over the positions grow, position by position, and how large they are.
+-- How large sums over the positions are.
 use Rattle.std.proofs.Common.{◌≡◌, ◌≢◌, ℕ, zero, suc, ◌+◌, ◌*◌, ◌<◌, ◌≤◌, ◌^◌, List, [], ◌∷◌, length, take, get_or, pos, ℤ, ⊎_elim, ap, ◌∙◌, sym, arith, take_all, add-one, refl, eq-eqb, ne_eqb, unsigned_abs, All}
 use Rattle.std.specs.Prelude.{◌+ℤ◌, ◌*ℤ◌, ◌==◌, if◌then◌else◌}
 use Rattle.std.specs.List.{count_by, sum_by}
@@ -9,6 +9,7 @@ use Rattle.std.proofs.lemmas.List.Sums.{fold_more, count_by_more_yes, count_by_m
 use Rattle.std.proofs.lemmas.Slice.Zip.{get_or-zip, length-zip}
 use Rattle.mgn_num.specs.Signed.{signed_sum_by}
 use Rattle.mgn_num.proofs.SignedLemmas.{size-*ℤ-le}
+use Rattle.mgn_params.proofs.PositionLemmas.{position_sum_all, position_sum_more, value_at_small}
 use Rattle.mgn_params.specs.declared.tables.Contract.{Contract}
 use Rattle.mgn_params.specs.declared.tables.Month.{Month}
 use Rattle.mgn_params.specs.Deltas.{month_share}
@@ -17,34 +18,6 @@ use Rattle.mgn_params.specs.Positions.{Position, positions, IsNet}
 use Rattle.mgn_params.specs.Scan.{value_at, scenario_share, scenario_total}
 use Rattle.mgn_plain.specs.Parts.{AreNets}
 use Rattle.mgn_params.specs.Tables.{Tables, contract_at, no_contract}
-
--- one position more, whatever is counted
-pub position_sum_more : (f : Position → ℤ) (cs : List Contract) (ns : List ℤ) (i : ℕ) → i < length cs → length ns ≡ length cs → signed_sum_by f (take (i + 1) (positions cs ns)) ≡ signed_sum_by f (take i (positions cs ns)) +ℤ f (contract_at cs i, value_at ns i)
-position_sum_more f cs ns i h e =
-    let inside : i < length ns = omega arith in
-    let within : i < length (positions cs ns) = omega (arith, length-zip cs ns) in
-    fold_more (λ (total : ℤ) (p : Position). total +ℤ f p) (pos 0) (positions cs ns) i (no_contract, pos 0) within ∙ ap (λ (p : Position). signed_sum_by f (take i (positions cs ns)) +ℤ f p) (get_or-zip cs ns i (no_contract, pos 0) h inside)
-
--- all positions
-pub position_sum_all : (f : Position → ℤ) (cs : List Contract) (ns : List ℤ) (i : ℕ) → length cs ≤ i → length ns ≡ length cs → signed_sum_by f (take i (positions cs ns)) ≡ signed_sum_by f (positions cs ns)
-position_sum_all f cs ns i h e =
-    ap (λ (ps : List Position). signed_sum_by f ps) (take_all i (positions cs ns) (omega (arith, length-zip cs ns)))
-
--- the same for unsigned counts
-pub position_count_more : (f : Position → ℕ) (cs : List Contract) (ns : List ℤ) (i : ℕ) → i < length cs → length ns ≡ length cs → sum_by f (take (i + 1) (positions cs ns)) ≡ sum_by f (take i (positions cs ns)) + f (contract_at cs i, value_at ns i)
-position_count_more f cs ns i h e =
-    let inside : i < length ns = omega arith in
-    let within : i < length (positions cs ns) = omega (arith, length-zip cs ns) in
-    fold_more (λ (total : ℕ) (p : Position). total + f p) 0 (positions cs ns) i (no_contract, pos 0) within ∙ ap (λ (p : Position). sum_by f (take i (positions cs ns)) + f p) (get_or-zip cs ns i (no_contract, pos 0) h inside)
-
-pub position_count_all : (f : Position → ℕ) (cs : List Contract) (ns : List ℤ) (i : ℕ) → length cs ≤ i → length ns ≡ length cs → sum_by f (take i (positions cs ns)) ≡ sum_by f (positions cs ns)
-position_count_all f cs ns i h e =
-    ap (λ (ps : List Position). sum_by f ps) (take_all i (positions cs ns) (omega (arith, length-zip cs ns)))
-
--- each value of an array of small numbers is small
-pub value_at_small : (array : List ℤ) (m s : ℕ) → All (λ a. unsigned_abs a ≤ m) array → unsigned_abs (value_at array s) ≤ m
-value_at_small array m s h =
-    ⊎_elim (λ inside. h s (pos 0) inside) (λ past. rw (get_or_past array s (pos 0) past) (omega arith)) (cases_lt s (length array))
 
 -- a position counts for at most 10^15 in a scenario
 pub scenario_share_small : (commodities : ℕ) (months : List Month) (g s : ℕ) (c : Contract) (n : ℤ) → IsContract commodities months c → IsNet n → unsigned_abs (scenario_share g s (c, n)) ≤ 10 ^ 15

@@ -4,6 +4,7 @@ use Rattle.std.specs.Prelude.{◌≤ℤ◌, ◌<ℤ◌, ◌+ℤ◌, ◌-ℤ◌, 
 use Rattle.std.specs.Int.{int_max}
 use Rattle.std.proofs.lemmas.Bool.{cases_lt}
 use Rattle.std.proofs.lemmas.Int.{ints}
+use Rattle.mgn_params.proofs.ActiveLemmas.{pair_of_small}
 use Rattle.mgn_params.specs.Scan.{IsActive, lowest_largest, active, scan_risk, pair_of, price_risk2, price_risk2_at}
 
 lowest_largest-le : (t : ℕ → ℤ) (last : ℕ) → lowest_largest t last ≤ last
@@ -29,9 +30,6 @@ pub scan_risk_same : (t u : ℕ → ℤ) → ((s : ℕ) → s < 16 → t s ≡ u
 scan_risk_same t u same =
     ap (int_max (pos 0)) (same (active t) (active_small t) ∙ ap u (active_same t u same))
 
-pair_of_small : (s : ℕ) → s < 16 → pair_of s < 16
-pair_of_small s h = grind arith
-
 pub price_risk2_same : (t u : ℕ → ℤ) → ((s : ℕ) → s < 16 → t s ≡ u s) → price_risk2 t ≡ price_risk2 u
 price_risk2_same t u same =
     let a = active t in
@@ -49,25 +47,3 @@ price_risk2_small t most small =
     let three = small 0 (omega arith) in
     let four = small 1 (omega arith) in
     grind (arith, ints, one, two, three, four)
-
-lowest_largest_is : (t : ℕ → ℤ) (a last : ℕ) → IsActive t a → a ≤ last → last < 16 → lowest_largest t last ≡ a
-lowest_largest_is t a zero is low h = omega arith
-lowest_largest_is t a (suc last) is low h =
-    let best = lowest_largest t last in
-    let within : best ≤ last = lowest_largest-le t last in
-    ⊎_elim
-    (λ (earlier : a < suc last).
-    let was : best ≡ a = lowest_largest_is t a last is (omega arith) (omega arith) in
-    let most = is.largest (suc last) h in
-    rw was (grind (arith, ints, most)))
-    (λ (here : suc last ≤ a).
-    let same : a ≡ suc last = omega arith in
-    let more = is.lowest best (omega arith) in
-    let at = ap t same in
-    grind (arith, ints, more, at))
-    (cases_lt a (suc last))
-
--- the lowest of the 16 with the largest total is the active one
-pub active_is : (t : ℕ → ℤ) (a : ℕ) → IsActive t a → a ≡ active t
-unfolding active
-active_is t a is = sym (lowest_largest_is t a 15 is (omega (arith, is.scenario)) (omega arith))

@@ -9,6 +9,7 @@ use Rattle.std.proofs.lemmas.Bool.{cases_eq}
 use Rattle.std.proofs.lemmas.List.Sums.{fold-append, sum_by-cons}
 use Rattle.std.proofs.lemmas.List.Elements.{All-tail}
 use Rattle.std.proofs.lemmas.Grind.{common_steps}
+use Rattle.mgn_params.proofs.StageLemmas.{used_le_left}
 use Rattle.mgn_params.specs.declared.tables.Spread.{Spread}
 use Rattle.mgn_params.specs.declared.tables.Stage.{Stage}
 use Rattle.mgn_params.specs.Stages.{used, amount_of, left_after, charge_of, charges_of, left_by, used_of, used_by, stages_of_spread, stages_of, IsStage, long_leg, short_leg}
@@ -16,10 +17,6 @@ use Rattle.mgn_params.specs.declared.tables.SpotCharge.{SpotCharge}
 use Rattle.mgn_params.specs.Spot.{spread_delta, outright_delta, spot_charge_of}
 use Rattle.mgn_plain.specs.Kept.{kept_charge_of}
 use Rattle.mgn_params.specs.Limits.{IsSpread}
-
--- a stage never uses more than its legs have
-pub used-le-left : (n left ratio : ℕ) → 0 < ratio → n ≤ 10000 * left / ratio → used n ratio ≤ left
-used-le-left n left ratio h k = let more = mul-le-mul_right ratio k in omega arith
 
 -- what stages and further stages charge
 pub charges_of-append : (left : List ℕ) (one two : List Stage) → charges_of left (one ++ two) ≡ charges_of left one + charges_of (left_by left one) two
@@ -101,8 +98,8 @@ charges_of-small left (stage ∷ stages) are small =
 -- what a stage uses of a leg is what the leg has less after it
 used_of-left : (left : List ℕ) (stage : Stage) (leg : ℕ) → length left ≡ 16 → IsStage stage → used_of left stage leg + slice_index (left_after left stage) leg ≡ slice_index left leg
 used_of-left left stage leg long is =
-    let first = used-le-left (amount_of left stage) (slice_index left stage.first_leg) stage.first_ratio is.first_ratio (omega arith) in
-    let second = used-le-left (amount_of left stage) (slice_index left stage.second_leg) stage.second_ratio is.second_ratio (omega arith) in
+    let first = used_le_left (amount_of left stage) (slice_index left stage.first_leg) stage.first_ratio is.first_ratio (omega arith) in
+    let second = used_le_left (amount_of left stage) (slice_index left stage.second_leg) stage.second_ratio is.second_ratio (omega arith) in
     let apart = is.apart in
     let there = is.first_leg in
     let back = is.second_leg in

@@ -44,7 +44,7 @@ fn add_position(deltas: &mut [Tenk], contract: &Contract, net: Quantity)
     }
 }
 
-#[tactic(auto, using(crate::proofs::PositionLemmas::position_sum_all))]
+#[tactic(auto, using(mgn_params::proofs::PositionLemmas::position_sum_all))]
 // Adds up the deltas of the months, one net for each contract of the set.
 pub(crate) fn add_positions(deltas: &mut [Tenk], set: &ParamSet, nets: &[Quantity])
     requires one_each { length nets.now ≡ length set.now.contracts }

@@ -54,7 +54,7 @@ fn add_minimum(minimums: &mut [u128], set: &ParamSet, i: usize, net: Quantity)
     }
 }
 
-#[tactic(auto, using(crate::proofs::PositionLemmas::position_count_more, crate::proofs::PositionLemmas::position_count_all))]
+#[tactic(auto, using(mgn_params::proofs::PositionLemmas::position_count_more, mgn_params::proofs::PositionLemmas::position_count_all))]
 // Adds up the short option minimums of the commodities, one net for each contract of the set.
 pub(crate) fn add_minimums(minimums: &mut [u128], set: &ParamSet, nets: &[Quantity])
     requires one_each { length nets.now ≡ length set.now.contracts }
@@ -85,7 +85,7 @@ fn share_of_value(contract: &Contract, net: Quantity) -> Cents
     }
 }
 
-#[tactic(auto, using(crate::proofs::PositionLemmas::position_sum_more, crate::proofs::PositionLemmas::position_sum_all))]
+#[tactic(auto, using(mgn_params::proofs::PositionLemmas::position_sum_more, mgn_params::proofs::PositionLemmas::position_sum_all))]
 // The net option value, one net for each contract of the set.
 pub(crate) fn option_value(set: &ParamSet, nets: &[Quantity]) -> Cents
     requires one_each { length nets.now ≡ length set.now.contracts }
