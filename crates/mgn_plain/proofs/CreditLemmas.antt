@@ -1,5 +1,5 @@
 -- What holds while intercommodity spreads form.
-use Rattle.std.proofs.Common.{◌≡◌, ℕ, ◌+◌, ◌<◌, ◌≤◌, ◌^◌, min, Bool, true, List, length, get_or, take, ap, ◌∙◌, sym, arith, All, pos, ℤ, unsigned_abs}
+use Rattle.std.proofs.Common.{◌≡◌, ℕ, ◌+◌, ◌<◌, ◌≤◌, min, Bool, true, List, length, get_or, take, ap, ◌∙◌, sym, arith, All, pos, ℤ, unsigned_abs}
 use Rattle.std.specs.List.{fold, list_all}
 use Rattle.std.proofs.lemmas.Int.{ints}
 use Rattle.std.proofs.lemmas.List.{get_or_default}
@@ -9,7 +9,6 @@ use Rattle.mgn_params.specs.declared.tables.CreditSpread.{CreditSpread}
 use Rattle.mgn_params.specs.declared.tables.Leg.{Leg}
 use Rattle.mgn_params.specs.Credits.{fits, leg_amount, formed}
 use Rattle.mgn_params.specs.Scan.{value_at}
-use Rattle.mgn_params.specs.Stages.{used}
 use Rattle.mgn_plain.specs.Rests.{AreCreditNumbers, AreRests, IsCreditable}
 use Rattle.mgn_params.proofs.StageLemmas.{used_le_left}
 

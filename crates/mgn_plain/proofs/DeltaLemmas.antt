@@ -1,8 +1,7 @@
 -- What deltas come to, and how large they are.
-use Rattle.std.proofs.Common.{◌≡◌, ◌≢◌, ℕ, zero, suc, ◌+◌, ◌-◌, ◌*◌, ◌<◌, ◌≤◌, ◌^◌, List, [], ◌∷◌, length, take, get_or, pos, ℤ, ⊎_elim, ap, ◌∙◌, sym, arith, take_all, add-one, refl, unsigned_abs, All, map}
-use Rattle.std.specs.Prelude.{◌+ℤ◌, ◌*ℤ◌, ◌==◌, if◌then◌else◌, nat_lt}
+use Rattle.std.proofs.Common.{◌≡◌, ◌≢◌, ℕ, zero, suc, ◌-◌, ◌*◌, ◌<◌, ◌≤◌, ◌^◌, List, [], length, take, pos, ℤ, ap, ◌∙◌, arith, take_all, add-one, unsigned_abs}
+use Rattle.std.specs.Prelude.{◌*ℤ◌, ◌==◌, if◌then◌else◌, nat_lt}
 use Rattle.std.specs.List.{count_by}
-use Rattle.std.proofs.lemmas.Bool.{cases_eq, cases_lt}
 use Rattle.std.proofs.lemmas.Int.{ints}
 use Rattle.std.proofs.lemmas.List.FromFn.{fill_by_all}
 use Rattle.std.proofs.lemmas.Slice.Zip.{length-zip}
@@ -10,14 +9,14 @@ use Rattle.mgn_num.specs.Signed.{signed_sum_by, signed_sum_below, sum_below}
 use Rattle.mgn_num.proofs.SignedLemmas.{size-*ℤ-le}
 use Rattle.mgn_params.specs.declared.tables.Contract.{Contract}
 use Rattle.mgn_params.specs.declared.tables.Month.{Month}
-use Rattle.mgn_params.specs.Deltas.{month_share, month_delta, net_share, net_delta, long_share, short_share, long_delta, short_delta, start_of, starts_of, positive_part, negative_part}
+use Rattle.mgn_params.specs.Deltas.{month_share, month_delta, net_share, net_delta, long_share, short_share, start_of, starts_of}
 use Rattle.mgn_params.specs.Limits.{IsContract, IsWithinLimits}
 use Rattle.mgn_params.specs.Positions.{Position, positions, IsNet}
 use Rattle.mgn_params.specs.Scan.{value_at}
 use Rattle.mgn_params.specs.Tables.{Tables, contract_at, no_contract, month_at}
 use Rattle.mgn_plain.specs.Kept.{start_share, month_start, month_net, month_net_share, leg_of, legs_row}
 use Rattle.mgn_plain.specs.Parts.{AreDeltas, AreNets}
-use Rattle.mgn_params.proofs.PositionLemmas.{position_sum_more, position_sum_all}
+use Rattle.mgn_params.proofs.PositionLemmas.{position_sum_more}
 use Rattle.mgn_plain.proofs.PositionLemmas.{share_sum_by_count, month_share_small}
 use Rattle.mgn_plain.proofs.SumLemmas.{sum_below_same, signed_sum_below_same, sum_below_le, sum_below_none, signed_sum_below_none, sum_below_grown, signed_sum_below_grown, sum_below_one, signed_sum_below_one, sum_below_if}
 

@@ -1,27 +1,25 @@
 -- From the rows that loops fill to the words of the definitions.
-use Rattle.std.proofs.Common.{◌≡◌, ℕ, ◌+◌, ◌*◌, ◌<◌, ◌≤◌, ◌^◌, List, length, get_or, ⊎_elim, ap, ◌∙◌, sym, arith, refl, All, map, pos, ℤ, unsigned_abs}
+use Rattle.std.proofs.Common.{◌≡◌, ℕ, ◌*◌, ◌<◌, ◌≤◌, ◌^◌, List, length, ⊎_elim, ap, ◌∙◌, sym, arith, refl, map, pos, ℤ, unsigned_abs}
 use Rattle.std.specs.Int.{int_max}
 use Rattle.mgn_plain.specs.Figures.{commodity_figures}
-use Rattle.mgn_plain.specs.declared.figures.CommodityFigures.{CommodityFigures}
+use Rattle.mgn_plain.specs.declared.commodity.CommodityFigures.{CommodityFigures}
 use Rattle.std.specs.Prelude.{◌+ℤ◌, ◌-ℤ◌, slice_index, Result, Ok, Err, IfOk}
 use Rattle.std.specs.List.{range_with_len}
 use Rattle.std.proofs.lemmas.Bool.{cases_lt}
 use Rattle.std.proofs.lemmas.Int.{ints}
-use Rattle.std.proofs.lemmas.Grind.{get_or_default_zero}
 use Rattle.std.proofs.lemmas.List.{get_or_default, get_or_past}
 use Rattle.std.proofs.lemmas.List.FromFn.{fill_by_all}
-use Rattle.mgn_num.specs.Signed.{signed_sum_below, sum_below}
 use Rattle.mgn_params.specs.Credits.{credits_of}
-use Rattle.mgn_params.specs.Deltas.{net_delta, start_of, starts_of}
+use Rattle.mgn_params.specs.Deltas.{net_delta}
 use Rattle.mgn_params.specs.Limits.{IsWithinLimits}
 use Rattle.mgn_params.specs.Positions.{Position, positions}
-use Rattle.mgn_params.specs.Requirement.{commodities_of, credit, credits, intra_charge, minimum, price_risk2_of, risk, scan_of, spot_charge}
+use Rattle.mgn_params.specs.Requirement.{credit, credits, intra_charge, minimum, price_risk2_of, risk, scan_of, spot_charge}
 use Rattle.mgn_params.specs.Scan.{active, price_risk2, scan_risk, scenario_total, value_at}
 use Rattle.mgn_params.specs.Spot.{spot_charge_of, spot_of}
-use Rattle.mgn_params.specs.Stages.{charges_of, left_by, stages_of}
+use Rattle.mgn_params.specs.Stages.{charges_of, stages_of}
 use Rattle.mgn_params.specs.Tables.{Tables}
-use Rattle.mgn_plain.specs.Kept.{kept_charge_of, leg_of, legs_row, month_net_share, month_start, total_of, totals_of}
-use Rattle.mgn_plain.specs.Parts.{AreCharges, AreChargesFrom, AreCredits, AreCreditsFrom, AreDeltas, AreNetDeltas, AreNets, AreParts, AreRisks, AreStarts, AreTotals}
+use Rattle.mgn_plain.specs.Kept.{leg_of, legs_row, total_of, totals_of}
+use Rattle.mgn_plain.specs.Parts.{AreCharges, AreChargesFrom, AreCredits, AreCreditsFrom, AreDeltas, AreNetDeltas, AreParts, AreRisks, AreStarts, AreTotals}
 use Rattle.mgn_plain.specs.Rests.{AreCreditNumbers}
 use Rattle.mgn_plain.proofs.DeltaLemmas.{net_is, net_small, start_is, start_small, starts_are}
 use Rattle.mgn_plain.proofs.PositionLemmas.{scenario_total_small}

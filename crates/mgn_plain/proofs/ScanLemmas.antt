@@ -1,11 +1,9 @@
 -- Scan figures of totals that agree in the 16 scenarios.
-use Rattle.std.proofs.Common.{◌≡◌, ℕ, zero, suc, ◌+◌, ◌*◌, ◌<◌, ◌≤◌, ◌^◌, ap, ◌∙◌, sym, arith, refl, pos, ℤ, unsigned_abs, ⊎_elim}
-use Rattle.std.specs.Prelude.{◌≤ℤ◌, ◌<ℤ◌, ◌+ℤ◌, ◌-ℤ◌, int_lt, if◌then◌else◌}
+use Rattle.std.proofs.Common.{◌≡◌, ℕ, zero, suc, ◌*◌, ◌<◌, ◌≤◌, ap, ◌∙◌, arith, refl, pos, ℤ, unsigned_abs}
 use Rattle.std.specs.Int.{int_max}
-use Rattle.std.proofs.lemmas.Bool.{cases_lt}
 use Rattle.std.proofs.lemmas.Int.{ints}
 use Rattle.mgn_params.proofs.ActiveLemmas.{pair_of_small}
-use Rattle.mgn_params.specs.Scan.{IsActive, lowest_largest, active, scan_risk, pair_of, price_risk2, price_risk2_at}
+use Rattle.mgn_params.specs.Scan.{lowest_largest, active, scan_risk, pair_of, price_risk2, price_risk2_at}
 
 lowest_largest-le : (t : ℕ → ℤ) (last : ℕ) → lowest_largest t last ≤ last
 lowest_largest-le t zero = omega arith

@@ -1,18 +1,17 @@
 -- Stages: what they use and charge, one after the other.
-use Rattle.std.proofs.Common.{◌≡◌, ◌≢◌, ℕ, zero, suc, ◌+◌, ◌-◌, ◌*◌, ◌/◌, ◌<◌, ◌≤◌, ◌^◌, List, [], ◌∷◌, ◌++◌, length, drop, get_or, set, ⊎_elim, ap, ◌∙◌, sym, arith, add-one, refl, eq-eqb, ne_eqb, All, length-set, length-append, true, false}
+use Rattle.std.proofs.Common.{◌≡◌, ◌≢◌, ℕ, suc, ◌+◌, ◌-◌, ◌*◌, ◌<◌, ◌≤◌, ◌^◌, List, [], ◌∷◌, ◌++◌, length, drop, get_or, ap, ◌∙◌, sym, arith, add-one, refl, eq-eqb, ne_eqb, All, length-set, length-append, true, false}
 use Rattle.std.specs.Int.{div_ceil}
-use Rattle.std.specs.Prelude.{Option, Some, None, ◌==◌, if◌then◌else◌, slice_index, slice_set}
-use Rattle.std.specs.List.{filter, flat_map, fold, count_by, AllByRecursion}
-use Rattle.std.proofs.Math.Nat.{mul-le-mul, mul-le-mul_right}
+use Rattle.std.specs.Prelude.{Option, Some, None, ◌==◌, if◌then◌else◌, slice_index}
+use Rattle.std.specs.List.{filter, flat_map, count_by, AllByRecursion}
+use Rattle.std.proofs.Math.Nat.{mul-le-mul}
 use Rattle.std.proofs.Math.Seq.{drop-cons}
-use Rattle.std.proofs.lemmas.Bool.{cases_eq}
 use Rattle.std.proofs.lemmas.List.Sums.{fold-append, sum_by-cons}
 use Rattle.std.proofs.lemmas.List.Elements.{All-tail}
 use Rattle.std.proofs.lemmas.Grind.{common_steps}
 use Rattle.mgn_params.proofs.StageLemmas.{used_le_left}
 use Rattle.mgn_params.specs.declared.tables.Spread.{Spread}
 use Rattle.mgn_params.specs.declared.tables.Stage.{Stage}
-use Rattle.mgn_params.specs.Stages.{used, amount_of, left_after, charge_of, charges_of, left_by, used_of, used_by, stages_of_spread, stages_of, IsStage, long_leg, short_leg}
+use Rattle.mgn_params.specs.Stages.{amount_of, left_after, charge_of, charges_of, left_by, used_of, used_by, stages_of_spread, stages_of, IsStage, long_leg, short_leg}
 use Rattle.mgn_params.specs.declared.tables.SpotCharge.{SpotCharge}
 use Rattle.mgn_params.specs.Spot.{spread_delta, outright_delta, spot_charge_of}
 use Rattle.mgn_plain.specs.Kept.{kept_charge_of}

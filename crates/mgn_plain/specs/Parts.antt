@@ -1,5 +1,5 @@
 -- What the rows of a calculation are, in the words of the definitions.
-use Rattle.std.specs.Prelude.{ℕ, ◌*◌, ◌≡◌, ◌<◌, ◌≤◌, ◌^◌, ℤ, unsigned_abs, pos, List, length, slice_index, All}
+use Rattle.std.specs.Prelude.{ℕ, ◌*◌, ◌≡◌, ◌<◌, ◌≤◌, ◌^◌, ℤ, unsigned_abs, List, length, slice_index, All}
 use Rattle.mgn_num.specs.Signed.{signed_sum_below, sum_below}
 use Rattle.mgn_params.specs.Credits.{credits_of}
 use Rattle.mgn_params.specs.Deltas.{month_delta}

@@ -1,15 +1,16 @@
-ghost use Rattle.std.specs.Prelude.{◌≡◌, ℕ, ◌*◌, ◌<◌, ◌≤◌, ◌^◌, ℤ, pos, ◌+ℤ◌, ◌-ℤ◌, ◌≤ℤ◌, List, unsigned_abs, length, slice_index, All, IfOk};
+ghost use Rattle.std.specs.Prelude.{◌≡◌, ℕ, ◌*◌, ◌<◌, ◌≤◌, ◌^◌, ℤ, pos, ◌+ℤ◌, ◌-ℤ◌, ◌≤ℤ◌, List, unsigned_abs, length, slice_index, map, All, IfOk};
 ghost use Rattle.std.specs.Int.{int_max};
 ghost use Rattle.mgn_num.specs.Signed.{signed_sum_below};
 ghost use Rattle.mgn_params.specs.Positions.{IsNet, positions};
-ghost use Rattle.mgn_params.specs.Requirement.{requirement, risk};
-ghost use Rattle.mgn_plain.specs.Figures.{commodity_figures};
+ghost use Rattle.mgn_params.specs.Requirement.{commodities_of, requirement, risk};
+ghost use Rattle.mgn_plain.specs.Figures.{commodity_figures, figures_of};
 ghost use Rattle.mgn_plain.specs.Parts.{AreNets, AreParts};
 
-use crate::figures::CommodityFigures;
+use crate::commodity::CommodityFigures;
 use crate::options::option_value;
 use crate::parts::{minimum_row, month_deltas, total_rows, work_out_charges, work_out_credits};
 use crate::scan::{scan_figures, totals_row};
+use crate::whole::Figures;
 use mgn_num::{Cents, Quantity};
 use mgn_params::{ParamSet, Work};
 use std::alloc::{AllocError, Global};
@@ -148,4 +149,46 @@ pub fn requirement(
 {
     let parts = work_out(alloc, set, nets, work)?;
     Ok(requirement_of(set, nets, &parts))
+}
+
+// The figures of the commodities, in file order.
+fn list_figures(
+    alloc: Global,
+    set: &ParamSet,
+    parts: &Parts,
+) -> Result<Vec<CommodityFigures>, AllocError>
+    requires { (nets : List ℤ) × AreParts set.now nets parts.now.totals.items parts.now.intra.items parts.now.spot.items parts.now.credits.items parts.now.minimums.items }
+    ensures { IfOk result (λ list. (nets : List ℤ) →
+        AreParts set.now nets parts.now.totals.items parts.now.intra.items parts.now.spot.items parts.now.credits.items parts.now.minimums.items →
+        list.items ≡ map (commodity_figures set.now (positions set.now.contracts nets)) (commodities_of set.now)) }
+{
+    let count = set.commodity_count();
+    let mut list = Vec::with_capacity(alloc, count)?;
+    for g in 0..count {
+        list.push_reserved(figures_of(set, parts, g));
+    }
+    Ok(list)
+}
+
+/// All figures of the nets under the set, worked out anew: one net for each contract of the set in file order, each at
+/// most 10,000,000 in size.
+///
+/// An error says that memory was refused, and nothing else fails. Each array of a contract with a net other than 0 is
+/// read once and counted in `work`.
+#[tactic(auto, unfolding(crate::specs::Figures::figures_of))]
+pub fn figures(
+    alloc: Global,
+    set: &ParamSet,
+    nets: &[Quantity],
+    work: &mut Work,
+) -> Result<Figures, AllocError>
+    requires one_each { length nets.now ≡ length set.now.contracts }
+    requires nets { All IsNet nets.now }
+    ensures ok { IfOk result (λ f. f ≡ figures_of set.now nets.now) }
+    ensures small { IfOk result (λ f. unsigned_abs f.requirement ≤ 10 ^ 30) }
+{
+    let parts = work_out(alloc, set, nets, work)?;
+    let commodities = list_figures(alloc, set, &parts)?;
+    let requirement = requirement_of(set, nets, &parts);
+    Ok(Figures::new(commodities, option_value(set, nets), requirement))
 }

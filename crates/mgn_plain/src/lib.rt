@@ -2,15 +2,17 @@
 #![tactic(auto)]
 
 mod calculation;
+mod commodity;
 mod credits;
 mod deltas;
-mod figures;
 mod options;
 mod parts;
 mod rows;
 mod scan;
 mod spot;
 mod stages;
+mod whole;
 
-pub use calculation::requirement;
-pub use figures::CommodityFigures;
+pub use calculation::{figures, requirement};
+pub use commodity::CommodityFigures;
+pub use whole::Figures;

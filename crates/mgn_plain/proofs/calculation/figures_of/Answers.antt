@@ -1,6 +1,5 @@
-use Rattle.std.proofs.Common.{arith, ◌∙◌, ap, ℕ, List, ℤ, pos}
+use Rattle.std.proofs.Common.{◌∙◌, ap, ℕ, List, ℤ, pos}
 use Rattle.std.specs.Prelude.{slice_index}
-use Rattle.std.proofs.lemmas.Int.{ints, clamps}
 use Rattle.mgn_plain.specs.Kept.{totals_of}
 use Rattle.mgn_plain.proofs.PartLemmas.{figures_are}
 use Rattle.mgn_plain.proofs.calculation.figures_of.Goals as goal

@@ -1,4 +1,4 @@
-use Rattle.std.proofs.Common.{◌≡◌, ℕ, ℤ, List, ◌<◌, ◌≤◌, ◌*◌, ◌^◌, unsigned_abs, length}
+use Rattle.std.proofs.Common.{◌≡◌, ℤ, List, ◌≤◌, ◌*◌, ◌^◌, unsigned_abs}
 use Rattle.mgn_num.specs.Signed.{signed_sum_below}
 use Rattle.mgn_params.specs.Positions.{positions}
 use Rattle.mgn_params.specs.Requirement.{risk}

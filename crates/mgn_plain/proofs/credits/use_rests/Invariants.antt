@@ -1,4 +1,4 @@
-use Rattle.std.proofs.Common.{◌≡◌, ◌≤◌, ℕ, take, length, unsigned_abs}
+use Rattle.std.proofs.Common.{◌≡◌, ◌≤◌, ℕ, take, unsigned_abs}
 use Rattle.mgn_params.specs.Credits.{rests_after}
 use Rattle.mgn_params.specs.Scan.{value_at}
 use Rattle.mgn_plain.proofs.credits.use_rests.Given as goal

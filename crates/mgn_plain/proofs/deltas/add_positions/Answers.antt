@@ -1,7 +1,5 @@
 use Rattle.std.proofs.Common.{arith, ◌<◌, length, pos}
 use Rattle.std.proofs.lemmas.Int.{ints}
-use Rattle.std.proofs.lemmas.List.{get_or_past}
-use Rattle.std.proofs.lemmas.Bool.{cases_lt}
 use Rattle.mgn_params.specs.Tables.{contract_at, no_contract}
 use Rattle.mgn_params.specs.Deltas.{month_share}
 use Rattle.mgn_params.specs.Scan.{value_at}

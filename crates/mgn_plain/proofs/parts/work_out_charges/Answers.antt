@@ -1,4 +1,4 @@
-use Rattle.std.proofs.Common.{arith, ℕ, ℤ, List}
+use Rattle.std.proofs.Common.{arith, ℤ, List}
 use Rattle.mgn_plain.specs.Parts.{AreCharges, AreChargesFrom, AreDeltas}
 use Rattle.mgn_plain.specs.declared.parts.Charges.{Charges}
 use Rattle.mgn_plain.proofs.PartLemmas.{charges_are, if_ok_along, kept_start_small}

@@ -1,6 +1,4 @@
-use Rattle.std.proofs.Common.{arith, ℕ, ℤ, List}
-use Rattle.std.specs.Prelude.{Vec}
-use Rattle.mgn_plain.specs.Parts.{AreCredits, AreCreditsFrom, AreDeltas, AreTotals}
+use Rattle.std.proofs.Common.{arith}
 use Rattle.mgn_plain.proofs.PartLemmas.{credit_numbers, credits_are, if_ok_along, total_small}
 use Rattle.mgn_plain.proofs.parts.work_out_credits.Goals as goal
 

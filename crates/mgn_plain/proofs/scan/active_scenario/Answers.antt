@@ -1,6 +1,5 @@
 use Rattle.std.proofs.Common.{arith, ◌≡◌, refl}
-use Rattle.std.specs.Prelude.{ℕ}
-use Rattle.mgn_params.specs.Scan.{IsActive, value_at}
+use Rattle.mgn_params.specs.Scan.{value_at}
 use Rattle.mgn_params.proofs.ActiveLemmas.{active_along}
 use Rattle.mgn_plain.proofs.scan.active_scenario.Goals as goal
 

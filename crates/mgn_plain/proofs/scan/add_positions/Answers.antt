@@ -1,4 +1,4 @@
-use Rattle.std.proofs.Common.{arith, ◌<◌, length, ℤ, List, pos}
+use Rattle.std.proofs.Common.{arith, ◌<◌, length, pos}
 use Rattle.std.proofs.lemmas.Int.{ints}
 use Rattle.mgn_params.specs.Tables.{contract_at, no_contract}
 use Rattle.mgn_params.specs.Scan.{scenario_share, value_at}

@@ -1,4 +1,4 @@
-use Rattle.std.proofs.Common.{◌≡◌, ℕ, ◌<◌, unsigned_abs, length, slice_index}
+use Rattle.std.proofs.Common.{◌≡◌, ℕ, ◌<◌, unsigned_abs, slice_index}
 use Rattle.mgn_params.specs.Scan.{price_risk2}
 use Rattle.mgn_plain.specs.Kept.{total_of}
 use Rattle.mgn_plain.proofs.scan.fill_price_risks.Given as goal
