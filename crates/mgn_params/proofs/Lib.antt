@@ -6,3 +6,4 @@ pub mod PositionLemmas
 pub mod ActiveLemmas
 pub mod StageLemmas
 pub mod NameLemmas
+pub mod RecordLemmas

@@ -10,3 +10,5 @@ pub mod Spot
 pub mod Requirement
 pub mod Limits
 pub mod Inside
+pub mod Fields
+pub mod Records

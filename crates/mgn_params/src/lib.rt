@@ -1,11 +1,17 @@
 //! Parameter sets of the margin calculation, and the definitions of the calculation itself.
 #![tactic(auto)]
 
+mod contracts;
+mod fault;
+mod fields;
 mod laws;
+mod records;
 mod set;
+mod spreads;
 mod tables;
 mod work;
 
+pub use fault::{Cause, SetFault};
 pub use laws::flat_owes_nothing;
 pub use set::ParamSet;
 pub use tables::{
