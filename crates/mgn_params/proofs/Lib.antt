@@ -7,3 +7,5 @@ pub mod ActiveLemmas
 pub mod StageLemmas
 pub mod NameLemmas
 pub mod RecordLemmas
+pub mod LineLemmas
+pub mod FileLemmas

@@ -12,3 +12,5 @@ pub mod Limits
 pub mod Inside
 pub mod Fields
 pub mod Records
+pub mod Lines
+pub mod File

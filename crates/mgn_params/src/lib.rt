@@ -2,9 +2,12 @@
 #![tactic(auto)]
 
 mod contracts;
+mod draft;
 mod fault;
 mod fields;
+mod file;
 mod laws;
+mod line;
 mod records;
 mod set;
 mod spreads;
@@ -12,6 +15,7 @@ mod tables;
 mod work;
 
 pub use fault::{Cause, SetFault};
+pub use file::read_set;
 pub use laws::flat_owes_nothing;
 pub use set::ParamSet;
 pub use tables::{
