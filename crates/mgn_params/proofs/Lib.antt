@@ -9,3 +9,4 @@ pub mod NameLemmas
 pub mod RecordLemmas
 pub mod LineLemmas
 pub mod FileLemmas
+pub mod LegLemmas

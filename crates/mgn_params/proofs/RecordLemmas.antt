@@ -13,7 +13,7 @@ use Rattle.mgn_params.specs.Tables.{Tables}
 abbrev pub fronted : {X : Type 0} → List X → Result (List X) Cause → Result (List X) Cause
 fronted front r = r >>= λ xs. Ok (front ++ xs)
 
-fronted-more : {X : Type 0} (front : List X) (x : X) (r : Result (List X) Cause) → fronted front (r >>= λ xs. Ok (x ∷ xs)) ≡ fronted (front ++ x ∷ []) r
+pub fronted-more : {X : Type 0} (front : List X) (x : X) (r : Result (List X) Cause) → fronted front (r >>= λ xs. Ok (x ∷ xs)) ≡ fronted (front ++ x ∷ []) r
 fronted-more front x (Ok xs) = ap Ok (sym (append_assoc front (x ∷ []) xs))
 fronted-more front x (Err e) = refl
 

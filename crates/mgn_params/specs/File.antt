@@ -8,7 +8,7 @@ use Rattle.mgn_params.specs.declared.fault.Cause.TheVariants.{Header, Fields as 
 use Rattle.mgn_params.specs.declared.fault.SetFault.{SetFault}
 use Rattle.mgn_params.specs.Fields.{◌>>=◌, Fields, field_name}
 use Rattle.mgn_params.specs.Lines.{line_records}
-use Rattle.mgn_params.specs.Records.{class_of, commodity_of, contract_of, month_of, spot_charge_of_record, spread_of}
+use Rattle.mgn_params.specs.Records.{class_of, commodity_of, contract_of, credit_of, month_of, spot_charge_of_record, spread_of}
 use Rattle.mgn_params.specs.Tables.{Tables, no_tables}
 
 -- The records of a file: one for each line that has one. None is a line that has more.
@@ -48,6 +48,11 @@ with_spread t fields = do
   row ← spread_of t fields
   Ok (record t { spreads = t.spreads ++ row ∷ [] })
 
+unfoldable pub with_credit_spread : Tables → Fields → Result Tables Cause
+with_credit_spread t fields = do
+  row ← credit_of t fields
+  Ok (record t { credits = t.credits ++ row ∷ [] })
+
 unfoldable pub with_class : Tables → Fields → Result Tables Cause
 with_class t fields = do
   row ← class_of t fields
@@ -63,15 +68,19 @@ unfoldable pub with_spot_of : ℕ → Tables → Fields → Result Tables Cause
 with_spot_of version t fields = if version == 2 then with_spot t fields else Err WrongFields
 
 -- a record after the first, by its first field
+unfoldable pub with_other : ℕ → Tables → List ℕ → Fields → Result Tables Cause
+with_other version t kind fields =
+    if bytes_eq kind (codes "I") then with_credit_spread t fields
+    else (if bytes_eq kind (codes "V") then with_class t fields
+    else (if bytes_eq kind (codes "T") then with_spot_of version t fields
+    else (if bytes_eq kind (codes "H") then Err Header else Err WrongFields)))
+
 unfoldable pub with_record : ℕ → Tables → List ℕ → Fields → Result Tables Cause
 with_record version t kind fields =
     if bytes_eq kind (codes "G") then with_commodity t fields
     else (if bytes_eq kind (codes "M") then with_month t fields
     else (if bytes_eq kind (codes "K") then with_contract t fields
-    else (if bytes_eq kind (codes "S") then with_spread t fields
-    else (if bytes_eq kind (codes "V") then with_class t fields
-    else (if bytes_eq kind (codes "T") then with_spot_of version t fields
-    else (if bytes_eq kind (codes "H") then Err Header else Err WrongFields))))))
+    else (if bytes_eq kind (codes "S") then with_spread t fields else with_other version t kind fields)))
 
 unfoldable pub later_of : ℕ → Tables → Fields → Result Tables Cause
 later_of version t [] = Err WrongFields

@@ -1,5 +1,5 @@
 -- What one record adds to the tables so far, or the first cause why it is faulty (own format).
-use Rattle.std.specs.Prelude.{◌≡◌, ℕ, ◌-◌, ◌+◌, ◌*◌, ◌^◌, ◌==◌, ◌&&◌, ◌||◌, Bool, false, nat_le, if◌then◌else◌, List, [], ◌∷◌, length, Option, Some, None, ℤ, Result, Ok, Err, codes, position, count_by, is_some}
+use Rattle.std.specs.Prelude.{◌≡◌, ℕ, ◌-◌, ◌+◌, ◌*◌, ◌^◌, ◌==◌, ◌&&◌, ◌||◌, Bool, false, nat_le, if◌then◌else◌, List, [], ◌∷◌, ◌++◌, length, map, replicate, Option, Some, None, ℤ, Result, Ok, Err, codes, position, count_by, is_some, ◌<◌, ◌≤◌, IfSome}
 use Rattle.std.specs.List.{list_any}
 use Rattle.std.specs.Str.{bytes_eq}
 use Rattle.mgn_params.specs.declared.fault.Cause.{Cause}
@@ -7,14 +7,17 @@ use Rattle.mgn_params.specs.declared.fault.Cause.TheVariants.{Fields as WrongFie
 use Rattle.mgn_params.specs.declared.tables.Class.{Class}
 use Rattle.mgn_params.specs.declared.tables.Commodity.{Commodity}
 use Rattle.mgn_params.specs.declared.tables.Contract.{Contract}
+use Rattle.mgn_params.specs.declared.tables.CreditSpread.{CreditSpread}
 use Rattle.mgn_params.specs.declared.tables.Kind.{Kind}
+use Rattle.mgn_params.specs.declared.tables.Leg.{Leg}
+use Rattle.mgn_params.specs.declared.tables.Side.{Side}
 use Rattle.mgn_params.specs.declared.tables.Month.{Month}
 use Rattle.mgn_params.specs.declared.tables.SpotCharge.{SpotCharge}
 use Rattle.mgn_params.specs.declared.tables.Spread.{Spread}
 use Rattle.mgn_params.specs.declared.tables.Style.{Style}
-use Rattle.mgn_params.specs.Fields.{◌>>=◌, Fields, field_kind, field_name, field_number, field_signed, field_style, fresh, known, value_of_style}
+use Rattle.mgn_params.specs.Fields.{◌>>=◌, Fields, field_kind, field_name, field_number, field_side, field_signed, field_style, fresh, known, value_of_style}
 use Rattle.mgn_params.specs.Limits.{class_names, commodity_names, contract_names}
-use Rattle.mgn_params.specs.Tables.{Tables}
+use Rattle.mgn_params.specs.Tables.{Tables, is_side_a, is_side_b, legs_of, no_leg}
 
 -- where the commodity of a name stands
 abbrev pub commodity_place : Tables → List ℕ → Option ℕ
@@ -137,6 +140,80 @@ unfoldable pub spread_of : Tables → Fields → Result Spread Cause
 spread_of t (commodity ∷ tier ∷ ratio ∷ other ∷ other_ratio ∷ charge ∷ []) =
     spread_from t commodity tier ratio other other_ratio charge
 spread_of t _ = Err WrongFields
+
+-- `I,rate,` and two to four times `commodity,side,ratio`
+
+-- a leg as its words say: where its commodity stands, if it is known, its side and its ratio
+abbrev pub FoundLeg : Type 0
+FoundLeg = Option ℕ × Side × ℕ
+
+-- the limits on it, in a set of so many commodities
+pub record IsFoundLeg (commodities : ℕ) (leg : FoundLeg) : Type 0 where
+  pub commodity : IfSome leg.0 (λ g. g < commodities)
+  pub ratio : 0 < leg.2
+  pub small_ratio : leg.2 ≤ 10 ^ 6
+
+unfoldable pub leg_from : Tables → List ℕ → List ℕ → List ℕ → Result FoundLeg Cause
+leg_from t commodity side ratio = do
+  name ← field_name commodity
+  s ← field_side side
+  r ← field_number 1 (10 ^ 6) ratio
+  Ok (commodity_place t name, s, r)
+
+abbrev pub legs_from : Tables → Fields → Result (List FoundLeg) Cause
+legs_from t (commodity ∷ side ∷ ratio ∷ more) = do
+  leg ← leg_from t commodity side ratio
+  legs ← legs_from t more
+  Ok (leg ∷ legs)
+legs_from t _ = Ok []
+
+-- a leg on each side
+abbrev pub has_side_a : List FoundLeg → Bool
+has_side_a legs = list_any (λ leg. is_side_a leg.1) legs
+
+abbrev pub has_side_b : List FoundLeg → Bool
+has_side_b legs = list_any (λ leg. is_side_b leg.1) legs
+
+abbrev pub sided : List FoundLeg → Result (List FoundLeg) Cause
+sided legs = if has_side_a legs && has_side_b legs then Ok legs else Err WrongFields
+
+-- the legs, where earlier records give each commodity
+abbrev pub known_legs : List FoundLeg → Result (List Leg) Cause
+known_legs [] = Ok []
+known_legs (leg ∷ legs) = do
+  commodity ← known leg.0
+  rest ← known_legs legs
+  Ok (record { commodity = commodity; side = leg.1; ratio = leg.2 } ∷ rest)
+
+-- the row of four that legs are kept in
+abbrev pub padded : List Leg → List Leg
+padded legs = legs ++ replicate (4 - length legs) no_leg
+
+-- the legs in that row, if they are known
+abbrev pub kept_legs : List FoundLeg → Result (List Leg) Cause
+kept_legs legs = known_legs legs >>= λ known. Ok (padded known)
+
+abbrev pub has_twice : List ℕ → Bool
+has_twice [] = false
+has_twice (g ∷ gs) = list_any (λ h. g == h) gs || has_twice gs
+
+abbrev pub credit_row : Tables → CreditSpread → Result CreditSpread Cause
+credit_row t s = fresh (has_twice (map (λ leg. leg.commodity) (legs_of s))) (nat_le 64 (length t.credits)) s
+
+unfoldable pub credit_from : Tables → List ℕ → Fields → Result CreditSpread Cause
+credit_from t rate words = do
+  r ← field_number 0 10000 rate
+  found ← legs_from t words
+  both ← sided found
+  legs ← known_legs both
+  credit_row t (record { rate = r; count = length legs; legs = padded legs })
+
+abbrev pub is_leg_count : ℕ → Bool
+is_leg_count n = (n == 6) || (n == 9) || (n == 12)
+
+unfoldable pub credit_of : Tables → Fields → Result CreditSpread Cause
+credit_of t [] = Err WrongFields
+credit_of t (rate ∷ words) = if is_leg_count (length words) then credit_from t rate words else Err WrongFields
 
 -- `V,class,price,haircut`; the class CASH is always there
 abbrev pub class_row : Tables → Class → Result Class Cause

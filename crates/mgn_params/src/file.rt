@@ -2,9 +2,10 @@
 
 ghost use Rattle.std.specs.Prelude.{◌≡◌, ◌⊎◌, ◌==◌, map, Ok, Err, Some, OnOk, IfOk, IfErr};
 ghost use Rattle.csv.specs.Records.{fields_of};
-ghost use Rattle.mgn_params.specs.File.{Tells, head_from, head_of, judged, later_of, outcome, records_of, version_of, with_class, with_commodity, with_contract, with_month, with_record, with_spot, with_spot_of, with_spread};
+ghost use Rattle.mgn_params.specs.File.{Tells, head_from, head_of, judged, later_of, outcome, records_of, version_of, with_class, with_commodity, with_contract, with_credit_spread, with_month, with_other, with_record, with_spot, with_spot_of, with_spread};
 
 use crate::contracts::read_contract;
+use crate::credits::read_credit_spread;
 use crate::draft::Draft;
 use crate::fault::{Cause, LineFault, SetFault};
 use crate::fields::read_set_name;
@@ -69,6 +70,15 @@ fn add_spot(set: &mut ParamSet, args: &[&[u8]]) -> Result<(), Cause>
     set.push_spot(row).map_err(|_| Cause::Memory)
 }
 
+#[tactic(auto, unfolding(crate::specs::File::with_credit_spread))]
+fn add_credit_spread(alloc: Global, set: &mut ParamSet, args: &[&[u8]]) -> Result<(), Cause>
+    ensures ok { OnOk result (with_credit_spread set.old (map (λ s. s.now) args.now) ≡ Ok set.new) }
+    ensures err { IfErr result (λ e. (e ≡ Cause.Memory) ⊎ (with_credit_spread set.old (map (λ s. s.now) args.now) ≡ Err e)) }
+{
+    let row = read_credit_spread(alloc, set, args)?;
+    set.push_credit_spread(row).map_err(|_| Cause::Memory)
+}
+
 // A spot charge is a record of version 2 alone.
 #[tactic(auto, unfolding(crate::specs::File::with_spot_of))]
 fn add_spot_of(version: u64, set: &mut ParamSet, args: &[&[u8]]) -> Result<(), Cause>
@@ -82,19 +92,20 @@ fn add_spot_of(version: u64, set: &mut ParamSet, args: &[&[u8]]) -> Result<(), C
     }
 }
 
-#[tactic(auto, unfolding(crate::specs::File::with_record))]
-fn add_record(version: u64, set: &mut ParamSet, kind: &[u8], args: &[&[u8]]) -> Result<(), Cause>
-    ensures ok { OnOk result (with_record version set.old kind.now (map (λ s. s.now) args.now) ≡ Ok set.new) }
-    ensures err { IfErr result (λ e. (e ≡ Cause.Memory) ⊎ (with_record version set.old kind.now (map (λ s. s.now) args.now) ≡ Err e)) }
+// A spread between commodities, a class, a spot charge, or no record of a kind.
+#[tactic(auto, unfolding(crate::specs::File::with_other))]
+fn add_other(
+    alloc: Global,
+    version: u64,
+    set: &mut ParamSet,
+    kind: &[u8],
+    args: &[&[u8]],
+) -> Result<(), Cause>
+    ensures ok { OnOk result (with_other version set.old kind.now (map (λ s. s.now) args.now) ≡ Ok set.new) }
+    ensures err { IfErr result (λ e. (e ≡ Cause.Memory) ⊎ (with_other version set.old kind.now (map (λ s. s.now) args.now) ≡ Err e)) }
 {
-    if kind == b"G".as_slice() {
-        add_commodity(set, args)
-    } else if kind == b"M".as_slice() {
-        add_month(set, args)
-    } else if kind == b"K".as_slice() {
-        add_contract(set, args)
-    } else if kind == b"S".as_slice() {
-        add_spread(set, args)
+    if kind == b"I".as_slice() {
+        add_credit_spread(alloc, set, args)
     } else if kind == b"V".as_slice() {
         add_class(set, args)
     } else if kind == b"T".as_slice() {
@@ -106,14 +117,38 @@ fn add_record(version: u64, set: &mut ParamSet, kind: &[u8], args: &[&[u8]]) -> 
     }
 }
 
+#[tactic(auto, unfolding(crate::specs::File::with_record))]
+fn add_record(
+    alloc: Global,
+    version: u64,
+    set: &mut ParamSet,
+    kind: &[u8],
+    args: &[&[u8]],
+) -> Result<(), Cause>
+    ensures ok { OnOk result (with_record version set.old kind.now (map (λ s. s.now) args.now) ≡ Ok set.new) }
+    ensures err { IfErr result (λ e. (e ≡ Cause.Memory) ⊎ (with_record version set.old kind.now (map (λ s. s.now) args.now) ≡ Err e)) }
+{
+    if kind == b"G".as_slice() {
+        add_commodity(set, args)
+    } else if kind == b"M".as_slice() {
+        add_month(set, args)
+    } else if kind == b"K".as_slice() {
+        add_contract(set, args)
+    } else if kind == b"S".as_slice() {
+        add_spread(set, args)
+    } else {
+        add_other(alloc, version, set, kind, args)
+    }
+}
+
 // A record after the first.
 #[tactic(auto, unfolding(crate::specs::File::later_of))]
-fn add_later(version: u64, set: &mut ParamSet, words: &[&[u8]]) -> Result<(), Cause>
+fn add_later(alloc: Global, version: u64, set: &mut ParamSet, words: &[&[u8]]) -> Result<(), Cause>
     ensures ok { OnOk result (later_of version set.old (map (λ s. s.now) words.now) ≡ Ok set.new) }
     ensures err { IfErr result (λ e. (e ≡ Cause.Memory) ⊎ (later_of version set.old (map (λ s. s.now) words.now) ≡ Err e)) }
 {
     match words {
-        [kind, args @ ..] => add_record(version, set, kind, args),
+        [kind, args @ ..] => add_record(alloc, version, set, kind, args),
         [] => Err(Cause::Fields),
     }
 }
@@ -169,7 +204,7 @@ fn add(alloc: Global, before: Option<Draft>, row: &ByteRecord) -> Result<Draft, 
     match before {
         None => read_head(alloc, words.as_slice()),
         Some(mut draft) => {
-            add_later(draft.version, &mut draft.set, words.as_slice())?;
+            add_later(alloc, draft.version, &mut draft.set, words.as_slice())?;
             Ok(draft)
         }
     }

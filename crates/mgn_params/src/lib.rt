@@ -2,6 +2,7 @@
 #![tactic(auto)]
 
 mod contracts;
+mod credits;
 mod draft;
 mod fault;
 mod fields;
