@@ -6,3 +6,7 @@ pub mod PositionLemmas
 pub mod ActiveLemmas
 pub mod StageLemmas
 pub mod NameLemmas
+pub mod RecordLemmas
+pub mod LineLemmas
+pub mod FileLemmas
+pub mod LegLemmas

@@ -10,3 +10,7 @@ pub mod Spot
 pub mod Requirement
 pub mod Limits
 pub mod Inside
+pub mod Fields
+pub mod Records
+pub mod Lines
+pub mod File

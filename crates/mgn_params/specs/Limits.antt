@@ -67,6 +67,16 @@ pub record IsCreditSpread (commodities : ℕ) (s : CreditSpread) : Type 0 where
   pub side_a : list_any (λ leg. is_side_a leg.side) (legs_of s) ≡ true
   pub side_b : list_any (λ leg. is_side_b leg.side) (legs_of s) ≡ true
 
+-- the same, but for the commodities of the legs
+pub record IsSidedSpread (commodities : ℕ) (s : CreditSpread) : Type 0 where
+  pub rate : s.rate ≤ 10000
+  pub some : 2 ≤ s.count
+  pub few : s.count ≤ 4
+  pub row : length s.legs ≡ 4
+  pub legs : All (IsLeg commodities) (legs_of s)
+  pub side_a : list_any (λ leg. is_side_a leg.side) (legs_of s) ≡ true
+  pub side_b : list_any (λ leg. is_side_b leg.side) (legs_of s) ≡ true
+
 pub record IsClass (c : Class) : Type 0 where
   pub price : c.price ≤ 10 ^ 8
   pub haircut : c.haircut ≤ 10000

@@ -1,11 +1,22 @@
 //! Parameter sets of the margin calculation, and the definitions of the calculation itself.
 #![tactic(auto)]
 
+mod contracts;
+mod credits;
+mod draft;
+mod fault;
+mod fields;
+mod file;
 mod laws;
+mod line;
+mod records;
 mod set;
+mod spreads;
 mod tables;
 mod work;
 
+pub use fault::{Cause, SetFault};
+pub use file::read_set;
 pub use laws::flat_owes_nothing;
 pub use set::ParamSet;
 pub use tables::{

@@ -1,6 +1,8 @@
-ghost use Rattle.std.specs.Prelude.{◌≡◌, ◌+◌, ◌-◌, ◌<◌, ◌≤◌, ◌^◌, length, min, position, IfSome};
+ghost use Rattle.std.specs.Prelude.{◌≡◌, ◌+◌, ◌-◌, ◌<◌, ◌≤◌, ◌^◌, ◌==◌, length, min, position, IfSome, count_by};
+ghost use Rattle.std.specs.List.{list_any};
 ghost use Rattle.std.specs.Str.{bytes_eq};
 ghost use Rattle.mgn_params.specs.Limits.{IsWithinLimits, class_names, commodity_names, contract_names};
+ghost use Rattle.mgn_params.specs.Records.{is_month};
 ghost use Rattle.mgn_params.specs.Tables.{class_at, commodity_at, contract_at, credit_spread_at, month_at, spot_at, spread_at};
 
 use crate::tables::{Class, Commodity, Contract, CreditSpread, Month, SpotCharge, Spread};
@@ -79,6 +81,75 @@ impl ParamSet {
         ensures within { IfSome result (λ k. k < length self.now.classes) }
     {
         self.class_places.place(name)
+    }
+
+    /// Whether the set has a commodity of a name. One hash, no memory.
+    pub fn has_commodity(&self, name: CommodityName) -> bool
+        ensures { result ≡ list_any (bytes_eq name) (commodity_names self.now.commodities) }
+    {
+        self.commodity_places.has(name)
+    }
+
+    /// Whether the set has a contract of a name. One hash, no memory.
+    pub fn has_contract(&self, name: ContractName) -> bool
+        ensures { result ≡ list_any (bytes_eq name) (contract_names self.now.contracts) }
+    {
+        self.contract_places.has(name)
+    }
+
+    /// Whether the set has a collateral class of a name. One hash, no memory.
+    pub fn has_class(&self, name: ClassName) -> bool
+        ensures { result ≡ list_any (bytes_eq name) (class_names self.now.classes) }
+    {
+        self.class_places.has(name)
+    }
+
+    /// Where the month of a number stands, if the commodity at a place has one. It goes through the months.
+    pub fn month(&self, commodity: usize, number: u64) -> Option<usize>
+        ensures place { result ≡ position (is_month commodity number) self.now.months }
+        ensures own_month { IfSome result (λ m. (m < length self.now.months) × ((month_at self.now.months m).commodity ≡ commodity)) }
+    {
+        self.months.iter().position(|month| month.commodity == commodity && month.number == number)
+    }
+
+    /// How many months a commodity has. It goes through the months, as the next three through their tables.
+    pub fn months_of(&self, commodity: usize) -> usize
+        ensures { result ≡ count_by (λ m. m.commodity == commodity) self.now.months }
+    {
+        self.months
+            .iter()
+            .filter(|month| month.commodity == commodity)
+            .count()
+    }
+
+    /// How many contracts a commodity has.
+    pub fn contracts_of(&self, commodity: usize) -> usize
+        ensures { result ≡ count_by (λ c. c.commodity == commodity) self.now.contracts }
+    {
+        self.contracts
+            .iter()
+            .filter(|contract| contract.commodity == commodity)
+            .count()
+    }
+
+    /// How many intracommodity spreads a commodity has.
+    pub fn spreads_of(&self, commodity: usize) -> usize
+        ensures { result ≡ count_by (λ s. s.commodity == commodity) self.now.spreads }
+    {
+        self.spreads
+            .iter()
+            .filter(|spread| spread.commodity == commodity)
+            .count()
+    }
+
+    /// How many spot month charges a commodity has, at most one.
+    pub fn spots_of(&self, commodity: usize) -> usize
+        ensures { result ≡ count_by (λ s. s.commodity == commodity) self.now.spots }
+    {
+        self.spots
+            .iter()
+            .filter(|spot| spot.commodity == commodity)
+            .count()
     }
 
     /// The number of commodities, at most 256.

@@ -1,0 +1,116 @@
+-- What deltas come to, and how large they are.
+use Rattle.std.proofs.Common.{◌≡◌, ◌≢◌, ℕ, zero, suc, ◌-◌, ◌*◌, ◌<◌, ◌≤◌, ◌^◌, List, [], length, take, pos, ℤ, ap, ◌∙◌, arith, take_all, add-one, unsigned_abs}
+use Rattle.std.specs.Prelude.{◌*ℤ◌, ◌==◌, if◌then◌else◌, nat_lt}
+use Rattle.std.specs.List.{count_by}
+use Rattle.std.proofs.lemmas.Int.{ints}
+use Rattle.std.proofs.lemmas.List.FromFn.{fill_by_all}
+use Rattle.std.proofs.lemmas.Slice.Zip.{length-zip}
+use Rattle.mgn_num.specs.Signed.{signed_sum_by, signed_sum_below, sum_below}
+use Rattle.mgn_num.proofs.SignedLemmas.{size-*ℤ-le}
+use Rattle.mgn_params.specs.declared.tables.Contract.{Contract}
+use Rattle.mgn_params.specs.declared.tables.Month.{Month}
+use Rattle.mgn_params.specs.Deltas.{month_share, month_delta, net_share, net_delta, long_share, short_share, start_of, starts_of}
+use Rattle.mgn_params.specs.Limits.{IsContract, IsWithinLimits}
+use Rattle.mgn_params.specs.Positions.{Position, positions, IsNet}
+use Rattle.mgn_params.specs.Scan.{value_at}
+use Rattle.mgn_params.specs.Tables.{Tables, contract_at, no_contract, month_at}
+use Rattle.mgn_plain.specs.Kept.{start_share, month_start, month_net, month_net_share, leg_of, legs_row}
+use Rattle.mgn_plain.specs.Parts.{AreDeltas, AreNets}
+use Rattle.mgn_params.proofs.PositionLemmas.{position_sum_more}
+use Rattle.mgn_plain.proofs.PositionLemmas.{share_sum_by_count, month_share_small}
+use Rattle.mgn_plain.proofs.SumLemmas.{sum_below_same, signed_sum_below_same, sum_below_le, sum_below_none, signed_sum_below_none, sum_below_grown, signed_sum_below_grown, sum_below_one, signed_sum_below_one, sum_below_if}
+
+-- a month counts for at most its delta's size
+pub start_share_small : (month : Month) (delta : ℤ) (g leg : ℕ) → start_share month delta g leg ≤ unsigned_abs delta
+start_share_small month delta g leg = grind (arith, ints)
+
+-- what a leg starts with, summed over the months with their deltas
+pub start_is : (t : Tables) (nets deltas : List ℤ) (g leg : ℕ) → AreDeltas t nets deltas → sum_below (month_start t.months deltas g leg) (length t.months) ≡ start_of t.months (positions t.contracts nets) g leg
+start_is t nets deltas g leg are =
+    let held : List Position = positions t.contracts nets in
+    sum_below_same (month_start t.months deltas g leg) (λ m. start_share (month_at t.months m) (month_delta held m) g leg) (length t.months) (λ m h. ap (λ (d : ℤ). start_share (month_at t.months m) d g leg) (are.each m h))
+    ∙ sum_below_if (nat_lt leg 8) (long_share t.months held g leg) (short_share t.months held g (leg - 8)) (length t.months)
+
+-- the row of what the 16 legs start with
+pub starts_are : (t : Tables) (nets deltas : List ℤ) (starts : List (List ℕ)) (g : ℕ) → AreDeltas t nets deltas → length (legs_row starts g) ≡ 16 → ((leg : ℕ) → leg < 16 → leg_of starts g leg ≡ sum_below (month_start t.months deltas g leg) (length t.months)) → legs_row starts g ≡ starts_of t.months (positions t.contracts nets) g
+unfolding starts_of
+starts_are t nets deltas starts g are long each =
+    fill_by_all (start_of t.months (positions t.contracts nets) g) (legs_row starts g) 16 0 long (λ leg h. each leg h ∙ start_is t nets deltas g leg are)
+
+-- the net delta of a commodity, summed over the months with their deltas
+pub net_is : (t : Tables) (nets deltas : List ℤ) (g : ℕ) → AreDeltas t nets deltas → signed_sum_below (month_net_share t.months deltas g) (length t.months) ≡ net_delta t.months (positions t.contracts nets) g
+net_is t nets deltas g are =
+    signed_sum_below_same (month_net_share t.months deltas g) (net_share t.months (positions t.contracts nets) g) (length t.months) (λ m h. ap (λ (d : ℤ). month_net (month_at t.months m) d g) (are.each m h))
+
+-- the sizes of all month deltas together are at most 10^12 for each position
+month_sizes : (t : Tables) (nets : List ℤ) (i : ℕ) → IsWithinLimits t → AreNets t nets → i ≤ length t.contracts → sum_below (λ m. unsigned_abs (month_delta (take i (positions t.contracts nets)) m)) (length t.months) ≤ i * 10 ^ 12
+month_sizes t nets zero limits are h =
+    omega (arith, sum_below_none (λ m. unsigned_abs (month_delta (take 0 (positions t.contracts nets)) m)) (length t.months) (λ m p. omega (arith, ints)))
+month_sizes t nets (suc i) limits are h =
+    let held : List Position = positions t.contracts nets in
+    let c : Contract = contract_at t.contracts i in
+    let n : ℤ = value_at nets i in
+    let inside : i < length t.contracts = omega arith in
+    let before = month_sizes t nets i limits are (omega arith) in
+    let share : ℕ → ℕ = λ m. unsigned_abs (month_share m (c, n)) in
+    let small = month_share_small (length t.commodities) t.months c.month c n (limits.contracts i no_contract inside) (are.small i (pos 0) (omega (arith, are.one_each))) in
+    let one = sum_below_one share c.month (length t.months) (λ m other. grind arith) in
+    let grown = sum_below_grown (λ m. unsigned_abs (month_delta (take i held) m)) (λ m. unsigned_abs (month_delta (take (suc i) held) m)) share (length t.months) (λ m p. let more = rw add-one at (position_sum_more (month_share m) t.contracts nets i inside are.one_each) in omega (arith, ints, more)) in
+    omega (arith, before, small, one, grown)
+
+-- no leg starts with more than 10^16
+pub start_small : (t : Tables) (nets : List ℤ) (g leg : ℕ) → IsWithinLimits t → AreNets t nets → start_of t.months (positions t.contracts nets) g leg ≤ 10 ^ 16
+start_small t nets g leg limits are =
+    let held : List Position = positions t.contracts nets in
+    let n = length t.contracts in
+    let all = ap (λ (ps : List Position). sum_below (λ m. unsigned_abs (month_delta ps m)) (length t.months)) (take_all n held (omega (arith, length-zip t.contracts nets))) in
+    let sizes = month_sizes t nets n limits are (omega arith) in
+    let is = sum_below_if (nat_lt leg 8) (long_share t.months held g leg) (short_share t.months held g (leg - 8)) (length t.months) in
+    let le = sum_below_le (λ m. start_share (month_at t.months m) (month_delta held m) g leg) (λ m. unsigned_abs (month_delta held m)) (length t.months) (λ m h. start_share_small (month_at t.months m) (month_delta held m) g leg) in
+    let few = limits.few_contracts in
+    omega (arith, all, sizes, is, le, few)
+
+-- what a position counts for in the net delta of its commodity
+net_share_of : ℕ → Position → ℤ
+net_share_of g p = if p.0.commodity == g then p.1 *ℤ p.0.delta else pos 0
+
+-- the net delta is a sum over the positions, since each month is of its contracts' commodity
+net_more : (t : Tables) (nets : List ℤ) (g i : ℕ) → IsWithinLimits t → AreNets t nets → i ≤ length t.contracts → net_delta t.months (take i (positions t.contracts nets)) g ≡ signed_sum_by (net_share_of g) (take i (positions t.contracts nets))
+unfolding net_share_of
+net_more t nets g zero limits are h = signed_sum_below_none (net_share t.months [] g) (length t.months) (λ m p. grind arith)
+net_more t nets g (suc i) limits are h =
+    let held : List Position = positions t.contracts nets in
+    let c : Contract = contract_at t.contracts i in
+    let n : ℤ = value_at nets i in
+    let inside : i < length t.contracts = omega arith in
+    let before = net_more t nets g i limits are (omega arith) in
+    let limit = limits.contracts i no_contract inside in
+    let own = limit.own_month in
+    let share : ℕ → ℤ = λ m. if (month_at t.months m).commodity == g then month_share m (c, n) else pos 0 in
+    let one = signed_sum_below_one share c.month (length t.months) limit.month (λ m other. grind arith) in
+    let grown = signed_sum_below_grown (net_share t.months (take i held) g) (net_share t.months (take (suc i) held) g) share (length t.months) (λ m p. let more = rw add-one at (position_sum_more (month_share m) t.contracts nets i inside are.one_each) in grind (arith, ints, more)) in
+    let more = rw add-one at (position_sum_more (net_share_of g) t.contracts nets i inside are.one_each) in
+    let is : share c.month ≡ net_share_of g (c, n) = grind (arith, own) in
+    omega (arith, ints, before, one, grown, more, is)
+
+net_share_small : (commodities : ℕ) (months : List Month) (g : ℕ) (c : Contract) (n : ℤ) → IsContract commodities months c → IsNet n → unsigned_abs (net_share_of g (c, n)) ≤ 10 ^ 12
+unfolding net_share_of
+net_share_small commodities months g c n limits small =
+    let product = size-*ℤ-le n c.delta (10 ^ 7) (10 ^ 5) small limits.delta in
+    grind (arith, ints, product)
+
+net_share_out : (g : ℕ) (c : Contract) (n : ℤ) → c.commodity ≢ g → net_share_of g (c, n) ≡ pos 0
+unfolding net_share_of
+net_share_out g c n e = grind arith
+
+-- no net delta is larger than the 256 contracts of a commodity at their limits
+pub net_small : (t : Tables) (nets : List ℤ) (g : ℕ) → IsWithinLimits t → AreNets t nets → unsigned_abs (net_delta t.months (positions t.contracts nets) g) ≤ 256 * 10 ^ 12
+net_small t nets g limits are =
+    let held : List Position = positions t.contracts nets in
+    let n = length t.contracts in
+    let all = ap (λ (ps : List Position). net_delta t.months ps g) (take_all n held (omega (arith, length-zip t.contracts nets))) in
+    let is = net_more t nets g n limits are (omega arith) in
+    let small = share_sum_by_count (net_share_of g) g (10 ^ 12) t.contracts nets n are.one_each (net_share_out g) (λ k h. net_share_small (length t.commodities) t.months g (contract_at t.contracts k) (value_at nets k) (limits.contracts k no_contract h) (are.small k (pos 0) (omega (arith, are.one_each)))) (omega arith) in
+    let every = ap (λ (cs : List Contract). count_by (λ (c : Contract). c.commodity == g) cs) (take_all n t.contracts (omega arith)) in
+    let few = limits.few_contracts_in_each g in
+    omega (arith, ints, all, is, small, every, few)

@@ -1,0 +1,112 @@
+-- From the rows that loops fill to the words of the definitions.
+use Rattle.std.proofs.Common.{◌≡◌, ℕ, ◌*◌, ◌<◌, ◌≤◌, ◌^◌, List, length, ⊎_elim, ap, ◌∙◌, sym, arith, refl, map, pos, ℤ, unsigned_abs}
+use Rattle.std.specs.Int.{int_max}
+use Rattle.mgn_plain.specs.Figures.{commodity_figures}
+use Rattle.mgn_plain.specs.declared.commodity.CommodityFigures.{CommodityFigures}
+use Rattle.std.specs.Prelude.{◌+ℤ◌, ◌-ℤ◌, slice_index, Result, Ok, Err, IfOk}
+use Rattle.std.specs.List.{range_with_len}
+use Rattle.std.proofs.lemmas.Bool.{cases_lt}
+use Rattle.std.proofs.lemmas.Int.{ints}
+use Rattle.std.proofs.lemmas.List.{get_or_default, get_or_past}
+use Rattle.std.proofs.lemmas.List.FromFn.{fill_by_all}
+use Rattle.mgn_params.specs.Credits.{credits_of}
+use Rattle.mgn_params.specs.Deltas.{net_delta}
+use Rattle.mgn_params.specs.Limits.{IsWithinLimits}
+use Rattle.mgn_params.specs.Positions.{Position, positions}
+use Rattle.mgn_params.specs.Requirement.{credit, credits, intra_charge, minimum, price_risk2_of, risk, scan_of, spot_charge}
+use Rattle.mgn_params.specs.Scan.{active, price_risk2, scan_risk, scenario_total, value_at}
+use Rattle.mgn_params.specs.Spot.{spot_charge_of, spot_of}
+use Rattle.mgn_params.specs.Stages.{charges_of, stages_of}
+use Rattle.mgn_params.specs.Tables.{Tables}
+use Rattle.mgn_plain.specs.Kept.{leg_of, legs_row, total_of, totals_of}
+use Rattle.mgn_plain.specs.Parts.{AreCharges, AreChargesFrom, AreCredits, AreCreditsFrom, AreDeltas, AreNetDeltas, AreParts, AreRisks, AreStarts, AreTotals}
+use Rattle.mgn_plain.specs.Rests.{AreCreditNumbers}
+use Rattle.mgn_plain.proofs.DeltaLemmas.{net_is, net_small, start_is, start_small, starts_are}
+use Rattle.mgn_plain.proofs.PositionLemmas.{scenario_total_small}
+use Rattle.mgn_plain.proofs.ScanLemmas.{active_same, scan_risk_same, price_risk2_same, price_risk2_small}
+use Rattle.mgn_plain.proofs.StageLemmas.{charges_of-small, kept_charge_is, stages_of-are, stages_of-few}
+
+-- no kept total is large
+pub total_small : (t : Tables) (nets : List ℤ) (rows : List (List ℤ)) (g s : ℕ) → IsWithinLimits t → AreTotals t nets rows → g < length t.commodities → s < 16 → unsigned_abs (total_of rows g s) ≤ 256 * 10 ^ 15
+total_small t nets rows g s limits are h k =
+    omega (arith, ints, are.each g s h k, scenario_total_small t nets g s limits are.of_nets)
+
+-- no kept start is large
+pub kept_start_small : (t : Tables) (nets deltas : List ℤ) (starts : List (List ℕ)) (g leg : ℕ) → IsWithinLimits t → AreDeltas t nets deltas → AreStarts t deltas starts → g < length t.commodities → leg < 16 → leg_of starts g leg ≤ 10 ^ 16
+kept_start_small t nets deltas starts g leg limits are from h k =
+    omega (arith, from.each g leg h k, start_is t nets deltas g leg are, start_small t nets g leg limits are.of_nets)
+
+-- charges from the starts are those of the definitions
+pub charges_are : (t : Tables) (nets deltas : List ℤ) (starts : List (List ℕ)) (intra spot : List ℕ) → IsWithinLimits t → AreDeltas t nets deltas → AreStarts t deltas starts → AreChargesFrom t starts intra spot → AreCharges t nets intra spot
+unfolding intra_charge spot_charge
+charges_are t nets deltas starts intra spot limits are from charged =
+    let row = λ (g : ℕ) (h : g < length t.commodities). starts_are t nets deltas starts g are (from.sixteen g h) (λ leg k. from.each g leg h k) in
+    let stages = λ (g : ℕ). stages_of-are (length t.commodities) t.spreads g limits.spreads in
+    record {
+      one_intra_each = charged.one_intra_each;
+      one_spot_each = charged.one_spot_each;
+      intra_is = λ g h. charged.intra_is g h ∙ ap (λ (xs : List ℕ). charges_of xs (stages_of t.spreads g)) (row g h);
+      spot_is = λ g h. charged.spot_is g h ∙ kept_charge_is (legs_row starts g) (stages_of t.spreads g) (spot_of t.spots g) (from.sixteen g h) (stages g) ∙ ap (λ (xs : List ℕ). spot_charge_of xs (stages_of t.spreads g) (spot_of t.spots g)) (row g h);
+      intra_small = λ g h.
+          let low = charges_of-small (legs_row starts g) (stages_of t.spreads g) (stages g) (λ k. ⊎_elim (λ inside. kept_start_small t nets deltas starts g k limits are from h inside) (λ past. rw (get_or_past (legs_row starts g) k 0 (omega (arith, from.sixteen g h, past))) (omega arith)) (cases_lt k 16)) in
+          omega (arith, charged.intra_is g h, low, stages_of-few t.spreads g, limits.few_spreads_in_each g);
+      spot_small = charged.spot_small;
+    }
+
+-- the numbers that credits are worked out from are within their limits
+pub credit_numbers : (t : Tables) (nets deltas row : List ℤ) (totals : List (List ℤ)) (risks : List ℕ) → IsWithinLimits t → AreDeltas t nets deltas → AreTotals t nets totals → AreNetDeltas t deltas row → AreRisks totals risks → AreCreditNumbers row risks
+credit_numbers t nets deltas row totals risks limits are totalled netted priced = record {
+  one_each = priced.one_each ∙ totalled.one_row_each ∙ sym netted.one_each;
+  small_deltas = λ k d h.
+      let low : k < length t.commodities = omega (arith, netted.one_each) in
+      let small = net_small t nets k limits are.of_nets in
+      rw (get_or_default row k d (pos 0) h) (omega (arith, ints, netted.each k low, net_is t nets deltas k are, small));
+  small_risks = λ g.
+      ⊎_elim
+      (λ (inside : g < length totals).
+      let low : g < length t.commodities = omega (arith, totalled.one_row_each) in
+      let small = price_risk2_small (total_of totals g) (256 * 10 ^ 15) (λ s h. total_small t nets totals g s limits totalled low h) in
+      omega (arith, priced.each g inside, small))
+      (λ past. rw (get_or_past risks g 0 (omega (arith, priced.one_each, past))) (omega arith))
+      (cases_lt g (length totals));
+}
+
+-- credits from those numbers are those of the definitions
+pub credits_are : (t : Tables) (nets deltas row : List ℤ) (totals : List (List ℤ)) (risks credited : List ℕ) → AreDeltas t nets deltas → AreTotals t nets totals → AreNetDeltas t deltas row → AreRisks totals risks → AreCreditsFrom t row risks credited → AreCredits t nets credited
+unfolding credits
+credits_are t nets deltas row totals risks credited are totalled netted priced from =
+    let held : List Position = positions t.contracts nets in
+    let n = length t.commodities in
+    let rests : row ≡ map (net_delta t.months held) (range_with_len 0 n) = fill_by_all (net_delta t.months held) row n (pos 0) netted.one_each (λ g h. netted.each g h ∙ net_is t nets deltas g are) in
+    let prices : risks ≡ map (price_risk2_of held) (range_with_len 0 n) =
+    fill_by_all (price_risk2_of held) risks n 0 (priced.one_each ∙ totalled.one_row_each) (λ g h. priced.each g (omega (arith, totalled.one_row_each)) ∙ ap unsigned_abs (price_risk2_same (total_of totals g) (scenario_total g held) (λ s k. totalled.each g s h k))) in
+    record {
+      is = from.is ∙ ap (λ (xs : List ℤ). credits_of xs risks t.credits) rests ∙ ap (λ (xs : List ℕ). credits_of (map (net_delta t.months held) (range_with_len 0 n)) xs t.credits) prices;
+      one_each = from.one_each;
+      small = from.small;
+    }
+
+-- what follows from what an `Ok` holds
+pub if_ok_along : {T E : Type 0} → (r : Result T E) (P Q : T → Type 0) → ((x : T) → P x → Q x) → IfOk r P → IfOk r Q
+if_ok_along (Ok x) P Q along h = along x h
+if_ok_along (Err e) P Q along h = h
+
+-- the figures from the rows are those of the definitions
+pub figures_are : (t : Tables) (nets : List ℤ) (rows : List (List ℤ)) (row : List ℤ) (intra spot credited least : List ℕ) (g : ℕ) → (scan : ℤ) (a : ℕ) (x i s c m r : ℤ) → AreParts t nets rows intra spot credited least → g < length t.commodities → row ≡ totals_of rows g → scan ≡ scan_risk (value_at row) → a ≡ active (value_at row) → x ≡ price_risk2 (value_at row) → i ≡ pos (slice_index intra g) → s ≡ pos (slice_index spot g) → c ≡ pos (slice_index credited g) → m ≡ pos (slice_index least g) → r ≡ int_max (scan +ℤ i +ℤ s -ℤ c) m → let built : CommodityFigures = record { scan = scan; active = a; price_risk2 = x; intra = i; spot = s; credit = c; minimum = m; risk = r } in built ≡ commodity_figures t (positions t.contracts nets) g
+unfolding commodity_figures risk
+figures_are t nets rows row intra spot credited least g scan a x i s c m r are h read scanned acted priced charged spotted creditted lowest risked =
+    let held : List Position = positions t.contracts nets in
+    let same : (k : ℕ) → k < 16 → value_at row k ≡ scenario_total g held k = λ k p. ap (λ (xs : List ℤ). value_at xs k) read ∙ are.totals.each g k h p in
+    let scan_is : scan ≡ scan_of held g = scanned ∙ scan_risk_same (value_at row) (scenario_total g held) same in
+    let active_is : a ≡ active (scenario_total g held) = acted ∙ active_same (value_at row) (scenario_total g held) same in
+    let price_is : x ≡ price_risk2 (scenario_total g held) = priced ∙ price_risk2_same (value_at row) (scenario_total g held) same in
+    let intra_is : i ≡ pos (intra_charge t held g) = charged ∙ ap pos (are.charges.intra_is g h) in
+    let spot_is : s ≡ pos (spot_charge t held g) = spotted ∙ ap pos (are.charges.spot_is g h) in
+    let credit_is : c ≡ pos (credit t held g) = creditted ∙ ap (λ (xs : List ℕ). pos (slice_index xs g)) are.credits.is in
+    let minimum_is : m ≡ pos (minimum t held g) = lowest ∙ ap pos (are.minimums.each g h) in
+    rw (risked, scan_is, active_is, price_is, intra_is, spot_is, credit_is, minimum_is) refl
+
+-- the risk among the figures of a commodity
+pub risk_is : (t : Tables) (held : List Position) (g : ℕ) → (commodity_figures t held g).risk ≡ risk t held g
+unfolding commodity_figures
+risk_is t held g = refl

@@ -1,0 +1,5 @@
+-- How the rows of a calculation are kept.
+pub mod Figures
+pub mod Kept
+pub mod Parts
+pub mod Rests

@@ -1,0 +1,194 @@
+ghost use Rattle.std.specs.Prelude.{◌≡◌, ℕ, ◌*◌, ◌<◌, ◌≤◌, ◌^◌, ℤ, pos, ◌+ℤ◌, ◌-ℤ◌, ◌≤ℤ◌, List, unsigned_abs, length, slice_index, map, All, IfOk};
+ghost use Rattle.std.specs.Int.{int_max};
+ghost use Rattle.mgn_num.specs.Signed.{signed_sum_below};
+ghost use Rattle.mgn_params.specs.Positions.{IsNet, positions};
+ghost use Rattle.mgn_params.specs.Requirement.{commodities_of, requirement, risk};
+ghost use Rattle.mgn_plain.specs.Figures.{commodity_figures, figures_of};
+ghost use Rattle.mgn_plain.specs.Parts.{AreNets, AreParts};
+
+use crate::commodity::CommodityFigures;
+use crate::options::option_value;
+use crate::parts::{minimum_row, month_deltas, total_rows, work_out_charges, work_out_credits};
+use crate::scan::{scan_figures, totals_row};
+use crate::whole::Figures;
+use mgn_num::{Cents, Quantity};
+use mgn_params::{ParamSet, Work};
+use std::alloc::{AllocError, Global};
+
+// What the figures of the commodities are worked out from: rows with an entry for each commodity.
+#[derive(Drop)]
+struct Parts {
+    totals: Vec<[Cents; 16]>,
+    intra: Vec<u128>,
+    spot: Vec<u128>,
+    credits: Vec<u128>,
+    minimums: Vec<u128>,
+}
+
+// One pass over the contracts for each kind of row, then one over the months, the spreads and the commodities.
+fn work_out(
+    alloc: Global,
+    set: &ParamSet,
+    nets: &[Quantity],
+    work: &mut Work,
+) -> Result<Parts, AllocError>
+    requires { AreNets set.now nets.now }
+    ensures { IfOk result (λ p.
+        AreParts set.now nets.now p.totals.items p.intra.items p.spot.items p.credits.items p.minimums.items) }
+{
+    let totals = total_rows(alloc, set, nets, work)?;
+    let deltas = month_deltas(alloc, set, nets)?;
+    let charges = work_out_charges(alloc, set, &deltas)?;
+    let credits = work_out_credits(alloc, set, &deltas, &totals)?;
+    let minimums = minimum_row(alloc, set, nets)?;
+    Ok(Parts {
+        totals,
+        intra: charges.intra,
+        spot: charges.spot,
+        credits,
+        minimums,
+    })
+}
+
+// A number of a row of cents.
+fn cents_at(row: &[u128], commodity: usize) -> Cents
+    requires commodity { commodity < length row.now }
+    requires small { slice_index row.now commodity ≤ 10 ^ 36 }
+    ensures { result ≡ pos (slice_index row.now commodity) }
+{
+    Cents::new(row[commodity] as i128)
+}
+
+// Scan risk and charges less the credit, and at least the minimum.
+fn risk_of(scan: Cents, intra: Cents, spot: Cents, credit: Cents, minimum: Cents) -> Cents
+    requires scan { unsigned_abs scan ≤ 256 * 10 ^ 15 }
+    requires intra { unsigned_abs intra ≤ 64 * 10 ^ 25 }
+    requires spot { unsigned_abs spot ≤ 10 ^ 23 }
+    requires credit { unsigned_abs credit ≤ 256 * 10 ^ 33 }
+    requires a_credit { pos 0 ≤ℤ credit }
+    requires minimum { unsigned_abs minimum ≤ 10 ^ 20 }
+    requires a_minimum { pos 0 ≤ℤ minimum }
+    ensures risk { result ≡ int_max (scan +ℤ intra +ℤ spot -ℤ credit) minimum }
+    ensures small { unsigned_abs result ≤ 10 ^ 27 }
+{
+    let spread = scan.plus(intra).plus(spot).minus(credit);
+    spread.larger(minimum)
+}
+
+#[tactic(auto, using(crate::proofs::PartLemmas::total_small))]
+// The figures of a commodity.
+fn figures_of(set: &ParamSet, parts: &Parts, commodity: usize) -> CommodityFigures
+    requires parts { (nets : List ℤ) × AreParts set.now nets parts.now.totals.items parts.now.intra.items parts.now.spot.items parts.now.credits.items parts.now.minimums.items }
+    requires commodity { commodity < length set.now.commodities }
+    ensures figures { (nets : List ℤ) →
+        AreParts set.now nets parts.now.totals.items parts.now.intra.items parts.now.spot.items parts.now.credits.items parts.now.minimums.items →
+        result ≡ commodity_figures set.now (positions set.now.contracts nets) commodity }
+    ensures small { unsigned_abs result.risk ≤ 10 ^ 27 }
+{
+    set.limits();
+    let scan = scan_figures(totals_row(&parts.totals, commodity));
+    let intra = cents_at(&parts.intra, commodity);
+    let spot = cents_at(&parts.spot, commodity);
+    let credit = cents_at(&parts.credits, commodity);
+    let minimum = cents_at(&parts.minimums, commodity);
+    CommodityFigures {
+        scan: scan.scan,
+        active: scan.active,
+        price_risk2: scan.price_risk2,
+        intra,
+        spot,
+        credit,
+        minimum,
+        risk: risk_of(scan.scan, intra, spot, credit, minimum),
+    }
+}
+
+#[tactic(auto, using(mgn_num::proofs::SignedLemmas::signed_sum_below_more, crate::proofs::PartLemmas::risk_is))]
+// The sum of the commodities' risks.
+fn sum_of_risks(set: &ParamSet, parts: &Parts) -> Cents
+    requires { (nets : List ℤ) × AreParts set.now nets parts.now.totals.items parts.now.intra.items parts.now.spot.items parts.now.credits.items parts.now.minimums.items }
+    ensures sum { (nets : List ℤ) →
+        AreParts set.now nets parts.now.totals.items parts.now.intra.items parts.now.spot.items parts.now.credits.items parts.now.minimums.items →
+        result ≡ signed_sum_below (risk set.now (positions set.now.contracts nets)) (length set.now.commodities) }
+    ensures small { unsigned_abs result ≤ 256 * 10 ^ 27 }
+{
+    let mut total = Cents::ZERO;
+    for g in 0..set.commodity_count() {
+        total = total.plus(figures_of(set, parts, g).risk);
+    }
+    total
+}
+
+#[tactic(auto, unfolding(mgn_params::specs::Requirement::requirement))]
+// The sum of the risks less the net option value, or 0 where that is negative.
+fn requirement_of(set: &ParamSet, nets: &[Quantity], parts: &Parts) -> Cents
+    requires nets { AreNets set.now nets.now }
+    requires parts { AreParts set.now nets.now parts.now.totals.items parts.now.intra.items parts.now.spot.items parts.now.credits.items parts.now.minimums.items }
+    ensures requirement { result ≡ requirement set.now nets.now }
+    ensures small { unsigned_abs result ≤ 10 ^ 30 }
+{
+    let risks = sum_of_risks(set, parts);
+    risks.minus(option_value(set, nets)).or_zero()
+}
+
+/// What the nets require under the set, in whole cents, worked out anew: one net for each contract of the set in file
+/// order, each at most 10,000,000 in size.
+///
+/// It is 0 to 10^30. An error says that memory was refused, and nothing else fails. Each array of a contract with a
+/// net other than 0 is read once and counted in `work`.
+pub fn requirement(
+    alloc: Global,
+    set: &ParamSet,
+    nets: &[Quantity],
+    work: &mut Work,
+) -> Result<Cents, AllocError>
+    requires one_each { length nets.now ≡ length set.now.contracts }
+    requires nets { All IsNet nets.now }
+    ensures ok { IfOk result (λ r. r ≡ requirement set.now nets.now) }
+    ensures small { IfOk result (λ r. unsigned_abs r ≤ 10 ^ 30) }
+{
+    let parts = work_out(alloc, set, nets, work)?;
+    Ok(requirement_of(set, nets, &parts))
+}
+
+// The figures of the commodities, in file order.
+fn list_figures(
+    alloc: Global,
+    set: &ParamSet,
+    parts: &Parts,
+) -> Result<Vec<CommodityFigures>, AllocError>
+    requires { (nets : List ℤ) × AreParts set.now nets parts.now.totals.items parts.now.intra.items parts.now.spot.items parts.now.credits.items parts.now.minimums.items }
+    ensures { IfOk result (λ list. (nets : List ℤ) →
+        AreParts set.now nets parts.now.totals.items parts.now.intra.items parts.now.spot.items parts.now.credits.items parts.now.minimums.items →
+        list.items ≡ map (commodity_figures set.now (positions set.now.contracts nets)) (commodities_of set.now)) }
+{
+    let count = set.commodity_count();
+    let mut list = Vec::with_capacity(alloc, count)?;
+    for g in 0..count {
+        list.push_reserved(figures_of(set, parts, g));
+    }
+    Ok(list)
+}
+
+/// All figures of the nets under the set, worked out anew: one net for each contract of the set in file order, each at
+/// most 10,000,000 in size.
+///
+/// An error says that memory was refused, and nothing else fails. Each array of a contract with a net other than 0 is
+/// read once and counted in `work`.
+#[tactic(auto, unfolding(crate::specs::Figures::figures_of))]
+pub fn figures(
+    alloc: Global,
+    set: &ParamSet,
+    nets: &[Quantity],
+    work: &mut Work,
+) -> Result<Figures, AllocError>
+    requires one_each { length nets.now ≡ length set.now.contracts }
+    requires nets { All IsNet nets.now }
+    ensures ok { IfOk result (λ f. f ≡ figures_of set.now nets.now) }
+    ensures small { IfOk result (λ f. unsigned_abs f.requirement ≤ 10 ^ 30) }
+{
+    let parts = work_out(alloc, set, nets, work)?;
+    let commodities = list_figures(alloc, set, &parts)?;
+    let requirement = requirement_of(set, nets, &parts);
+    Ok(Figures::new(commodities, option_value(set, nets), requirement))
+}

@@ -1,0 +1,18 @@
+//! The margin calculation of a list of nets, worked out anew from a set.
+#![tactic(auto)]
+
+mod calculation;
+mod commodity;
+mod credits;
+mod deltas;
+mod options;
+mod parts;
+mod rows;
+mod scan;
+mod spot;
+mod stages;
+mod whole;
+
+pub use calculation::{figures, requirement};
+pub use commodity::CommodityFigures;
+pub use whole::Figures;

@@ -1,0 +1,22 @@
+ghost use Rattle.std.specs.Prelude.{◌≡◌, ◌<◌, length, replicate, IfOk};
+ghost use Rattle.mgn_params.specs.Scan.{value_at};
+
+use mgn_num::Quantity;
+use std::alloc::{AllocError, Global};
+
+// A row of equal values.
+pub(crate) fn filled<T: Copy>(alloc: Global, count: usize, value: T) -> Result<Vec<T>, AllocError>
+    ensures { IfOk result (λ row. row.items ≡ replicate count value) }
+{
+    let mut row = Vec::new(alloc);
+    row.resize(count, value)?;
+    Ok(row)
+}
+
+// The net of a contract.
+pub(crate) fn net_at(nets: &[Quantity], contract: usize) -> Quantity
+    requires { contract < length nets.now }
+    ensures { result ≡ value_at nets.now contract }
+{
+    nets[contract]
+}

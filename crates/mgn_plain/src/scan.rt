@@ -1,0 +1,177 @@
+ghost use Rattle.std.specs.Prelude.{◌≡◌, ℕ, ◌+◌, ◌*◌, ◌<◌, ◌≤◌, ◌^◌, ℤ, pos, ◌+ℤ◌, ◌*ℤ◌, unsigned_abs, length, All, replicate, slice_index};
+ghost use Rattle.std.specs.Int.{int_max};
+ghost use Rattle.mgn_params.specs.Tables.{contract_at};
+ghost use Rattle.mgn_params.specs.Positions.{positions, IsNet};
+ghost use Rattle.mgn_params.specs.Scan.{value_at, scenario_share, scenario_total, active, scan_risk, pair_of, price_risk2, price_risk2_at};
+ghost use Rattle.mgn_plain.specs.Kept.{total_of, totals_of};
+
+use crate::rows::net_at;
+use mgn_num::{Cents, Quantity};
+use mgn_params::{ParamSet, Work};
+
+// The total of one scenario.
+fn total_at(totals: &[Cents; 16], scenario: usize) -> Cents
+    requires { scenario < 16 }
+    ensures { result ≡ value_at totals.now scenario }
+{
+    totals[scenario]
+}
+
+// A total and a net at an array's value more.
+fn plus_scaled(total: Cents, net: Quantity, value: &i64) -> Cents
+    requires total { unsigned_abs total ≤ 10 ^ 30 }
+    requires net { IsNet net }
+    requires value { unsigned_abs value.now ≤ 10 ^ 8 }
+    ensures { result ≡ total +ℤ net *ℤ value.now }
+{
+    total.plus(Cents::product(net, *value))
+}
+
+// Adds a net of a contract to the totals of the 16 scenarios.
+fn add_scaled(totals: &mut [Cents; 16], array: &[i64; 16], net: Quantity)
+    requires room { (s : ℕ) → s < 16 → unsigned_abs (value_at totals.old s) ≤ 10 ^ 30 }
+    requires array { (s : ℕ) → s < 16 → unsigned_abs (value_at array.now s) ≤ 10 ^ 8 }
+    requires net { IsNet net }
+    ensures { (s : ℕ) → s < 16 →
+        value_at totals.new s ≡ value_at totals.old s +ℤ net *ℤ value_at array.now s }
+{
+    for s in 0..16 {
+        totals[s] = plus_scaled(total_at(totals, s), net, &array[s]);
+    }
+}
+
+// The lowest-numbered scenario with the largest total.
+fn active_scenario(totals: &[Cents; 16]) -> usize
+    ensures active { result ≡ active (value_at totals.now) }
+    ensures scenario { result < 16 }
+{
+    let mut best = 0;
+    for s in 1..16 {
+        if total_at(totals, s).is_above(total_at(totals, best)) {
+            best = s;
+        }
+    }
+    best
+}
+
+// Adds what a position in the contract at `i` counts for.
+fn add_position(
+    totals: &mut [[Cents; 16]],
+    set: &ParamSet,
+    i: usize,
+    net: Quantity,
+    work: &mut Work,
+)
+    requires contract { i < length set.now.contracts }
+    requires net { IsNet net }
+    requires one_each { length totals.old ≡ length set.now.commodities }
+    requires room { (g s : ℕ) → g < length totals.old → s < 16 → unsigned_abs (total_of totals.old g s) ≤ 10 ^ 30 }
+    ensures one_each { length totals.new ≡ length totals.old }
+    ensures totals { (g s : ℕ) → g < length totals.old → s < 16 →
+        total_of totals.new g s ≡ total_of totals.old g s +ℤ scenario_share g s (contract_at set.now.contracts i, net) }
+{
+    set.limits();
+    if net != Quantity::ZERO {
+        let row = &mut totals[set.contract_at(i).commodity];
+        add_scaled(row, set.array(i, work), net);
+    }
+}
+
+#[tactic(auto, using(mgn_params::proofs::PositionLemmas::position_sum_more, mgn_params::proofs::PositionLemmas::position_sum_all, crate::proofs::PositionLemmas::scenario_share_small))]
+// Adds up the totals of the 16 scenarios of each commodity, one net for each contract of the set.
+pub(crate) fn add_positions(
+    totals: &mut [[Cents; 16]],
+    set: &ParamSet,
+    nets: &[Quantity],
+    work: &mut Work,
+)
+    requires one_each { length nets.now ≡ length set.now.contracts }
+    requires nets { All IsNet nets.now }
+    requires zero { totals.old ≡ replicate (length set.now.commodities) (replicate 16 (pos 0)) }
+    ensures one_each { length totals.new ≡ length set.now.commodities }
+    ensures totals { (g s : ℕ) → g < length set.now.commodities → s < 16 →
+        total_of totals.new g s ≡ scenario_total g (positions set.now.contracts nets.now) s }
+{
+    set.limits();
+    for i in 0..set.contract_count() {
+        add_position(totals, set, i, net_at(nets, i), work);
+    }
+}
+
+// The other scenario of the same price move.
+fn pair_of_scenario(scenario: usize) -> usize
+    requires { scenario < 16 }
+    ensures pair { result ≡ pair_of scenario }
+    ensures scenario { result < 16 }
+{
+    if scenario < 14 {
+        if scenario % 2 == 0 {
+            scenario + 1
+        } else {
+            scenario - 1
+        }
+    } else {
+        scenario
+    }
+}
+
+// Twice the price risk, from the totals and the active scenario.
+fn doubled_price_risk(totals: &[Cents; 16], active: usize) -> Cents
+    requires small { (s : ℕ) → s < 16 → unsigned_abs (value_at totals.now s) ≤ 256 * 10 ^ 15 }
+    requires active { active < 16 }
+    ensures { result ≡ price_risk2_at (value_at totals.now) active }
+{
+    let own = total_at(totals, active);
+    if !own.is_above(Cents::ZERO) {
+        return Cents::ZERO;
+    }
+    let pair = total_at(totals, pair_of_scenario(active));
+    let first = total_at(totals, 0);
+    let second = total_at(totals, 1);
+    own.plus(pair).minus(first).minus(second).or_zero()
+}
+
+// The scan risk of a commodity, its active scenario and twice its price risk.
+#[derive(Clone, Copy)]
+pub(crate) struct ScanFigures {
+    pub scan: Cents,
+    pub active: usize,
+    pub price_risk2: Cents,
+}
+
+// The scan figures of the totals of a commodity.
+pub(crate) fn scan_figures(totals: &[Cents; 16]) -> ScanFigures
+    requires { (s : ℕ) → s < 16 → unsigned_abs (value_at totals.now s) ≤ 256 * 10 ^ 15 }
+    ensures scan { result.scan ≡ scan_risk (value_at totals.now) }
+    ensures active { result.active ≡ active (value_at totals.now) }
+    ensures price_risk2 { result.price_risk2 ≡ price_risk2 (value_at totals.now) }
+    ensures small_scan { unsigned_abs result.scan ≤ 256 * 10 ^ 15 }
+{
+    let active = active_scenario(totals);
+    ScanFigures {
+        scan: total_at(totals, active).or_zero(),
+        active,
+        price_risk2: doubled_price_risk(totals, active),
+    }
+}
+
+// The totals of a commodity.
+pub(crate) fn totals_row(totals: &[[Cents; 16]], commodity: usize) -> &[Cents; 16]
+    requires { commodity < length totals.now }
+    ensures { result.now ≡ totals_of totals.now commodity }
+{
+    &totals[commodity]
+}
+
+// Twice the price risk of each commodity.
+pub(crate) fn fill_price_risks(risks: &mut [u128], totals: &[[Cents; 16]])
+    requires one_each { length risks.old ≡ length totals.now }
+    requires small { (g s : ℕ) → g < length totals.now → s < 16 → unsigned_abs (total_of totals.now g s) ≤ 256 * 10 ^ 15 }
+    ensures one_each { length risks.new ≡ length totals.now }
+    ensures risks { (g : ℕ) → g < length totals.now →
+        slice_index risks.new g ≡ unsigned_abs (price_risk2 (total_of totals.now g)) }
+{
+    for g in 0..totals.len() {
+        risks[g] = scan_figures(totals_row(totals, g)).price_risk2.size();
+    }
+}
