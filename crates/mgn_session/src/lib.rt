@@ -5,6 +5,8 @@ pub mod counted;
 pub mod exec;
 pub mod fault;
 pub mod run;
+#[cfg(test)]
+mod tests;
 mod work;
 
 pub use counted::Counted;
