@@ -1,0 +1,3 @@
+-- What the contracts of sessions cite.
+pub mod Device
+pub mod Session
