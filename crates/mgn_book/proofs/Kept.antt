@@ -1,6 +1,6 @@
 -- Rows that are kept under a change of one account.
-use Rattle.std.proofs.Common.{◌≡◌, ◌≢◌, ℕ, ◌<◌, ◌≤◌, ◌^◌, List, [], length, map, set, get_or, refl, sym, ap, ◌∙◌, subst, arith, All, Bool, true, false, position}
-use Rattle.std.specs.Prelude.{ℤ, pos, ◌+ℤ◌, unsigned_abs, nat_eq, nat_lt, Some, None, Option, Ok, Err, IfSome}
+use Rattle.std.proofs.Common.{◌≡◌, ◌≢◌, ℕ, ◌<◌, ◌≤◌, ◌^◌, List, [], length, set, get_or, refl, sym, ap, ◌∙◌, subst, arith, All, Bool, true, false}
+use Rattle.std.specs.Prelude.{ℤ, pos, ◌+ℤ◌, unsigned_abs, nat_eq, nat_lt, Some, None, Option, Ok, IfSome}
 use Rattle.std.specs.Str.{bytes_eq}
 use Rattle.std.proofs.lemmas.Bool.Decides.{nat_tests}
 use Rattle.std.proofs.lemmas.List.{get_or-set_same, get_or-set_other, get_or_default, length-set, length-map}
@@ -19,11 +19,11 @@ use Rattle.mgn_machine.specs.declared.row.Row.{Row}
 use Rattle.mgn_machine.specs.declared.row.Priced.{Priced}
 use Rattle.mgn_machine.specs.declared.row.Side.{Side}
 use Rattle.mgn_machine.specs.State.{AccountState, IsAccount, no_account}
-use Rattle.mgn_machine.specs.Portfolios.{Portfolio, OnlyLots, WithBuys, WithSales, WithAll, sizes_of}
+use Rattle.mgn_machine.specs.Portfolios.{Portfolio, OnlyLots, WithBuys, WithSales, WithAll}
 use Rattle.mgn_machine.specs.Refusals.{found, contract_of, account_names}
 use Rattle.mgn_machine.specs.Rows.{IsRow, IsSide, IsRoomy, Prices, PricesSide, Moves, MovesWorth, more_at, row_of, row_with, row_with_worth, side_of, side_with, side_with_worth}
 use Rattle.mgn_machine.proofs.Bounded.{worth-le}
-use Rattle.mgn_machine.proofs.Moved.{Stands, Replaces, row-moved, row-moved_worth, row-apart, roomy}
+use Rattle.mgn_machine.proofs.Moved.{Stands, row-moved, row-moved_worth, row-apart, roomy}
 use Rattle.mgn_book.specs.Floors.{Floor, floor, IsKept, IsUnitRow}
 
 -- The contract of a name.

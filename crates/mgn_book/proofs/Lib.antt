@@ -1,2 +1,6 @@
+pub mod Histories
 pub mod Kept
+pub mod Opened
+pub mod Postings
+pub mod Steps
 pub mod Trades

@@ -1,30 +1,28 @@
 -- What a trade owes: room for its size, and rows that are kept.
-use Rattle.std.proofs.Common.{◌≡◌, ℕ, ◌<◌, ◌≤◌, ◌^◌, List, length, set, get_or, refl, sym, ap, ◌∙◌, subst, arith, All, Bool, true, false}
-use Rattle.std.specs.Prelude.{ℤ, pos, ◌+ℤ◌, unsigned_abs, Ok, int_lt, nat_le}
+use Rattle.std.proofs.Common.{◌≡◌, ℕ, ◌<◌, ◌^◌, List, length, set, get_or, refl, sym, ap, ◌∙◌, subst, arith, Bool, false}
+use Rattle.std.specs.Prelude.{ℤ, pos, ◌+ℤ◌, unsigned_abs, Ok, int_lt}
 use Rattle.std.proofs.lemmas.Int.{ints}
 use Rattle.std.proofs.lemmas.Bool.Decides.{nat_tests}
-use Rattle.std.proofs.lemmas.List.{set-get_or, get_or_default}
+use Rattle.std.proofs.lemmas.List.{get_or_default}
 use Rattle.std.proofs.lemmas.List.Elements.{All-get_or}
 use Rattle.mgn_params.specs.Limits.{IsWithinLimits}
 use Rattle.mgn_params.specs.Positions.{IsNet}
 use Rattle.mgn_params.specs.Tables.{Tables}
-use Rattle.mgn_lots.specs.declared.lot.Lot.{Lot}
 use Rattle.mgn_lots.specs.Lots.{IsLot}
 use Rattle.mgn_lots.specs.Refusals.{is_full}
-use Rattle.mgn_machine.specs.declared.change.Change.{Change}
 use Rattle.mgn_machine.specs.declared.origin.Origin.{Origin}
 use Rattle.mgn_machine.specs.declared.row.Row.{Row}
 use Rattle.mgn_machine.specs.declared.row.Priced.{Priced}
-use Rattle.mgn_machine.specs.State.{AccountState, IsAccount, no_account, account_at, with_lot}
-use Rattle.mgn_machine.specs.Portfolios.{account_size, unit_sum}
+use Rattle.mgn_machine.specs.State.{AccountState, IsAccount, no_account, with_lot}
+use Rattle.mgn_machine.specs.Portfolios.{account_size}
 use Rattle.mgn_machine.specs.Refusals.{contract_of, is_over, unit_size}
-use Rattle.mgn_machine.specs.Rows.{IsRoomy, Prices, Moves, more_at, lot_change, row_of, row_with}
+use Rattle.mgn_machine.specs.Rows.{IsRoomy, Prices, lot_change, row_with}
 use Rattle.mgn_machine.specs.Step.{traded_lot}
 use Rattle.mgn_machine.proofs.AccountMoves.{traded-moves, lot-limits}
 use Rattle.mgn_machine.proofs.Moved.{Stands}
 use Rattle.mgn_machine.proofs.Sums.{row_by-at}
 use Rattle.mgn_book.specs.Floors.{Floor, floor, IsKept, IsUnitRow}
-use Rattle.mgn_book.proofs.Kept.{Changes, contract-stands, stands-inside, row-there, room-by, sizes-more, own-moved, kept-changed}
+use Rattle.mgn_book.proofs.Kept.{contract-stands, stands-inside, row-there, room-by, sizes-more, own-moved, kept-changed}
 
 -- what is known where a lot is about to be entered: the account and its row as they were read
 pub record Trading (set' : Tables) (f : Floor) (k i : ℕ) (a : AccountState) (r : Row) (number : ℕ) (contract : List ℕ) (quantity : ℤ) (premium : ℕ) : Type 0 where
@@ -82,14 +80,3 @@ trade-kept set' origins accounts rows closed k i a b r row number contract quant
 
     limits : IsAccount (with_lot a (traded_lot number contract quantity premium))
     limits = lot-limits a (traded_lot number contract quantity premium) (subst IsAccount (sym there) (All-get_or IsAccount accounts k no_account trading.account trading.kept.accounts)) lot (grind (arith, nat_tests, few))
-
--- nothing has changed, though it was written
-pub kept-same : (set' : Tables) (origins : List Origin) (accounts : List AccountState) (rows : List Row) (closed : Bool) (k u : ℕ) (a b : AccountState) (r row : Row) → IsKept set' (floor origins accounts rows closed) → a ≡ get_or accounts k a → b ≡ a → r ≡ get_or rows u r → row ≡ r → IsKept set' (floor origins (set accounts k b) (set rows u row) closed)
-kept-same set' origins accounts rows closed k u a b r row kept was same is unchanged =
-    subst (λ (x : List AccountState × List Row). IsKept set' (floor origins x.0 x.1 closed)) (λ j. (sym accounts_are j, sym rows_are j)) kept
-  where
-    accounts_are : set accounts k b ≡ accounts
-    accounts_are = ap (λ (x : AccountState). set accounts k x) (same ∙ was) ∙ set-get_or accounts k a
-
-    rows_are : set rows u row ≡ rows
-    rows_are = ap (λ (x : Row). set rows u x) (unchanged ∙ is) ∙ set-get_or rows u r

@@ -1,7 +1,8 @@
-ghost use Rattle.std.specs.Prelude.{◌≡◌, Ok, OnOk, OnErr, false, length};
+ghost use Rattle.std.specs.Prelude.{◌≡◌, ◌≤◌, ◌-ℤ◌, pos, Ok, OnOk, OnErr, false, length};
 ghost use Rattle.mgn_lots.specs.Refusals.{has_number, is_full};
-ghost use Rattle.mgn_machine.specs.State.{with_lot};
-ghost use Rattle.mgn_machine.specs.Rows.{IsRow, IsChange, IsRoomy, Prices, row_with};
+ghost use Rattle.mgn_machine.specs.State.{with_lot, with_amount};
+ghost use Rattle.mgn_coll.specs.Posted.{IsPosted, most_of, value};
+ghost use Rattle.mgn_machine.specs.Rows.{IsRow, IsChange, IsRoomy, Prices, row_with, row_with_worth};
 ghost use Rattle.mgn_machine.specs.declared.row.Priced.{Priced};
 ghost use Rattle.mgn_machine.specs.Step.{traded, traded_lot, posted};
 ghost use Rattle.mgn_lots.specs.Lots.{IsLot};
@@ -62,6 +63,57 @@ impl Register {
         }
         Ok(())
     }
+
+    /// Cash or units of a class are posted.
+    pub fn post(
+        &mut self,
+        set: &ParamSet,
+        account: AccountName,
+        class: &ClassName,
+        units: Units,
+    ) -> Result<(), Fault>
+        requires kept { IsKept set.now self.old }
+        ensures kept { IsKept set.now self.new }
+        ensures steps { Steps (posted set.now self.old.state account class.now units) result self.old self.new }
+    {
+        set.limits();
+        let (place, amount) = match self.post_place(set, account, class, units) {
+            Ok(found) => found,
+            Err(why) => return Err(Fault::Refused(why)),
+        };
+        let owner = &mut self.accounts[place];
+        let row = &mut self.rows[owner.unit()];
+        match write_amount(set, owner, row, class, amount) {
+            Ok(()) => {}
+            Err(_) => return Err(Fault::Memory),
+        }
+        Ok(())
+    }
+}
+
+// Another amount of a class in an account, and what the row of its unit gains by it; at an error nothing has changed in
+// either.
+fn write_amount(
+    set: &ParamSet,
+    owner: &mut Account,
+    row: &mut Row,
+    class: &ClassName,
+    amount: u64,
+) -> Result<(), AllocError>
+    requires row { IsRow set.now row.old }
+    requires amount { amount ≤ most_of class.now }
+    ensures written { OnOk result (owner.new ≡ with_amount owner.old class.now amount) }
+    ensures limits { OnOk result (IsPosted owner.new.collateral.cash owner.new.collateral.units) }
+    ensures gained { OnOk result (row.new ≡ row_with_worth (pos (value set.now.classes owner.new.collateral) -ℤ pos (value set.now.classes owner.old.collateral)) row.old) }
+    ensures same_account { OnErr result (owner.new ≡ owner.old) }
+    ensures same_row { OnErr result (row.new ≡ row.old) }
+{
+    let before = owner.collateral_value(set);
+    owner.write_amount(class, amount)?;
+    owner.collateral_limits();
+    let after = owner.collateral_value(set);
+    row.gain_worth(set, after.minus(before));
+    Ok(())
 }
 
 // A lot more in an account, and its change in the row of the unit; at an error nothing has changed in either.

@@ -1,16 +1,19 @@
-ghost use Rattle.std.specs.Prelude.{◌≡◌, ◌<◌, ◌≤ℤ◌, ◌+ℤ◌, ◌^◌, ◌==◌, ◌||◌, IfOk, OnOk, Ok, length, pos, false, unsigned_abs, int_lt};
+ghost use Rattle.std.specs.Prelude.{◌≡◌, ◌<◌, ◌≤◌, ◌≤ℤ◌, ◌+ℤ◌, ◌^◌, ◌==◌, ◌||◌, IfOk, OnOk, Ok, [], length, pos, false, unsigned_abs, int_lt};
 ghost use Rattle.mgn_params.specs.Tables.{contract_at, is_premium};
 ghost use Rattle.mgn_lots.specs.Refusals.{has_number, is_full};
 ghost use Rattle.mgn_machine.specs.State.{account_at};
-ghost use Rattle.mgn_machine.specs.Refusals.{place_of, contract_of, premium_fits, refuse_if, is_over, lot_places, trade_places, unit_size};
+ghost use Rattle.mgn_machine.specs.Refusals.{place_of, contract_of, premium_fits, refuse_if, is_over, lot_places, trade_places, unit_size, post_refusal, post_place};
+ghost use Rattle.mgn_coll.specs.Posted.{most_of};
 ghost use Rattle.mgn_params.specs.Positions.{IsNet};
 ghost use Rattle.mgn_machine.specs.Rows.{row_of, IsRow};
-ghost use Rattle.mgn_book.specs.Floors.{IsKept};
+ghost use Rattle.mgn_book.specs.Floors.{IsKept, floor};
 
-use mgn_ids::{AccountName, ContractName, LotId, LotQuantity, Places, Premium};
+use mgn_coll::PostFault;
+use mgn_ids::{AccountName, ClassName, ContractName, LotId, LotQuantity, Places, Premium, Units};
 use mgn_machine::{Account, Origin, Refusal, Row};
 use mgn_num::Quantity;
 use mgn_params::{ParamSet, Style};
+use std::alloc::Global;
 use std::marker::Model;
 
 /// How much the live lots and holds of a unit may come to in one contract.
@@ -77,6 +80,20 @@ fn is_premium(style: Style) -> bool
 }
 
 impl Register {
+    /// The machine before its first command. Takes no memory.
+    pub fn new(alloc: Global, set: &ParamSet) -> Register
+        ensures empty { result ≡ floor [] [] [] false }
+        ensures kept { IsKept set.now result }
+    {
+        Register {
+            origins: Vec::new(alloc),
+            names: Places::new(alloc),
+            accounts: Vec::new(alloc),
+            rows: Vec::new(alloc),
+            closed: false,
+        }
+    }
+
     // Where an account stands.
     #[tactic(auto, unfolding(mgn_machine::specs::Refusals::place_of))]
     pub(crate) fn place(&self, account: AccountName) -> Result<usize, Refusal>
@@ -169,6 +186,37 @@ impl Register {
         let size = self.unit_size(set, place, contract, i);
         refuse_if(is_over(size, quantity), Refusal::Limit)?;
         Ok((place, i))
+    }
+
+    // Where an account stands that posts, and what is then posted of the class, if it is not refused.
+    #[tactic(auto, unfolding(mgn_machine::specs::Refusals::post_place))]
+    pub(crate) fn post_place(
+        &self,
+        set: &ParamSet,
+        account: AccountName,
+        class: &ClassName,
+        units: Units,
+    ) -> Result<(usize, u64), Refusal>
+        ensures place { result ≡ post_place set.now self.now.state account class.now units }
+        ensures account { IfOk result (λ at. at.0 < length self.now.state.accounts) }
+        ensures most { IfOk result (λ at. at.1 ≤ most_of class.now) }
+    {
+        refuse_if(self.closed, Refusal::Closed)?;
+        let place = self.place(account)?;
+        let owner = &self.accounts[place];
+        let amount = post_refusal(owner.amount_posted(set, class, units))?;
+        Ok((place, amount))
+    }
+}
+
+// The refusal of what cannot be posted. Want of memory is none.
+fn post_refusal(amount: Result<u64, PostFault>) -> Result<u64, Refusal>
+    ensures { result ≡ post_refusal amount }
+{
+    match amount {
+        Ok(amount) => Ok(amount),
+        Err(PostFault::NoClass) => Err(Refusal::NoClass),
+        Err(PostFault::Limit) | Err(PostFault::Memory) => Err(Refusal::Limit),
     }
 }
 

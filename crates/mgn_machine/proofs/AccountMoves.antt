@@ -1,13 +1,13 @@
 -- What happens to one account, as a change of the rows.
-use Rattle.std.proofs.Common.{◌≡◌, ℕ, ◌+◌, ◌^◌, ◌≤◌, ◌<◌, List, [], ◌∷◌, ◌++◌, length, Bool, true, false, refl, sym, ap, ◌∙◌, arith, All, length-append}
-use Rattle.std.specs.Prelude.{ℤ, pos, neg_ℤ, ◌+ℤ◌, ◌-ℤ◌, ◌*ℤ◌, if◌then◌else◌, unsigned_abs}
+use Rattle.std.proofs.Common.{◌≡◌, ℕ, ◌+◌, ◌<◌, List, [], ◌∷◌, length, Bool, true, false, refl, ap, ◌∙◌, arith, length-append}
+use Rattle.std.specs.Prelude.{ℤ, pos, neg_ℤ, ◌+ℤ◌, ◌*ℤ◌, if◌then◌else◌, unsigned_abs}
 use Rattle.std.specs.Str.{bytes_eq}
 use Rattle.std.proofs.lemmas.Int.{ints}
 use Rattle.std.proofs.lemmas.List.Elements.{All-push}
 use Rattle.mgn_params.specs.Tables.{Tables}
 use Rattle.mgn_coll.specs.Posted.{IsPosted, value}
 use Rattle.mgn_lots.specs.declared.lot.Lot.{Lot}
-use Rattle.mgn_lots.specs.Lots.{gross, IsLot, is_live, lot_share, lot_cost, live_quantity}
+use Rattle.mgn_lots.specs.Lots.{gross, IsLot, is_live, lot_share, lot_cost}
 use Rattle.mgn_lots.proofs.Shares.{net-push, gross-push, signed_sum_by-push}
 use Rattle.mgn_machine.specs.declared.change.Change.{Change}
 use Rattle.mgn_machine.specs.State.{AccountState, IsAccount, with_lot, with_amount}

@@ -1,8 +1,7 @@
 -- How large the numbers of a row can be.
-use Rattle.std.proofs.Common.{◌≡◌, ℕ, zero, suc, ◌+◌, ◌-◌, ◌*◌, ◌/◌, ◌^◌, ◌<◌, ◌≤◌, List, [], ◌∷◌, length, map, Bool, true, false, not, set, get_or, refl, sym, ap, ◌∙◌, subst, arith, All}
-use Rattle.std.specs.Prelude.{ℤ, pos, ◌+ℤ◌, ◌-ℤ◌, ◌*ℤ◌, ◌≤ℤ◌, ◌==◌, nat_eq, if◌then◌else◌, unsigned_abs}
+use Rattle.std.proofs.Common.{ℕ, ◌+◌, ◌-◌, ◌*◌, ◌^◌, ◌<◌, ◌≤◌, List, [], ◌∷◌, length, Bool, true, false, not, get_or, sym, subst, arith, All}
+use Rattle.std.specs.Prelude.{ℤ, pos, ◌*ℤ◌, ◌≤ℤ◌, nat_eq, if◌then◌else◌, unsigned_abs}
 use Rattle.std.specs.Str.{bytes_eq}
-use Rattle.std.specs.List.{sum_by, AllByRecursion}
 use Rattle.std.proofs.lemmas.Int.{ints}
 use Rattle.std.proofs.lemmas.List.{get_or-map, length-map}
 use Rattle.std.proofs.lemmas.List.Sums.{sum_by-cons, sum_by-le}
@@ -16,14 +15,14 @@ use Rattle.mgn_params.specs.declared.tables.Class.{Class}
 use Rattle.mgn_params.specs.Limits.{IsWithinLimits, IsClass}
 use Rattle.mgn_coll.specs.Posted.{Posted, IsPosted, value, class_value, units_of}
 use Rattle.mgn_lots.specs.declared.lot.Lot.{Lot}
-use Rattle.mgn_lots.specs.Lots.{IsLot, lot_cost, live_quantity, cost, net, gross}
+use Rattle.mgn_lots.specs.Lots.{IsLot, lot_cost, live_quantity, cost}
 use Rattle.mgn_lots.proofs.Shares.{net-le-gross, live_quantity-le, size-signed_sum_by}
 use Rattle.mgn_holds.specs.declared.held.Held.{Held}
 use Rattle.mgn_holds.specs.declared.side.Side.{Side}
 use Rattle.mgn_holds.specs.declared.side.Side.TheVariants.{Buys, Sales}
 use Rattle.mgn_holds.specs.Holds.{IsHeld, is_buy, is_on, held_share, held_net, held_cost, premium}
 use Rattle.mgn_machine.specs.State.{AccountState, IsAccount}
-use Rattle.mgn_machine.specs.Portfolios.{Portfolio, OnlyLots, WithBuys, WithSales, WithAll, held_in, held_size, premium_in, account_net, account_size, account_value, account_worth, in_unit, unit_sum, row_by, nets_of, sizes_of}
+use Rattle.mgn_machine.specs.Portfolios.{Portfolio, OnlyLots, WithBuys, WithSales, WithAll, held_size, account_net, account_size, account_worth, in_unit, unit_sum, nets_of, sizes_of}
 
 -- Nets are no larger than sizes.
 

@@ -1,5 +1,5 @@
 -- A history with one more entry.
-use Rattle.std.proofs.Common.{◌≡◌, ℕ, ◌+◌, List, [], ◌∷◌, ◌++◌, sym, subst, refl, append_assoc}
+use Rattle.std.proofs.Common.{◌≡◌, List, [], ◌∷◌, ◌++◌, sym, subst, refl, append_assoc}
 use Rattle.std.proofs.lemmas.List.{append-nil}
 use Rattle.mgn_params.specs.Tables.{Tables}
 use Rattle.mgn_machine.specs.declared.entry.Entry.{Entry}

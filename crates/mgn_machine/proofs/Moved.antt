@@ -1,5 +1,5 @@
 -- What a change of one account does to the rows of margin units.
-use Rattle.std.proofs.Common.{◌≡◌, ◌≢◌, ℕ, ◌+◌, ◌<◌, List, length, map, set, get_or, refl, sym, ap, ◌∙◌, subst, position, All}
+use Rattle.std.proofs.Common.{◌≡◌, ◌≢◌, ℕ, ◌<◌, List, length, map, set, get_or, sym, subst, position, All}
 use Rattle.std.specs.Prelude.{ℤ, pos, ◌+ℤ◌, if◌then◌else◌, Some}
 use Rattle.std.specs.List.{IsDistinct}
 use Rattle.std.specs.Str.{bytes_eq}
@@ -7,9 +7,6 @@ use Rattle.mgn_params.specs.declared.tables.Contract.{Contract}
 use Rattle.mgn_params.specs.Limits.{contract_names}
 use Rattle.mgn_params.specs.Tables.{Tables}
 use Rattle.mgn_machine.specs.declared.change.Change.{Change}
-use Rattle.mgn_machine.specs.declared.change.Gain.{Gain}
-use Rattle.mgn_machine.specs.declared.row.Row.{Row}
-use Rattle.mgn_machine.specs.declared.row.Side.{Side}
 use Rattle.mgn_machine.specs.State.{AccountState, no_account}
 use Rattle.mgn_machine.specs.Portfolios.{Portfolio, OnlyLots, WithBuys, WithSales, WithAll, unit_sum, account_net, account_size, account_worth, row_by, nets_of, sizes_of}
 use Rattle.mgn_machine.specs.Rows.{priced, side_of, row_of, more_at, side_with, row_with, gain_of, side_with_worth, row_with_worth, Moves, MovesWorth, IsRoomy}

@@ -7,12 +7,11 @@ use Rattle.mgn_machine.specs.declared.command.Command.{Command}
 use Rattle.mgn_machine.specs.declared.command.Command.TheVariants.{NewOrigin, NewAccount, Trade, Post, Ask, EndDay}
 use Rattle.mgn_machine.specs.declared.command.Mode.{Mode}
 use Rattle.mgn_machine.specs.declared.command.Mode.TheVariants.{Gross, Net}
-use Rattle.mgn_machine.specs.declared.origin.Origin.{Origin}
 use Rattle.mgn_machine.specs.declared.reply.Refusal.{Refusal}
 use Rattle.mgn_machine.specs.declared.reply.Refusal.TheVariants.{Closed}
 use Rattle.mgn_machine.specs.declared.reply.Reply.{Reply}
 use Rattle.mgn_machine.specs.declared.reply.Reply.TheVariants.{Done, Figures, Refused}
-use Rattle.mgn_machine.specs.State.{State, AccountState, account_at, put, fresh, with_lot, with_amount}
+use Rattle.mgn_machine.specs.State.{State, account_at, put, fresh, with_lot, with_amount}
 use Rattle.mgn_machine.specs.Rows.{row_of, figures_of}
 use Rattle.mgn_machine.specs.Refusals.{◌>>=◌, refuse_if, origin_fits, open_unit, place_of, trade_places, post_place}
 

@@ -1,5 +1,5 @@
 ghost use Rattle.std.specs.Prelude.{◌≡◌, ◌≤◌, ◌*◌, ◌^◌, pos, OnOk, OnErr, IfOk, false};
-ghost use Rattle.mgn_coll.specs.Posted.{most_of, value};
+ghost use Rattle.mgn_coll.specs.Posted.{IsPosted, most_of, value};
 ghost use Rattle.mgn_coll.specs.Refusals.{amount_posted};
 ghost use Rattle.mgn_lots.specs.Lots.{IsLot};
 ghost use Rattle.mgn_lots.specs.Refusals.{has_number, is_full};
@@ -59,6 +59,13 @@ impl Account {
         ensures most { value set.now.classes self.now.collateral ≤ 2 * 10 ^ 18 }
     {
         self.collateral.value(set)
+    }
+
+    /// What every collateral meets: no work, a fact for callers.
+    pub fn collateral_limits(&self)
+        ensures { IsPosted self.now.collateral.cash self.now.collateral.units }
+    {
+        self.collateral.limits();
     }
 
     /// What would be posted of a class with units more, or why they cannot be posted.

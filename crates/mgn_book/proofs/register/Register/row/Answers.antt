@@ -1,7 +1,6 @@
-use Rattle.std.proofs.Common.{◌≡◌, ◌<◌, ap, ◌∙◌, sym, length, rules, get_or, subst}
+use Rattle.std.proofs.Common.{◌≡◌, ◌<◌, ap, ◌∙◌, length, rules, get_or, subst}
 use Rattle.std.proofs.lemmas.List.{get_or_default}
-use Rattle.mgn_machine.specs.declared.row.Row.{Row}
-use Rattle.mgn_machine.specs.Rows.{row_of, IsRow}
+use Rattle.mgn_machine.specs.Rows.{row_of}
 use Rattle.mgn_machine.specs.State.{AccountState, no_account, account_at}
 use Rattle.mgn_book.specs.Floors.{Floor, IsKept, IsUnitRow, floor}
 use Rattle.mgn_book.proofs.Kept.{row-there}

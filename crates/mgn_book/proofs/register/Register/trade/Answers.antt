@@ -1,17 +1,15 @@
-use Rattle.std.proofs.Common.{◌≡◌, ◌<◌, ap, ◌∙◌, sym, subst, length, rules, get_or, set, false}
+use Rattle.std.proofs.Common.{◌≡◌, ap, ◌∙◌, sym, subst, rules, get_or, set, false}
 use Rattle.std.proofs.lemmas.List.{get_or_default}
 use Rattle.mgn_lots.specs.Lots.{IsLot}
 use Rattle.mgn_lots.specs.Refusals.{is_full}
 use Rattle.mgn_machine.specs.declared.change.Change.{Change}
-use Rattle.mgn_machine.specs.declared.row.Row.{Row}
 use Rattle.mgn_machine.specs.declared.row.Priced.{Priced}
-use Rattle.mgn_machine.specs.Refusals.{is_over}
 use Rattle.mgn_machine.specs.Rows.{IsRoomy, Prices, lot_change, row_with}
 use Rattle.mgn_machine.specs.State.{AccountState, no_account, account_at, with_lot}
 use Rattle.mgn_machine.specs.Step.{traded_lot}
 use Rattle.mgn_book.specs.Floors.{Floor, IsKept, floor}
 use Rattle.mgn_book.proofs.Kept.{names-kept}
-use Rattle.mgn_book.proofs.Trades.{Trading, trade-roomy, trade-kept, kept-same}
+use Rattle.mgn_book.proofs.Trades.{Trading, trade-roomy, trade-kept}
 use Rattle.mgn_book.proofs.register.Register.trade.Goals as goal
 
 pub enter_lot-requires-clause-roomy : goal.enter_lot-requires-clause-roomy
