@@ -16,3 +16,6 @@ mod whole;
 pub use calculation::{figures, requirement};
 pub use commodity::CommodityFigures;
 pub use whole::Figures;
+
+#[cfg(test)]
+mod tests;
