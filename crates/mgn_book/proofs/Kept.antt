@@ -1,6 +1,6 @@
 -- Rows that are kept under a change of one account.
 use Rattle.std.proofs.Common.{◌≡◌, ◌≢◌, ℕ, ◌<◌, ◌≤◌, ◌^◌, List, [], length, set, get_or, refl, sym, ap, ◌∙◌, subst, arith, All, Bool, true, false}
-use Rattle.std.specs.Prelude.{ℤ, pos, ◌+ℤ◌, unsigned_abs, nat_eq, nat_lt, Some, None, Option, Ok, IfSome}
+use Rattle.std.specs.Prelude.{is_some, ℤ, pos, ◌+ℤ◌, unsigned_abs, nat_eq, nat_lt, Some, None, Option, Ok, IfSome}
 use Rattle.std.specs.Str.{bytes_eq}
 use Rattle.std.proofs.lemmas.Bool.Decides.{nat_tests}
 use Rattle.std.proofs.lemmas.List.{get_or-set_same, get_or-set_other, get_or_default, length-set, length-map}
@@ -20,7 +20,7 @@ use Rattle.mgn_machine.specs.declared.row.Priced.{Priced}
 use Rattle.mgn_machine.specs.declared.row.Side.{Side}
 use Rattle.mgn_machine.specs.State.{AccountState, IsAccount, no_account}
 use Rattle.mgn_machine.specs.Portfolios.{Portfolio, OnlyLots, WithBuys, WithSales, WithAll}
-use Rattle.mgn_machine.specs.Refusals.{found, contract_of, account_names}
+use Rattle.mgn_machine.specs.Refusals.{found, contract_of, account_names, has_contract, IsKnown}
 use Rattle.mgn_machine.specs.Rows.{IsRow, IsSide, IsRoomy, Prices, PricesSide, Moves, MovesWorth, more_at, row_of, row_with, row_with_worth, side_of, side_with, side_with_worth}
 use Rattle.mgn_machine.proofs.Bounded.{worth-le}
 use Rattle.mgn_machine.proofs.Moved.{Stands, row-moved, row-moved_worth, row-apart, roomy}
@@ -84,6 +84,7 @@ pub record Changes (set' : Tables) (f : Floor) (k : ℕ) (a b : AccountState) (r
   pub was : a ≡ get_or f.state.accounts k a
   pub unit : b.unit ≡ a.unit
   pub limits : IsAccount b
+  pub known : IsKnown set' b
   pub own : IsUnitRow set' (set f.state.accounts k b) a.unit row
 
 there : (set' : Tables) (f : Floor) (k : ℕ) (a b : AccountState) (row : Row) → Changes set' f k a b row → a ≡ get_or f.state.accounts k no_account
@@ -95,6 +96,7 @@ kept-changed set' origins accounts rows closed k a b row changes = record {
   few_units = omega (arith, long, kept.few_units);
   few_accounts = omega (arith, length-set accounts k b, kept.few_accounts);
   accounts = All-set IsAccount accounts k b changes.limits kept.accounts;
+  known = All-set (IsKnown set') accounts k b changes.known kept.known;
   within = subst (λ (m : ℕ). All (λ (x : AccountState). x.unit < m) (set accounts k b)) (sym long)
       (All-set (λ (x : AccountState). x.unit < length rows) accounts k b (subst (λ (m : ℕ). m < length rows) (sym changes.unit) inside) kept.within);
   netted = subst (λ (m : ℕ). All (λ (o : Origin). IfSome o.unit (λ u. u < m)) origins) (sym long) kept.netted;
@@ -223,3 +225,30 @@ own-moved_worth set' f k a b amount r within kept h was is limits moves = record
 -- The names of the accounts stay.
 pub names-kept : (names : List (List ℕ)) (accounts : List AccountState) (k : ℕ) (b d : AccountState) → names ≡ account_names accounts → b.name ≡ (get_or accounts k d).name → names ≡ account_names (set accounts k b)
 names-kept names accounts k b d are same = are ∙ sym (map-set_same (λ (a : AccountState). a.name) accounts k b d same)
+
+-- An account that is there is within the limits, and the set has its contracts.
+
+pub account-limits : (set' : Tables) (f : Floor) (k : ℕ) (a : AccountState) → IsKept set' f → k < length f.state.accounts → a ≡ get_or f.state.accounts k a → IsAccount a
+account-limits set' f k a kept h was =
+    subst IsAccount (sym (was ∙ get_or_default f.state.accounts k a no_account h)) (All-get_or IsAccount f.state.accounts k no_account h kept.accounts)
+
+pub account-known : (set' : Tables) (f : Floor) (k : ℕ) (a : AccountState) → IsKept set' f → k < length f.state.accounts → a ≡ get_or f.state.accounts k a → IsKnown set' a
+account-known set' f k a kept h was =
+    subst (IsKnown set') (sym (was ∙ get_or_default f.state.accounts k a no_account h)) (All-get_or (IsKnown set') f.state.accounts k no_account h kept.known)
+
+-- a contract that stands in the set is one of it
+pub stands-known : (set' : Tables) (contract : List ℕ) (i : ℕ) → Stands set' contract i → has_contract set' contract ≡ true
+stands-known set' contract i stands = ap is_some stands.here
+
+-- The end of the day.
+pub kept-closed : (set' : Tables) (f : Floor) → IsKept set' f → IsKept set' (floor f.state.origins f.state.accounts f.rows true)
+kept-closed set' f kept = record {
+  units = refl;
+  few_units = kept.few_units;
+  few_accounts = kept.few_accounts;
+  accounts = kept.accounts;
+  known = kept.known;
+  within = kept.within;
+  netted = kept.netted;
+  rows = kept.rows;
+}

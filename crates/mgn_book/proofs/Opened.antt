@@ -21,6 +21,7 @@ use Rattle.mgn_machine.specs.declared.origin.Origin.{Origin}
 use Rattle.mgn_machine.specs.declared.row.Row.{Row}
 use Rattle.mgn_machine.specs.State.{AccountState, IsAccount, fresh}
 use Rattle.mgn_machine.specs.Portfolios.{Portfolio, OnlyLots, WithBuys, WithSales, WithAll, account_net, account_size, account_worth, in_unit, unit_sum, row_by}
+use Rattle.mgn_machine.specs.Refusals.{IsKnown}
 use Rattle.mgn_machine.specs.Rows.{IsRow, IsSide, priced, row_of, side_of, no_row, no_side}
 use Rattle.mgn_book.specs.Floors.{floor, IsKept, IsUnitRow}
 
@@ -138,6 +139,7 @@ kept-open set' origins accounts rows closed name unit kept few inside = record {
   few_units = kept.few_units;
   few_accounts = omega (arith, length-append accounts (fresh name unit ∷ []));
   accounts = All-push IsAccount accounts (fresh name unit) kept.accounts (fresh-limits name unit);
+  known = All-push (IsKnown set') accounts (fresh name unit) kept.known record { lots = λ i d less. absurd (omega arith); holds = λ i d less. absurd (omega arith) };
   within = All-push (λ (a : AccountState). a.unit < length rows) accounts (fresh name unit) kept.within inside;
   netted = kept.netted;
   rows = λ u d less. let old = kept.rows u d less in record { is = old.is ∙ sym (fresh-row_of set' accounts u name unit); limits = old.limits };
@@ -150,6 +152,7 @@ kept-unit set' origins accounts rows closed kept few = record {
   few_units = omega (arith, long);
   few_accounts = kept.few_accounts;
   accounts = kept.accounts;
+  known = kept.known;
   within = λ k d less. omega (arith, long, kept.within k d less);
   netted = λ k d less. wider (get_or origins k d).unit (kept.netted k d less);
   rows = λ u d less. at u d (omega (arith, long, less)) (nat_lt u (length rows)) refl;
@@ -178,6 +181,7 @@ kept-origin set' origins accounts rows closed o kept inside = record {
   few_units = kept.few_units;
   few_accounts = kept.few_accounts;
   accounts = kept.accounts;
+  known = kept.known;
   within = kept.within;
   netted = All-push (λ (x : Origin). IfSome x.unit (λ u. u < length rows)) origins o kept.netted inside;
   rows = kept.rows;

@@ -11,10 +11,11 @@ use Rattle.mgn_coll.specs.Posted.{IsPosted, value}
 use Rattle.mgn_machine.specs.declared.origin.Origin.{Origin}
 use Rattle.mgn_machine.specs.declared.row.Row.{Row}
 use Rattle.mgn_machine.specs.State.{AccountState, IsAccount, no_account, with_amount}
+use Rattle.mgn_machine.specs.Refusals.{IsKnown}
 use Rattle.mgn_machine.specs.Rows.{row_with_worth}
 use Rattle.mgn_machine.proofs.AccountMoves.{amount-moves, amount-limits}
 use Rattle.mgn_book.specs.Floors.{floor, IsKept}
-use Rattle.mgn_book.proofs.Kept.{kept-changed, own-moved_worth}
+use Rattle.mgn_book.proofs.Kept.{kept-changed, own-moved_worth, account-limits, account-known}
 
 -- how much more what is posted is worth
 abbrev pub gained : Tables → AccountState → AccountState → ℤ
@@ -32,6 +33,7 @@ post-kept set' origins accounts rows closed k a b r row class amount within kept
       was = was;
       unit = refl;
       limits = limits;
+      known = record { lots = was_known.lots; holds = was_known.holds };
       own = own-moved_worth set' (floor origins accounts rows closed) k a after (gained set' a after) r within kept h was is limits
           (amount-moves set' a class amount (gained set' a after) (more (pos (value set'.classes after.collateral)) (pos (value set'.classes a.collateral))));
     })
@@ -39,11 +41,11 @@ post-kept set' origins accounts rows closed k a b r row class amount within kept
     after : AccountState
     after = with_amount a class amount
 
-    there : a ≡ get_or accounts k no_account
-    there = was ∙ get_or_default accounts k a no_account h
-
     limits : IsAccount after
-    limits = amount-limits a class amount (subst IsAccount (sym there) (All-get_or IsAccount accounts k no_account h kept.accounts)) (subst (λ (x : AccountState). IsPosted x.collateral.cash x.collateral.units) written few)
+    limits = amount-limits a class amount (account-limits set' (floor origins accounts rows closed) k a kept h was) (subst (λ (x : AccountState). IsPosted x.collateral.cash x.collateral.units) written few)
+
+    was_known : IsKnown set' a
+    was_known = account-known set' (floor origins accounts rows closed) k a kept h was
 
     worth_is : row ≡ row_with_worth (gained set' a after) r
     worth_is = worth ∙ ap (λ (x : AccountState). row_with_worth (gained set' a x) r) written

@@ -1,28 +1,29 @@
 -- What a trade owes: room for its size, and rows that are kept.
-use Rattle.std.proofs.Common.{◌≡◌, ℕ, ◌<◌, ◌^◌, List, length, set, get_or, refl, sym, ap, ◌∙◌, subst, arith, Bool, false}
+use Rattle.std.proofs.Common.{true, ◌≡◌, ℕ, ◌<◌, ◌^◌, List, length, set, get_or, refl, sym, ap, ◌∙◌, subst, arith, Bool, false}
 use Rattle.std.specs.Prelude.{ℤ, pos, ◌+ℤ◌, unsigned_abs, Ok, int_lt}
 use Rattle.std.proofs.lemmas.Int.{ints}
 use Rattle.std.proofs.lemmas.Bool.Decides.{nat_tests}
 use Rattle.std.proofs.lemmas.List.{get_or_default}
-use Rattle.std.proofs.lemmas.List.Elements.{All-get_or}
+use Rattle.std.proofs.lemmas.List.Elements.{All-push}
 use Rattle.mgn_params.specs.Limits.{IsWithinLimits}
 use Rattle.mgn_params.specs.Positions.{IsNet}
 use Rattle.mgn_params.specs.Tables.{Tables}
-use Rattle.mgn_lots.specs.Lots.{IsLot}
+use Rattle.mgn_lots.specs.declared.lot.Lot.{Lot}
+use Rattle.mgn_lots.specs.Lots.{IsLot, is_live}
 use Rattle.mgn_lots.specs.Refusals.{is_full}
 use Rattle.mgn_machine.specs.declared.origin.Origin.{Origin}
 use Rattle.mgn_machine.specs.declared.row.Row.{Row}
 use Rattle.mgn_machine.specs.declared.row.Priced.{Priced}
 use Rattle.mgn_machine.specs.State.{AccountState, IsAccount, no_account, with_lot}
 use Rattle.mgn_machine.specs.Portfolios.{account_size}
-use Rattle.mgn_machine.specs.Refusals.{contract_of, is_over, unit_size}
+use Rattle.mgn_machine.specs.Refusals.{contract_of, has_contract, is_over, unit_size, IsKnown}
 use Rattle.mgn_machine.specs.Rows.{IsRoomy, Prices, lot_change, row_with}
 use Rattle.mgn_machine.specs.Step.{traded_lot}
 use Rattle.mgn_machine.proofs.AccountMoves.{traded-moves, lot-limits}
 use Rattle.mgn_machine.proofs.Moved.{Stands}
 use Rattle.mgn_machine.proofs.Sums.{row_by-at}
 use Rattle.mgn_book.specs.Floors.{Floor, floor, IsKept, IsUnitRow}
-use Rattle.mgn_book.proofs.Kept.{contract-stands, stands-inside, row-there, room-by, sizes-more, own-moved, kept-changed}
+use Rattle.mgn_book.proofs.Kept.{contract-stands, stands-inside, row-there, room-by, sizes-more, own-moved, kept-changed, account-limits, account-known, stands-known}
 
 -- what is known where a lot is about to be entered: the account and its row as they were read
 pub record Trading (set' : Tables) (f : Floor) (k i : ℕ) (a : AccountState) (r : Row) (number : ℕ) (contract : List ℕ) (quantity : ℤ) (premium : ℕ) : Type 0 where
@@ -68,6 +69,7 @@ trade-kept set' origins accounts rows closed k i a b r row number contract quant
       was = trading.was;
       unit = refl;
       limits = limits;
+      known = known;
       own = own-moved set' f k a (with_lot a (traded_lot number contract quantity premium)) contract (lot_change i quantity premium) r priced trading.within trading.kept trading.account trading.was trading.row limits
           (contract-stands set' contract i trading.within trading.stands) (traded-moves set' a number contract i quantity premium) (trade-roomy set' f k i a r number contract quantity premium trading) prices;
     })
@@ -75,8 +77,17 @@ trade-kept set' origins accounts rows closed k i a b r row number contract quant
     f : Floor
     f = floor origins accounts rows closed
 
-    there : a ≡ get_or accounts k no_account
-    there = trading.was ∙ get_or_default accounts k a no_account trading.account
+    lot_is : Lot
+    lot_is = traded_lot number contract quantity premium
 
-    limits : IsAccount (with_lot a (traded_lot number contract quantity premium))
-    limits = lot-limits a (traded_lot number contract quantity premium) (subst IsAccount (sym there) (All-get_or IsAccount accounts k no_account trading.account trading.kept.accounts)) lot (grind (arith, nat_tests, few))
+    limits : IsAccount (with_lot a lot_is)
+    limits = lot-limits a lot_is (account-limits set' f k a trading.kept trading.account trading.was) lot (grind (arith, nat_tests, few))
+
+    was_known : IsKnown set' a
+    was_known = account-known set' f k a trading.kept trading.account trading.was
+
+    known : IsKnown set' (with_lot a lot_is)
+    known = record {
+      lots = All-push (λ (x : Lot). is_live x.mark ≡ true → has_contract set' x.contract ≡ true) a.lots lot_is was_known.lots (λ _. stands-known set' contract i (contract-stands set' contract i trading.within trading.stands));
+      holds = was_known.holds;
+    }

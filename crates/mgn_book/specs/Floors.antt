@@ -7,6 +7,7 @@ use Rattle.mgn_machine.specs.declared.reply.Reply.{Reply}
 use Rattle.mgn_machine.specs.declared.reply.Reply.TheVariants.{Done, Refused as Not}
 use Rattle.mgn_machine.specs.declared.row.Row.{Row}
 use Rattle.mgn_machine.specs.State.{State, AccountState, IsAccount}
+use Rattle.mgn_machine.specs.Refusals.{IsKnown}
 use Rattle.mgn_machine.specs.Rows.{row_of, IsRow}
 use Rattle.mgn_book.specs.declared.fault.Fault.{Fault}
 use Rattle.mgn_book.specs.declared.fault.Fault.TheVariants.{Refused, Memory}
@@ -23,12 +24,14 @@ pub record IsUnitRow (set : Tables) (accounts : List AccountState) (u : ℕ) (ro
   pub is : row ≡ row_of set accounts u
   pub limits : IsRow set row
 
--- the rows are those of the state under the set, and accounts and units are within their limits
+-- the rows are those of the state under the set, accounts and units are within their limits, and the set
+-- has the contracts of live lots and holds
 pub record IsKept (set : Tables) (f : Floor) : Type 0 where
   pub units : f.state.units ≡ length f.rows
   pub few_units : length f.rows ≤ 1024
   pub few_accounts : length f.state.accounts ≤ 1024
   pub accounts : All IsAccount f.state.accounts
+  pub known : All (IsKnown set) f.state.accounts
   pub within : All (λ (a : AccountState). a.unit < length f.rows) f.state.accounts
   pub netted : All (λ (o : Origin). IfSome o.unit (λ u. u < length f.rows)) f.state.origins
   pub rows : (u : ℕ) (d : Row) → u < length f.rows → IsUnitRow set f.state.accounts u (slice_index_or f.rows u d)

@@ -1,5 +1,5 @@
 -- Why commands are refused, in the one order in which the reasons are looked for (own profile).
-use Rattle.std.specs.Prelude.{ℕ, ◌^◌, Bool, true, false, not, ◌==◌, ◌&&◌, ◌||◌, nat_le, int_lt, if◌then◌else◌, ℤ, pos, ◌+ℤ◌, unsigned_abs, Option, None, Some, is_some, List, length, map, position, slice_index_or, codes, Result, Ok, Err}
+use Rattle.std.specs.Prelude.{◌≡◌, All, ℕ, ◌^◌, Bool, true, false, not, ◌==◌, ◌&&◌, ◌||◌, nat_le, int_lt, if◌then◌else◌, ℤ, pos, ◌+ℤ◌, unsigned_abs, Option, None, Some, is_some, List, length, map, position, slice_index_or, codes, Result, Ok, Err}
 use Rattle.std.specs.Str.{bytes_eq}
 use Rattle.std.specs.List.{list_any}
 use Rattle.mgn_params.specs.Limits.{contract_names}
@@ -7,7 +7,10 @@ use Rattle.mgn_params.specs.Tables.{Tables, contract_at, is_premium}
 use Rattle.mgn_coll.specs.declared.fault.PostFault.{PostFault}
 use Rattle.mgn_coll.specs.declared.fault.PostFault.TheVariants.{NoClass as UnknownClass, Limit as OverLimit, Memory}
 use Rattle.mgn_coll.specs.Refusals.{amount_posted}
+use Rattle.mgn_lots.specs.declared.lot.Lot.{Lot}
+use Rattle.mgn_lots.specs.Lots.{is_live}
 use Rattle.mgn_lots.specs.Refusals.{has_number, is_full}
+use Rattle.mgn_holds.specs.declared.held.Held.{Held}
 use Rattle.mgn_machine.specs.declared.command.Mode.{Mode}
 use Rattle.mgn_machine.specs.declared.command.Mode.TheVariants.{Gross, Net}
 use Rattle.mgn_machine.specs.declared.origin.Origin.{Origin}
@@ -79,6 +82,15 @@ place_of s account = found (position (bytes_eq account) (account_names s.account
 -- where a contract stands in the set
 unfoldable pub contract_of : Tables → List ℕ → Result ℕ Refusal
 contract_of set contract = found (position (bytes_eq contract) (contract_names set.contracts)) NoContract
+
+-- the set has a contract of that name
+abbrev pub has_contract : Tables → List ℕ → Bool
+has_contract set contract = is_some (position (bytes_eq contract) (contract_names set.contracts))
+
+-- the set has the contract of each live lot and of each hold of an account
+pub record IsKnown (set : Tables) (a : AccountState) : Type 0 where
+  pub lots : All (λ (x : Lot). is_live x.mark ≡ true → has_contract set x.contract ≡ true) a.lots
+  pub holds : All (λ (x : Held). has_contract set x.contract ≡ true) a.holds
 
 -- a premium other than 0 is for options of the premium style alone
 abbrev pub premium_fits : Tables → ℕ → ℕ → Bool
