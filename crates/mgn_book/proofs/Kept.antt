@@ -1,9 +1,9 @@
 -- Rows that are kept under a change of one account.
 use Rattle.std.proofs.Common.{◌≡◌, ◌≢◌, ℕ, ◌<◌, ◌≤◌, ◌^◌, List, [], length, set, get_or, refl, sym, ap, ◌∙◌, subst, arith, All, Bool, true, false}
-use Rattle.std.specs.Prelude.{is_some, ℤ, pos, ◌+ℤ◌, unsigned_abs, nat_eq, nat_lt, Some, None, Option, Ok, IfSome}
+use Rattle.std.specs.Prelude.{is_some, Err, ℤ, pos, ◌+ℤ◌, unsigned_abs, nat_eq, nat_lt, Some, None, Option, Ok, IfSome}
 use Rattle.std.specs.Str.{bytes_eq}
 use Rattle.std.proofs.lemmas.Bool.Decides.{nat_tests}
-use Rattle.std.proofs.lemmas.List.{get_or-set_same, get_or-set_other, get_or_default, length-set, length-map}
+use Rattle.std.proofs.lemmas.List.{get_or-set_same, get_or-set_other, get_or_default, set-get_or, length-set, length-map}
 use Rattle.std.proofs.lemmas.List.Elements.{All-set, All-get_or}
 use Rattle.std.proofs.lemmas.List.Quantifiers.{position-Some}
 use Rattle.std.proofs.Math.Seq.{map-set_same}
@@ -11,6 +11,7 @@ use Rattle.mgn_params.specs.declared.tables.Contract.{Contract}
 use Rattle.mgn_params.specs.Limits.{IsWithinLimits, contract_names}
 use Rattle.mgn_params.specs.Positions.{IsNet}
 use Rattle.mgn_params.specs.Tables.{Tables}
+use Rattle.mgn_lots.specs.Lots.{is_live, lot_at, no_lot}
 use Rattle.mgn_machine.specs.declared.change.Change.{Change}
 use Rattle.mgn_machine.specs.declared.change.Gain.{Gain}
 use Rattle.mgn_machine.specs.declared.origin.Origin.{Origin}
@@ -160,6 +161,19 @@ own-moved set' f k a b contract change r priced within kept h was is limits stan
     worth : (p : Portfolio) (side : Row → Side) → (side (row_of set' (set accounts k b) a.unit) ≡ side_of set' (set accounts k b) a.unit p) → unsigned_abs (side (row_with set' change r)).worth ≤ 10 ^ 24
     worth p side e = subst (λ (x : Side). unsigned_abs x.worth ≤ 10 ^ 24) (sym (ap side same ∙ e)) (side-worth-le set' (set accounts k b) a.unit p within all few)
 
+-- both together: an account and the row of its unit after a change in one contract
+pub kept-moved : (set' : Tables) (origins : List Origin) (accounts : List AccountState) (rows : List Row) (closed : Bool) (k : ℕ) (a b : AccountState) (contract : List ℕ) (change : Change) (r : Row) (priced : Priced) → IsWithinLimits set' → IsKept set' (floor origins accounts rows closed) → k < length accounts → a ≡ get_or accounts k a → r ≡ get_or rows a.unit r → IsAccount b → IsKnown set' b → Stands set' contract change.contract → Moves set' contract change a b → IsRoomy change r → Prices set' change r priced → IsKept set' (floor origins (set accounts k b) (set rows a.unit (row_with set' change r)) closed)
+kept-moved set' origins accounts rows closed k a b contract change r priced within kept h was is limits known stands moves room prices =
+    kept-changed set' origins accounts rows closed k a b (row_with set' change r) record {
+      kept = kept;
+      account = h;
+      was = was;
+      unit = moves.unit;
+      limits = limits;
+      known = known;
+      own = own-moved set' (floor origins accounts rows closed) k a b contract change r priced within kept h was is limits stands moves room prices;
+    }
+
 -- Where a change of one contract leaves the row within the limits: the sizes tell.
 pub room-by : (set' : Tables) (f : Floor) (k : ℕ) (a b : AccountState) (contract : List ℕ) (change : Change) (r : Row) → IsKept set' f → k < length f.state.accounts → a ≡ get_or f.state.accounts k a → r ≡ get_or f.rows a.unit r → Stands set' contract change.contract → Moves set' contract change a b → All IsNet (more_at r.sizes change.contract change.size) → IsRoomy change r
 room-by set' f k a b contract change r kept h was is stands moves sizes =
@@ -252,3 +266,27 @@ kept-closed set' f kept = record {
   netted = kept.netted;
   rows = kept.rows;
 }
+
+-- What was written is what was there.
+pub kept-same : (set' : Tables) (origins : List Origin) (accounts : List AccountState) (rows : List Row) (closed : Bool) (k u : ℕ) (a b : AccountState) (r row : Row) → IsKept set' (floor origins accounts rows closed) → a ≡ get_or accounts k a → b ≡ a → r ≡ get_or rows u r → row ≡ r → IsKept set' (floor origins (set accounts k b) (set rows u row) closed)
+kept-same set' origins accounts rows closed k u a b r row kept was same is unchanged =
+    subst (λ (x : List AccountState × List Row). IsKept set' (floor origins x.0 x.1 closed)) (λ j. (sym accounts_are j, sym rows_are j)) kept
+  where
+    accounts_are : set accounts k b ≡ accounts
+    accounts_are = ap (λ (x : AccountState). set accounts k x) (same ∙ was) ∙ set-get_or accounts k a
+
+    rows_are : set rows u row ≡ rows
+    rows_are = ap (λ (x : Row). set rows u x) (unchanged ∙ is) ∙ set-get_or rows u r
+
+-- The contract of a live lot stands in the set.
+
+pub lot-known : (set' : Tables) (f : Floor) (k at : ℕ) (a : AccountState) → IsKept set' f → k < length f.state.accounts → a ≡ get_or f.state.accounts k a → at < length a.lots → is_live (lot_at a.lots at).mark ≡ true → has_contract set' (lot_at a.lots at).contract ≡ true
+lot-known set' f k at a kept h was inside live = (account-known set' f k a kept h was).lots at no_lot inside live
+
+found-known : (o : Option ℕ) (why problem : Refusal) → is_some o ≡ true → found o why ≡ Err problem → ⊥
+found-known None why problem known not_there = cc
+found-known (Some i) why problem known not_there = cc
+
+pub known-stands : (set' : Tables) (contract : List ℕ) (why : Refusal) → has_contract set' contract ≡ true → contract_of set' contract ≡ Err why → ⊥
+unfolding contract_of
+known-stands set' contract why known not_there = found-known _ _ why known not_there

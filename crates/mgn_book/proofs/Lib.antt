@@ -1,3 +1,4 @@
+pub mod Busts
 pub mod Histories
 pub mod Kept
 pub mod Opened

@@ -1,11 +1,11 @@
-ghost use Rattle.std.specs.Prelude.{◌≡◌, ◌≤◌, ◌-ℤ◌, pos, Ok, OnOk, OnErr, false, length};
+ghost use Rattle.std.specs.Prelude.{◌≡◌, ◌<◌, ◌≤◌, ◌-ℤ◌, pos, Ok, OnOk, OnErr, false, true, length};
 ghost use Rattle.mgn_lots.specs.Refusals.{has_number, is_full};
-ghost use Rattle.mgn_machine.specs.State.{with_lot, with_amount};
+ghost use Rattle.mgn_machine.specs.State.{with_lot, with_bust, with_amount};
 ghost use Rattle.mgn_coll.specs.Posted.{IsPosted, most_of, value};
 ghost use Rattle.mgn_machine.specs.Rows.{IsRow, IsChange, IsRoomy, Prices, row_with, row_with_worth};
 ghost use Rattle.mgn_machine.specs.declared.row.Priced.{Priced};
-ghost use Rattle.mgn_machine.specs.Step.{traded, traded_lot, posted};
-ghost use Rattle.mgn_lots.specs.Lots.{IsLot};
+ghost use Rattle.mgn_machine.specs.Step.{traded, traded_lot, undone, posted};
+ghost use Rattle.mgn_lots.specs.Lots.{IsLot, is_live, lot_at};
 ghost use Rattle.mgn_book.specs.Floors.{IsKept, Steps};
 
 use crate::fault::Fault;
@@ -64,6 +64,34 @@ impl Register {
         Ok(())
     }
 
+    /// A traded lot is taken back.
+    pub fn bust(
+        &mut self,
+        alloc: Global,
+        set: &ParamSet,
+        account: AccountName,
+        number: LotId,
+    ) -> Result<(), Fault>
+        requires kept { IsKept set.now self.old }
+        ensures kept { IsKept set.now self.new }
+        ensures steps { Steps (undone self.old.state account number) result self.old self.new }
+    {
+        set.limits();
+        let (place, at) = match self.bust_places(account, number) {
+            Ok(found) => found,
+            Err(why) => return Err(Fault::Refused(why)),
+        };
+        let contract = self.contract_of_lot(set, place, at);
+        let owner = &mut self.accounts[place];
+        let row = &mut self.rows[owner.unit()];
+        let change = Change::of_bust(contract, owner.lot_at(at));
+        match bust_lot(alloc, set, owner, row, &change, at) {
+            Ok(()) => {}
+            Err(_) => return Err(Fault::Memory),
+        }
+        Ok(())
+    }
+
     /// Cash or units of a class are posted.
     pub fn post(
         &mut self,
@@ -89,6 +117,32 @@ impl Register {
         }
         Ok(())
     }
+}
+
+// A live lot of an account taken back, and its change in the row of the unit; at an error nothing has changed in either.
+fn bust_lot(
+    alloc: Global,
+    set: &ParamSet,
+    owner: &mut Account,
+    row: &mut Row,
+    change: &Change,
+    at: usize,
+) -> Result<(), AllocError>
+    requires row { IsRow set.now row.old }
+    requires change { IsChange set.now change.now }
+    requires roomy { IsRoomy change.now row.old }
+    requires lot { at < length owner.old.lots }
+    requires live { is_live (lot_at owner.old.lots at).mark ≡ true }
+    ensures busted { OnOk result (owner.new ≡ with_bust owner.old at) }
+    ensures changed { OnOk result (row.new ≡ row_with set.now change.now row.old) }
+    ensures priced { OnOk result ((priced : Priced) × Prices set.now change.now row.old priced) }
+    ensures same_account { OnErr result (owner.new ≡ owner.old) }
+    ensures same_row { OnErr result (row.new ≡ row.old) }
+{
+    let priced = row.priced_with(alloc, set, change, &mut Work::new())?;
+    owner.bust(at);
+    row.apply(set, change, &priced);
+    Ok(())
 }
 
 // Another amount of a class in an account, and what the row of its unit gains by it; at an error nothing has changed in

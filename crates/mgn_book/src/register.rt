@@ -1,8 +1,9 @@
-ghost use Rattle.std.specs.Prelude.{◌≡◌, ◌<◌, ◌≤◌, ◌≤ℤ◌, ◌+ℤ◌, ◌^◌, ◌==◌, ◌||◌, IfOk, OnOk, Ok, [], length, pos, false, unsigned_abs, int_lt};
+ghost use Rattle.std.specs.Prelude.{◌≡◌, ◌<◌, ◌≤◌, ◌≤ℤ◌, ◌+ℤ◌, ◌^◌, ◌==◌, ◌||◌, IfOk, OnOk, Ok, [], length, pos, false, true, unsigned_abs, int_lt};
 ghost use Rattle.mgn_params.specs.Tables.{contract_at, is_premium};
 ghost use Rattle.mgn_lots.specs.Refusals.{has_number, is_full};
 ghost use Rattle.mgn_machine.specs.State.{account_at};
-ghost use Rattle.mgn_machine.specs.Refusals.{place_of, contract_of, premium_fits, refuse_if, is_over, lot_places, trade_places, unit_size, post_refusal, post_place};
+ghost use Rattle.mgn_machine.specs.Refusals.{place_of, contract_of, has_contract, premium_fits, refuse_if, is_over, lot_places, trade_places, unit_size, bust_refusal, bust_places, post_refusal, post_place};
+ghost use Rattle.mgn_lots.specs.Lots.{is_live, lot_at};
 ghost use Rattle.mgn_coll.specs.Posted.{most_of};
 ghost use Rattle.mgn_params.specs.Positions.{IsNet};
 ghost use Rattle.mgn_machine.specs.Rows.{row_of, IsRow};
@@ -10,6 +11,7 @@ ghost use Rattle.mgn_book.specs.Floors.{IsKept, floor};
 
 use mgn_coll::PostFault;
 use mgn_ids::{AccountName, ClassName, ContractName, LotId, LotQuantity, Places, Premium, Units};
+use mgn_lots::{Mark, RemoveFault};
 use mgn_machine::{Account, Origin, Refusal, Row};
 use mgn_num::Quantity;
 use mgn_params::{ParamSet, Style};
@@ -59,6 +61,18 @@ fn contract_of(set: &ParamSet, contract: ContractName) -> Result<usize, Refusal>
     match set.contract(contract) {
         Some(place) => Ok(place),
         None => Err(Refusal::NoContract),
+    }
+}
+
+// Where a contract stands that the set has.
+fn known_contract(set: &ParamSet, contract: ContractName) -> usize
+    requires { has_contract set.now contract ≡ true }
+    ensures stands { contract_of set.now contract ≡ Ok result }
+    ensures within { result < length set.now.contracts }
+{
+    match contract_of(set, contract) {
+        Ok(place) => place,
+        Err(_) => unreachable!(),
     }
 }
 
@@ -188,6 +202,37 @@ impl Register {
         Ok((place, i))
     }
 
+    // Where an account and its traded lot stand, if the lot can be taken back.
+    #[tactic(auto, unfolding(mgn_machine::specs::Refusals::bust_places))]
+    pub(crate) fn bust_places(
+        &self,
+        account: AccountName,
+        lot: LotId,
+    ) -> Result<(usize, usize), Refusal>
+        ensures places { result ≡ bust_places self.now.state account lot }
+        ensures account { IfOk result (λ at. at.0 < length self.now.state.accounts) }
+        ensures lot { IfOk result (λ at. at.1 < length (account_at self.now.state.accounts at.0).lots) }
+        ensures traded { IfOk result (λ at. (lot_at (account_at self.now.state.accounts at.0).lots at.1).mark ≡ Mark.Traded) }
+    {
+        refuse_if(self.closed, Refusal::Closed)?;
+        let place = self.place(account)?;
+        let owner = &self.accounts[place];
+        let at = bust_refusal(owner.traded_place(lot))?;
+        Ok((place, at))
+    }
+
+    // Where the contract of a live lot stands in the set.
+    pub(crate) fn contract_of_lot(&self, set: &ParamSet, place: usize, at: usize) -> usize
+        requires kept { IsKept set.now self.now }
+        requires account { place < length self.now.state.accounts }
+        requires lot { at < length (account_at self.now.state.accounts place).lots }
+        requires live { is_live (lot_at (account_at self.now.state.accounts place).lots at).mark ≡ true }
+        ensures stands { contract_of set.now (lot_at (account_at self.now.state.accounts place).lots at).contract ≡ Ok result }
+        ensures within { result < length set.now.contracts }
+    {
+        known_contract(set, self.accounts[place].lot_at(at).contract)
+    }
+
     // Where an account stands that posts, and what is then posted of the class, if it is not refused.
     #[tactic(auto, unfolding(mgn_machine::specs::Refusals::post_place))]
     pub(crate) fn post_place(
@@ -206,6 +251,17 @@ impl Register {
         let owner = &self.accounts[place];
         let amount = post_refusal(owner.amount_posted(set, class, units))?;
         Ok((place, amount))
+    }
+}
+
+// The refusal of a lot that cannot be taken back.
+fn bust_refusal(place: Result<usize, RemoveFault>) -> Result<usize, Refusal>
+    ensures { result ≡ bust_refusal place }
+{
+    match place {
+        Ok(at) => Ok(at),
+        Err(RemoveFault::NoLot) => Err(Refusal::NoTrade),
+        Err(RemoveFault::Moved) => Err(Refusal::Moved),
     }
 }
 

@@ -65,6 +65,7 @@ pub fn step(
         Command::Trade(account, lot, contract, quantity, premium) => {
             answer_of(register.trade(alloc, set, account, lot, contract, quantity, premium))
         }
+        Command::Bust(account, lot) => answer_of(register.bust(alloc, set, account, lot)),
         Command::Post(account, class, units) => answer_of(register.post(
             set, account, &class, units,
         )),

@@ -49,7 +49,7 @@ net-within WithSales contract a = omega (arith, ints, net-le-gross contract a.lo
 net-within WithAll contract a = omega (arith, ints, net-le-gross contract a.lots, held-le contract a.holds)
 
 -- a unit's
-unit-within : (u : ℕ) (f g : AccountState → ℤ) (accounts : List AccountState) → ((a : AccountState) → pos (unsigned_abs (f a)) ≤ℤ g a) → pos (unsigned_abs (unit_sum u f accounts)) ≤ℤ unit_sum u g accounts
+pub unit-within : (u : ℕ) (f g : AccountState → ℤ) (accounts : List AccountState) → ((a : AccountState) → pos (unsigned_abs (f a)) ≤ℤ g a) → pos (unsigned_abs (unit_sum u f accounts)) ≤ℤ unit_sum u g accounts
 unit-within u f g [] within = omega (arith, ints)
 unit-within u f g (a ∷ accounts) within =
     omega (arith, ints, signed_sum_by-cons (in_unit u f) a accounts, signed_sum_by-cons (in_unit u g) a accounts, first, unit-within u f g accounts within)

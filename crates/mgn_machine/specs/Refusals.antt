@@ -9,13 +9,15 @@ use Rattle.mgn_coll.specs.declared.fault.PostFault.TheVariants.{NoClass as Unkno
 use Rattle.mgn_coll.specs.Refusals.{amount_posted}
 use Rattle.mgn_lots.specs.declared.lot.Lot.{Lot}
 use Rattle.mgn_lots.specs.Lots.{is_live}
-use Rattle.mgn_lots.specs.Refusals.{has_number, is_full}
+use Rattle.mgn_lots.specs.Refusals.{has_number, is_full, traded_place}
+use Rattle.mgn_lots.specs.declared.fault.RemoveFault.{RemoveFault}
+use Rattle.mgn_lots.specs.declared.fault.RemoveFault.TheVariants.{NoLot, Moved as WasMoved}
 use Rattle.mgn_holds.specs.declared.held.Held.{Held}
 use Rattle.mgn_machine.specs.declared.command.Mode.{Mode}
 use Rattle.mgn_machine.specs.declared.command.Mode.TheVariants.{Gross, Net}
 use Rattle.mgn_machine.specs.declared.origin.Origin.{Origin}
 use Rattle.mgn_machine.specs.declared.reply.Refusal.{Refusal}
-use Rattle.mgn_machine.specs.declared.reply.Refusal.TheVariants.{NoAccount, NoOrigin, Duplicate, NoContract, NoClass, Limit, Premium, Closed}
+use Rattle.mgn_machine.specs.declared.reply.Refusal.TheVariants.{NoAccount, NoOrigin, Duplicate, NoContract, NoTrade, Moved, NoClass, Limit, Premium, Closed}
 use Rattle.mgn_machine.specs.State.{State, AccountState, account_at}
 use Rattle.mgn_machine.specs.Portfolios.{unit_sum, account_size}
 
@@ -121,6 +123,21 @@ trade_places set s account lot contract quantity premium = do
   at ← lot_places set s account lot contract premium
   _ ← refuse_if (is_over s at.0 contract quantity) Limit
   Ok at
+
+-- BUST
+
+abbrev pub bust_refusal : Result ℕ RemoveFault → Result ℕ Refusal
+bust_refusal (Ok i) = Ok i
+bust_refusal (Err NoLot) = Err NoTrade
+bust_refusal (Err WasMoved) = Err Moved
+
+-- where the account and its traded lot stand
+unfoldable pub bust_places : State → List ℕ → ℕ → Result (ℕ × ℕ) Refusal
+bust_places s account lot = do
+  _ ← refuse_if s.closed Closed
+  k ← place_of s account
+  i ← bust_refusal (traded_place (account_at s.accounts k).lots lot)
+  Ok (k, i)
 
 -- POST
 

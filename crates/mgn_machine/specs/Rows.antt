@@ -5,6 +5,7 @@ use Rattle.mgn_params.specs.Positions.{IsNet}
 use Rattle.mgn_params.specs.Requirement.{requirement}
 use Rattle.mgn_params.specs.Scan.{value_at}
 use Rattle.mgn_params.specs.Tables.{Tables}
+use Rattle.mgn_lots.specs.declared.lot.Lot.{Lot}
 use Rattle.mgn_machine.specs.declared.change.Change.{Change}
 use Rattle.mgn_machine.specs.declared.change.Gain.{Gain}
 use Rattle.mgn_machine.specs.declared.reply.Figures.{Figures}
@@ -92,6 +93,12 @@ abbrev pub lot_change : ℕ → ℤ → ℕ → Change
 lot_change i quantity premium =
     let each = gain quantity (neg_ℤ (quantity *ℤ pos premium)) in
     record { contract = i; size = pos (unsigned_abs quantity); lots = each; buys = each; sales = each; all = each }
+
+-- what a lot that is taken back changes: the opposite
+abbrev pub bust_change : ℕ → Lot → Change
+bust_change i x =
+    let each = gain (neg_ℤ x.quantity) (x.quantity *ℤ pos x.premium) in
+    record { contract = i; size = neg_ℤ (pos (unsigned_abs x.quantity)); lots = each; buys = each; sales = each; all = each }
 
 -- one account changed as the change says, by the name of its contract
 pub record Moves (set : Tables) (contract : List ℕ) (change : Change) (a b : AccountState) : Type 0 where

@@ -2,7 +2,7 @@
 use Rattle.std.specs.Prelude.{ℕ, ◌≤◌, Bool, false, List, [], ◌∷◌, ◌++◌, length, All, slice_index_or, slice_set}
 use Rattle.mgn_coll.specs.Posted.{Posted, nothing, IsPosted, with_amount as posted_amount}
 use Rattle.mgn_lots.specs.declared.lot.Lot.{Lot}
-use Rattle.mgn_lots.specs.Lots.{IsLot}
+use Rattle.mgn_lots.specs.Lots.{IsLot, lot_at, busted}
 use Rattle.mgn_holds.specs.declared.held.Held.{Held}
 use Rattle.mgn_holds.specs.Holds.{IsHeld}
 use Rattle.mgn_machine.specs.declared.origin.Origin.{Origin}
@@ -52,6 +52,10 @@ fresh name unit = record { name = name; unit = unit; collateral = nothing; lots 
 
 abbrev pub with_lot : AccountState → Lot → AccountState
 with_lot a lot = record a { lots = a.lots ++ lot ∷ [] }
+
+-- with the lot at a place busted
+abbrev pub with_bust : AccountState → ℕ → AccountState
+with_bust a i = record a { lots = slice_set a.lots i (busted (lot_at a.lots i)) }
 
 abbrev pub with_amount : AccountState → List ℕ → ℕ → AccountState
 with_amount a class amount = record a { collateral = posted_amount a.collateral class amount }

@@ -4,16 +4,16 @@ use Rattle.mgn_params.specs.Tables.{Tables}
 use Rattle.mgn_lots.specs.declared.lot.Lot.{Lot}
 use Rattle.mgn_lots.specs.declared.lot.Mark.TheVariants.{Traded}
 use Rattle.mgn_machine.specs.declared.command.Command.{Command}
-use Rattle.mgn_machine.specs.declared.command.Command.TheVariants.{NewOrigin, NewAccount, Trade, Post, Ask, EndDay}
+use Rattle.mgn_machine.specs.declared.command.Command.TheVariants.{NewOrigin, NewAccount, Trade, Bust, Post, Ask, EndDay}
 use Rattle.mgn_machine.specs.declared.command.Mode.{Mode}
 use Rattle.mgn_machine.specs.declared.command.Mode.TheVariants.{Gross, Net}
 use Rattle.mgn_machine.specs.declared.reply.Refusal.{Refusal}
 use Rattle.mgn_machine.specs.declared.reply.Refusal.TheVariants.{Closed}
 use Rattle.mgn_machine.specs.declared.reply.Reply.{Reply}
 use Rattle.mgn_machine.specs.declared.reply.Reply.TheVariants.{Done, Figures, Refused}
-use Rattle.mgn_machine.specs.State.{State, account_at, put, fresh, with_lot, with_amount}
+use Rattle.mgn_machine.specs.State.{State, account_at, put, fresh, with_lot, with_bust, with_amount}
 use Rattle.mgn_machine.specs.Rows.{row_of, figures_of}
-use Rattle.mgn_machine.specs.Refusals.{◌>>=◌, refuse_if, origin_fits, open_unit, place_of, trade_places, post_place}
+use Rattle.mgn_machine.specs.Refusals.{◌>>=◌, refuse_if, origin_fits, open_unit, place_of, trade_places, bust_places, post_place}
 
 -- an origin more; a netted one makes its unit
 abbrev pub with_origin : State → List ℕ → Mode → State
@@ -43,6 +43,12 @@ abbrev pub traded : Tables → State → List ℕ → ℕ → List ℕ → ℤ �
 traded set s account number contract quantity premium = do
   at ← trade_places set s account number contract quantity premium
   Ok (put s at.0 (with_lot (account_at s.accounts at.0) (traded_lot number contract quantity premium)))
+
+-- a lot taken back: it stays in the list, and counts for nothing
+abbrev pub undone : State → List ℕ → ℕ → Result State Refusal
+undone s account lot = do
+  at ← bust_places s account lot
+  Ok (put s at.0 (with_bust (account_at s.accounts at.0) at.1))
 
 -- cash or units of a class more
 abbrev pub posted : Tables → State → List ℕ → List ℕ → ℕ → Result State Refusal
@@ -75,6 +81,7 @@ abbrev pub step : Tables → State → Command → State × Reply
 step set s (NewOrigin name mode) = answered s (originated s name mode)
 step set s (NewAccount account origin) = answered s (opened s account origin)
 step set s (Trade account lot contract quantity premium) = answered s (traded set s account lot contract quantity premium)
+step set s (Bust account lot) = answered s (undone s account lot)
 step set s (Post account class units) = answered s (posted set s account class units)
 step set s (Ask account) = (s, told (asked set s account))
 step set s EndDay = answered s (ended s)

@@ -1,14 +1,14 @@
-ghost use Rattle.std.specs.Prelude.{◌≡◌, ◌≤◌, ◌*◌, ◌^◌, pos, OnOk, OnErr, IfOk, false};
+ghost use Rattle.std.specs.Prelude.{◌≡◌, ◌<◌, ◌≤◌, ◌*◌, ◌^◌, pos, length, OnOk, OnErr, IfOk, false, true};
 ghost use Rattle.mgn_coll.specs.Posted.{IsPosted, most_of, value};
 ghost use Rattle.mgn_coll.specs.Refusals.{amount_posted};
-ghost use Rattle.mgn_lots.specs.Lots.{IsLot};
-ghost use Rattle.mgn_lots.specs.Refusals.{has_number, is_full};
-ghost use Rattle.mgn_machine.specs.State.{fresh, with_lot, with_amount};
+ghost use Rattle.mgn_lots.specs.Lots.{IsLot, is_live, lot_at};
+ghost use Rattle.mgn_lots.specs.Refusals.{has_number, is_full, traded_place};
+ghost use Rattle.mgn_machine.specs.State.{fresh, with_lot, with_bust, with_amount};
 
 use mgn_coll::{Collateral, PostFault};
 use mgn_holds::Holds;
 use mgn_ids::{AccountName, ClassName, LotId, Units};
-use mgn_lots::{Lot, Lots};
+use mgn_lots::{Lot, Lots, Mark, RemoveFault};
 use mgn_num::Cents;
 use mgn_params::ParamSet;
 use std::alloc::{AllocError, Global};
@@ -104,6 +104,33 @@ impl Account {
         ensures err { OnErr result (self.new ≡ self.old) }
     {
         self.lots.push(lot)
+    }
+
+    /// Where the traded lot of a number stands: `NoLot` where there is none or it is busted, `Moved` where it was moved.
+    pub fn traded_place(&self, number: LotId) -> Result<usize, RemoveFault>
+        ensures place { result ≡ traded_place self.now.lots number }
+        ensures within { IfOk result (λ i. i < length self.now.lots) }
+        ensures traded { IfOk result (λ i. (lot_at self.now.lots i).mark ≡ Mark.Traded) }
+    {
+        self.lots.traded_place(number)
+    }
+
+    /// The lot at a place.
+    pub fn lot_at(&self, place: usize) -> &Lot
+        requires { place < length self.now.lots }
+        ensures lot { result.now ≡ lot_at self.now.lots place }
+        ensures limits { IsLot result.now }
+    {
+        self.lots.at(place)
+    }
+
+    /// Takes the live lot at a place back. Takes no memory.
+    pub fn bust(&mut self, place: usize)
+        requires within { place < length self.old.lots }
+        requires live { is_live (lot_at self.old.lots place).mark ≡ true }
+        ensures { self.new ≡ with_bust self.old place }
+    {
+        self.lots.bust(place);
     }
 
     /// Sets what is posted of a class. Where memory is refused nothing has changed.

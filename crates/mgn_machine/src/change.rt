@@ -1,7 +1,9 @@
 ghost use Rattle.std.specs.Prelude.{◌≡◌, ◌<◌, ◌≤◌, ◌^◌, ◌*ℤ◌, neg_ℤ, pos, unsigned_abs, length};
+ghost use Rattle.mgn_lots.specs.Lots.{IsLot};
 ghost use Rattle.mgn_machine.specs.Rows.{gain, IsGain};
 
 use mgn_ids::{LotQuantity, Premium};
+use mgn_lots::Lot;
 use mgn_num::{Cents, Quantity};
 
 /// What one portfolio gains by a command.
@@ -29,7 +31,7 @@ pub struct Change {
 
 impl Change {
     ghost use Rattle.mgn_params.specs.Tables.{Tables};
-    ghost use Rattle.mgn_machine.specs.Rows.{lot_change, IsChange};
+    ghost use Rattle.mgn_machine.specs.Rows.{lot_change, bust_change, IsChange};
 
     /// What a lot more changes: each portfolio gains its quantity, and loses what it cost.
     pub fn of_lot(contract: usize, quantity: LotQuantity, premium: Premium) -> Change
@@ -44,6 +46,34 @@ impl Change {
             sales: lot_gain(quantity, premium),
             all: lot_gain(quantity, premium),
         }
+    }
+
+    /// What a lot that is taken back changes: each portfolio loses its quantity, and gains what it cost.
+    pub fn of_bust(contract: usize, lot: &Lot) -> Change
+        requires { IsLot lot.now }
+        ensures change { result ≡ bust_change contract lot.now }
+        ensures limits { (set : Tables) → contract < length set.contracts → IsChange set result }
+    {
+        Change {
+            contract,
+            size: Quantity::new(-(lot.quantity.size() as i64)),
+            lots: bust_gain(lot),
+            buys: bust_gain(lot),
+            sales: bust_gain(lot),
+            all: bust_gain(lot),
+        }
+    }
+}
+
+fn bust_gain(lot: &Lot) -> Gain
+    requires { IsLot lot.now }
+    ensures gain { result ≡ gain (neg_ℤ lot.now.quantity) (lot.now.quantity *ℤ pos lot.now.premium) }
+    ensures limits { IsGain result }
+{
+    let worth = Cents::product(lot.quantity, i64::from(lot.premium));
+    Gain {
+        quantity: lot.quantity.negated(),
+        worth,
     }
 }
 
