@@ -1,3 +1,4 @@
 -- Lemmas of the crate.
 pub mod LineFacts
 pub mod RunFacts
+pub mod PlainFacts

@@ -1,5 +1,5 @@
 -- From piece to piece of a line, and from line to line of a session.
-use Rattle.std.proofs.Common.{◌≡◌, ◌+◌, ◌-◌, ◌<◌, ◌≤◌, ℕ, Bool, true, false, List, [], ◌∷◌, ◌++◌, length, take, drop, get_or, Some, None, cond, refl, sym, ap, ◌∙◌, arith, append_assoc, length-append, min}
+use Rattle.std.proofs.Common.{◌≡◌, ◌+◌, ◌-◌, ◌<◌, ◌≤◌, ℕ, Bool, true, false, List, [], ◌∷◌, ◌++◌, length, take, drop, get_or, Some, None, Result, Ok, Err, OnErr, cond, refl, sym, ap, ◌∙◌, arith, append_assoc, length-append, min}
 use Rattle.std.specs.Prelude.{◌==◌, nat_lt, position}
 use Rattle.std.specs.List.{list_any, position_or_len}
 use Rattle.std.proofs.lemmas.Bool.Decides.{nat_tests}
@@ -13,7 +13,7 @@ use Rattle.mgn_machine.specs.declared.entry.Item.{Item}
 use Rattle.mgn_machine.specs.declared.reply.Answer.{Answer}
 use Rattle.mgn_wire.specs.Line.{line_of}
 use Rattle.mgn_wire.specs.Text.{text_of}
-use Rattle.mgn_session.specs.Session.{AddsRead, AnswersRead, IsAt, IsGrown, Matches, ended, has_end}
+use Rattle.mgn_session.specs.Session.{AddsRead, AnswersRead, HasTaken, IsAt, IsGrown, Matches, ended, has_end}
 
 -- the fronts of lists that are put together
 
@@ -158,8 +158,19 @@ goes_further old now input text n line piece line2 at whole front =
       front = front ∙ fronts 257 line s.rest piece at.front;
     }
 
+-- a fact holds at an error too
+pub at_err : {X E P : Type 0} (r : Result X E) → P → OnErr r P
+at_err (Ok x) p = tt
+at_err (Err e) p = p
+
 pub grown_none : (xs : List Item) → IsGrown xs xs
 grown_none xs = ([], sym (append-nil xs))
 
 pub grown_on : (xs ys zs : List Item) → IsGrown xs ys → IsGrown ys zs → IsGrown xs zs
 grown_on xs ys zs first second = (first.0 ++ second.0, rw (second.1, first.1, append_assoc) refl)
+
+-- what was taken of a chunk
+pub part_taken : (old now final : List Item) (input text chunk : List ℕ) (lines : ℕ) (line : List ℕ) (k : ℕ)
+    → IsAt old now (input ++ take k chunk) text lines line → IsGrown now final → HasTaken old final input text chunk
+part_taken old now final input text chunk lines line k at grown =
+    record { k = k; now = now; count = lines; session = at.session; grown = grown }

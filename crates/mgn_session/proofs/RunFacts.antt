@@ -4,8 +4,7 @@ use Rattle.std.proofs.lemmas.List.{append-nil, take-append-drop}
 use Rattle.std.specs.Io.KnownBytes.{Appends, Consumes, IsAtEnd, Keeps}
 use Rattle.std.proofs.Math.Seq.{take-append-add}
 use Rattle.mgn_machine.specs.declared.entry.Item.{Item}
-use Rattle.mgn_session.specs.Session.{HasAnswered, HasStopped, HasTooMuch, HasTurned, IsAt, IsGrown, IsOpen}
-use Rattle.mgn_session.proofs.LineFacts.{grown_none}
+use Rattle.mgn_session.specs.Session.{HasAnswered, HasStopped, HasTaken, HasTooMuch, HasTurned, IsAt, IsGrown, IsOpen}
 
 -- what the devices tell, one call after another
 
@@ -54,21 +53,21 @@ turned l0 l1 h0 h1 old now input text chunk out lines line n reads size end at w
     record { got = chunk; sent = out; reads = reads; size = size; writes = writes; at = at; end = end }
 
 -- a turn that answered these bytes and then stopped
-pub stopped : (l0 l1 h0 h1 : Option (List ℕ)) (old now : List Item) (input text chunk out : List ℕ) (lines : ℕ) (line : List ℕ) (j k : ℕ)
-    → Consumes l0 l1 chunk → IsAt old now (input ++ take j chunk) (text ++ out) lines line → Appends h0 h1 (take k out)
-    → HasStopped l0 l1 h0 h1 old now input text
-stopped l0 l1 h0 h1 old now input text chunk out lines line j k reads at writes =
+pub stopped : (l0 l1 h0 h1 : Option (List ℕ)) (old final : List Item) (input text chunk out : List ℕ) (k : ℕ)
+    → Consumes l0 l1 chunk → HasTaken old final input (text ++ out) chunk → Appends h0 h1 (take k out)
+    → HasStopped l0 l1 h0 h1 old final input text
+stopped l0 l1 h0 h1 old final input text chunk out k reads taken writes =
     record {
-      got = take j chunk;
-      more = drop j chunk;
+      got = take taken.k chunk;
+      more = drop taken.k chunk;
       sent = out;
-      now = now;
-      count = lines;
+      now = taken.now;
+      count = taken.count;
       k = k;
-      reads = rw (take-append-drop j chunk) reads;
+      reads = rw (take-append-drop taken.k chunk) reads;
       writes = writes;
-      session = at.session;
-      grown = grown_none now;
+      session = taken.session;
+      grown = taken.grown;
     }
 
 -- a turn that wrote nothing

@@ -125,6 +125,15 @@ abbrev pub Ends : Bool → ℕ → ℕ → ℕ → ℕ → Type 0
 Ends true lines most k len = (lines ≡ most) × (k < len)
 Ends false lines most k len = k ≡ len
 
+-- A chunk of which a front was taken, and the text of the session over it. What the list gained begins with what that
+-- session gained.
+pub record HasTaken (old final : List Item) (input text chunk : List ℕ) : Type 0 where
+  pub k : ℕ
+  pub now : List Item
+  pub count : ℕ
+  pub session : IsSession old now (input ++ take k chunk) text count
+  pub grown : IsGrown now final
+
 -- One turn: these bytes came, this text went out, and the session goes on with both. No byte came at the end only.
 pub record HasTurned (left0 left1 held0 held1 : Option (List ℕ)) (old now : List Item) (input text : List ℕ) (count : ℕ) (line : List ℕ) (n : ℕ) : Type 0 where
   pub got : List ℕ

@@ -4,6 +4,7 @@
 pub mod counted;
 pub mod exec;
 pub mod fault;
+pub mod plain;
 pub mod run;
 #[cfg(test)]
 mod tests;
@@ -12,4 +13,5 @@ mod work;
 pub use counted::Counted;
 pub use exec::Exec;
 pub use fault::SessionFault;
+pub use plain::Plain;
 pub use run::run_lines;

@@ -94,6 +94,7 @@ fn turn<R: Read, W: Write, E: Exec>(
         return Err(SessionFault::Read);
     };
     let Ok(stopped) = work.take_chunk(exec, &buf[..n]) else {
+        put(writer, work.out.as_slice())?;
         return Err(SessionFault::Memory);
     };
     match put(writer, work.out.as_slice()) {

@@ -1,7 +1,8 @@
 ghost use Rattle.std.specs.Prelude.{◌≡◌, ◌+◌, ◌^◌, ◌<◌, ◌≤◌, ◌∷◌, [], ◌++◌, ℕ, List, take, length, IfOk, OnOk, OnErr, position, ◌==◌, false};
 ghost use Rattle.mgn_machine.specs.declared.entry.Item.{Item};
 ghost use Rattle.mgn_wire.specs.Line.{line_of};
-ghost use Rattle.mgn_session.specs.Session.{AddsRead, Ends, IsAt, IsGrown, has_end, refusal_of};
+ghost use Rattle.mgn_wire.specs.Text.{text_of};
+ghost use Rattle.mgn_session.specs.Session.{AddsRead, Ends, HasTaken, IsAt, IsGrown, has_end, refusal_of};
 
 use crate::exec::Exec;
 use mgn_machine::{Answer, Refusal};
@@ -32,6 +33,9 @@ fn answer_line<E: Exec>(exec: &mut E, line: &[u8]) -> Answer
         Err(fault) => Answer::refused(refusal_of(fault)),
     }
 }
+
+// No reply is longer: five numbers of at most 38 bytes and a place of at most 20, with what stands between them.
+const LONGEST_REPLY: usize = 224;
 
 // Adds to the front of a line as much as can matter of what follows.
 fn keep(line: &mut Vec<u8>, piece: &[u8]) -> Result<(), Memory>
@@ -72,6 +76,8 @@ pub(crate) struct Work {
     pub line: Vec<u8>,
     pub out: Vec<u8>,
     pub lines: u64,
+    // The reply at hand, which may be incomplete.
+    reply: Vec<u8>,
 }
 
 impl Work {
@@ -84,6 +90,7 @@ impl Work {
             line: Vec::new(alloc),
             out: Vec::new(alloc),
             lines: 0,
+            reply: Vec::new(alloc),
         }
     }
 
@@ -92,13 +99,42 @@ impl Work {
         ensures ok { (old : List Item) (input written : List ℕ) →
             IsAt old (E.entries exec.old) input (written ++ self.old.out.items) self.old.lines self.old.line.items → has_end last.now ≡ false →
             OnOk result (IsAt old (E.entries exec.new) (input ++ (last.now ++ 10 ∷ [])) (written ++ self.new.out.items) self.new.lines self.new.line.items) }
+        ensures err { OnErr result (self.new.out.items ≡ self.old.out.items) }
         ensures grown { IsGrown (E.entries exec.old) (E.entries exec.new) }
         ensures count { OnOk result (self.new.lines ≡ self.old.lines + 1) }
     {
+        self.make_room()?;
         let answer = answer_ended(&mut self.line, exec, last)?;
-        reply_text(&answer, &mut self.out)?;
+        self.put_reply(&answer)?;
         self.lines += 1;
         Ok(())
+    }
+
+    // Makes room for a reply, before its command changes anything.
+    fn make_room(&mut self) -> Result<(), Memory>
+        ensures line { self.new.line.items ≡ self.old.line.items }
+        ensures lines { self.new.lines ≡ self.old.lines }
+        ensures out { self.new.out.items ≡ self.old.out.items }
+    {
+        if self.reply.reserve(LONGEST_REPLY).is_err() || self.out.reserve(LONGEST_REPLY).is_err() {
+            return Err(Memory);
+        }
+        Ok(())
+    }
+
+    // Adds a whole reply to those that wait, or nothing.
+    fn put_reply(&mut self, answer: &Answer) -> Result<(), Memory>
+        ensures line { self.new.line.items ≡ self.old.line.items }
+        ensures lines { self.new.lines ≡ self.old.lines }
+        ensures ok { OnOk result (self.new.out.items ≡ self.old.out.items ++ text_of answer.now) }
+        ensures err { OnErr result (self.new.out.items ≡ self.old.out.items) }
+    {
+        self.reply.clear();
+        reply_text(answer, &mut self.reply)?;
+        match self.out.extend_from_slice(self.reply.as_slice()) {
+            Ok(()) => Ok(()),
+            Err(_) => Err(Memory),
+        }
     }
 
     /// Takes the bytes of a chunk, and says whether one came after the last line that may be.
@@ -108,7 +144,9 @@ impl Work {
             IsAt old (E.entries exec.old) input (written ++ self.old.out.items) self.old.lines self.old.line.items →
             IfOk result (λ more. (k : ℕ) × (k ≤ length chunk.now) × IsAt old (E.entries exec.new) (input ++ take k chunk.now) (written ++ self.new.out.items) self.new.lines self.new.line.items
             × Ends more self.new.lines MAX_LINES k (length chunk.now)) }
-        ensures grown { IsGrown (E.entries exec.old) (E.entries exec.new) }
+        ensures err { (old : List Item) (input written : List ℕ) →
+            IsAt old (E.entries exec.old) input (written ++ self.old.out.items) self.old.lines self.old.line.items →
+            OnErr result (HasTaken old (E.entries exec.new) input (written ++ self.new.out.items) chunk.now) }
         ensures count { OnOk result (self.new.lines ≤ MAX_LINES) }
     {
         let mut at = 0;

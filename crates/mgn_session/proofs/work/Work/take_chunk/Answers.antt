@@ -1,6 +1,7 @@
 use Rattle.std.proofs.Common.{arith, ◌≡◌, ◌+◌, ◌-◌, ◌∙◌, ◌∷◌, [], ◌++◌, sym, refl, take, take-add, drop, length, length-drop, append_assoc}
 use Rattle.std.proofs.lemmas.List.{append-nil, take_all, take-append-drop}
-use Rattle.mgn_session.proofs.LineFacts.{end_at, goes_further, grown_none, grown_on, no_end}
+use Rattle.mgn_session.specs.Session.{HasTaken}
+use Rattle.mgn_session.proofs.LineFacts.{at_err, end_at, goes_further, grown_none, no_end, part_taken}
 use Rattle.mgn_session.proofs.work.Work.take_chunk.Goals as goal
 
 pub loop-at-init : goal.loop-at-init
@@ -8,7 +9,6 @@ loop-at-init g c =
     record {
       within = omega arith;
       lines = omega arith;
-      grown = grown_none _;
       so_far = λ old input written at. rw (append-nil input) at;
     }
 
@@ -25,7 +25,6 @@ loop-at-preserved g c =
     record {
       within = omega (arith, length-drop c.loop-at.at chunk, found.0);
       lines = omega (arith, c.in_ok-end_line-in-Some.ensures.count);
-      grown = grown_on _ _ _ c.loop-at.invariant.grown c.end_line.ensures.grown;
       so_far = λ old input written at.
           let step = c.in_ok-end_line-in-Some.ensures.ok old (input ++ take c.loop-at.at chunk) written (c.loop-at.invariant.so_far old input written at) (rw left found.2) in
           rw (take-add c.loop-at.at (c.in-Some.end + 1) chunk, found.1, ← append_assoc input (take c.loop-at.at chunk) (take c.in-Some.end (drop c.loop-at.at chunk) ++ 10 ∷ [])) (rw left at step);
@@ -44,3 +43,15 @@ returns-in-None-clause-ok g c old input written at =
 pub returns-clause-ok : goal.returns-clause-ok
 returns-clause-ok g c old input written at =
     (c.loop-at.at, omega arith, c.loop-at.invariant.so_far old input written at, omega arith)
+
+pub returns-in_err-end_line-in-Some-clause-err : goal.returns-in_err-end_line-in-Some-clause-err
+returns-in_err-end_line-in-Some-clause-err g c old input written at =
+    let now = c.loop-at.invariant.so_far old input written at in
+    let taken : HasTaken old (g.E.Exec.entries c.end_line.new.exec) input (written ++ c.end_line.new.self.out.items) c.args.chunk.now =
+    rw c.in_err-end_line-in-Some.ensures.err (part_taken old _ _ input _ c.args.chunk.now _ _ c.loop-at.at now c.end_line.ensures.grown) in
+    at_err _ taken
+
+pub returns-in_err-keep-in-None-clause-err : goal.returns-in_err-keep-in-None-clause-err
+returns-in_err-keep-in-None-clause-err g c old input written at =
+    let now = c.loop-at.invariant.so_far old input written at in
+    at_err _ (part_taken old _ _ input _ c.args.chunk.now _ _ c.loop-at.at now (grown_none _))
