@@ -13,6 +13,8 @@ mod records;
 mod set;
 mod spreads;
 mod tables;
+#[cfg(test)]
+mod tests;
 mod work;
 
 pub use fault::{Cause, SetFault};
