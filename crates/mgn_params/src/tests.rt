@@ -98,11 +98,18 @@ fn finds_rows_by_name(rt: HostRuntime) -> Result<(), Fail> {
     Ok(())
 }
 
+// Where a copy of the set finds a contract.
+fn copied_place(alloc: Global, set: &ParamSet, name: &[u8]) -> Option<usize> {
+    match set.copy(alloc) {
+        Ok(copy) => contract_place(&copy, name),
+        Err(_) => None,
+    }
+}
+
 #[test]
 fn copies_a_set(rt: HostRuntime) -> Result<(), Fail> {
     let set = read_set(rt.alloc(), set_text(0).as_bytes())?;
-    let copy = set.copy(rt.alloc())?;
-    assert_eq!(rt; contract_place(&copy, b"AAAC"), Some(2));
+    assert_eq!(rt; copied_place(rt.alloc(), &set, b"AAAC"), Some(2));
     Ok(())
 }
 
