@@ -1,10 +1,8 @@
 -- Laws of the calculation in the subject's own words.
-use Rattle.std.proofs.Common.{◌≡◌, ℕ, ◌<◌, List, [], ◌∷◌, arith, refl}
-use Rattle.std.specs.Prelude.{ℤ, pos, ◌+ℤ◌, ◌≤ℤ◌}
-use Rattle.std.specs.Int.{int_max}
+use Rattle.std.proofs.Common.{ℕ, ◌<◌, List, [], ◌∷◌, arith}
+use Rattle.std.specs.Prelude.{ℤ, pos, ◌≤ℤ◌}
 use Rattle.std.proofs.lemmas.Int.{clamps, ints}
 use Rattle.mgn_num.proofs.SignedLemmas.{signed_sum_by-cons}
-use Rattle.mgn_num.specs.Signed.{signed_sum_by}
 use Rattle.mgn_params.specs.Laws.{own_worst, worst_cases}
 use Rattle.mgn_params.specs.Positions.{Position}
 use Rattle.mgn_params.specs.Requirement.{requirement, scan_of}
