@@ -61,6 +61,19 @@ fn asked(rt: &impl Abort, alloc: Global, text: &str, nets: [i64; 4]) -> Result<i
     Ok(requirement(alloc, &set, &nets, &mut work)?.amount())
 }
 
+// Whether each list of nets has the requirement beside it, under the set of a text.
+fn check(
+    rt: &impl Abort,
+    alloc: Global,
+    text: &str,
+    cases: &[([i64; 4], i128)],
+) -> Result<(), Fail> {
+    for (nets, want) in cases {
+        assert_eq!(rt; asked(rt, alloc, text, *nets)?, *want);
+    }
+    Ok(())
+}
+
 #[test]
 fn set_one(rt: HostRuntime) -> Result<(), Fail> {
     let spread = "S,AAA,1,10000,2,10000,40";
@@ -73,12 +86,14 @@ fn set_one(rt: HostRuntime) -> Result<(), Fail> {
         spread,
         credit,
     )?;
-    assert_eq!(rt; asked(&rt, rt.alloc(), &text, [2, 0, 0, 0])?, 600);
-    assert_eq!(rt; asked(&rt, rt.alloc(), &text, [2, -2, 0, 0])?, 140);
-    assert_eq!(rt; asked(&rt, rt.alloc(), &text, [1, 0, 0, -2])?, 300);
-    assert_eq!(rt; asked(&rt, rt.alloc(), &text, [0, 0, -1, 0])?, 280);
-    assert_eq!(rt; asked(&rt, rt.alloc(), &text, [0, 0, 1, 0])?, 0);
-    Ok(())
+    let cases = [
+        ([2, 0, 0, 0], 600),
+        ([2, -2, 0, 0], 140),
+        ([1, 0, 0, -2], 300),
+        ([0, 0, -1, 0], 280),
+        ([0, 0, 1, 0], 0),
+    ];
+    check(&rt, rt.alloc(), &text, &cases)
 }
 
 #[test]
@@ -93,7 +108,8 @@ fn sets_of_rounding(rt: HostRuntime) -> Result<(), Fail> {
         odd,
         credit,
     )?;
-    assert_eq!(rt; asked(&rt, rt.alloc(), &text, [1, -1, 0, 0])?, 44);
+    let cases = [([1, -1, 0, 0], 44)];
+    check(&rt, rt.alloc(), &text, &cases)?;
     let flat = "S,AAA,1,10000,1,10000,40";
     let text = text_of(
         rt.alloc(),
@@ -103,8 +119,8 @@ fn sets_of_rounding(rt: HostRuntime) -> Result<(), Fail> {
         flat,
         credit,
     )?;
-    assert_eq!(rt; asked(&rt, rt.alloc(), &text, [2, -2, 0, 0])?, 140);
-    Ok(())
+    let cases = [([2, -2, 0, 0], 140)];
+    check(&rt, rt.alloc(), &text, &cases)
 }
 
 #[test]
@@ -113,12 +129,13 @@ fn sets_of_credits(rt: HostRuntime) -> Result<(), Fail> {
     let lost = "-200,-200,-100,-100,100,100,-200,-200,200,200,-300,-300,300,300,-210,210";
     let whole = "I,10000,AAA,A,10000,BBB,B,20000\n";
     let text = text_of(rt.alloc(), "H,1,NEG", "M,AAA,2,2", lost, spread, whole)?;
-    assert_eq!(rt; asked(&rt, rt.alloc(), &text, [1, 0, 0, -2])?, 0);
+    let cases = [([1, 0, 0, -2], 0)];
+    check(&rt, rt.alloc(), &text, &cases)?;
     let won = "-5,-5,-5,-5,-5,-5,-5,-5,-5,-5,-5,-5,-5,-5,-5,-5";
     let half = "I,5000,AAA,A,10000,BBB,B,20000\n";
     let text = text_of(rt.alloc(), "H,1,WIN", "M,AAA,2,2", won, spread, half)?;
-    assert_eq!(rt; asked(&rt, rt.alloc(), &text, [1, 0, 0, -2])?, 150);
-    Ok(())
+    let cases = [([1, 0, 0, -2], 150)];
+    check(&rt, rt.alloc(), &text, &cases)
 }
 
 #[test]
@@ -133,9 +150,12 @@ fn sets_of_spot_months(rt: HostRuntime) -> Result<(), Fail> {
         spread,
         last,
     )?;
-    assert_eq!(rt; asked(&rt, rt.alloc(), &text, [2, 0, 0, 0])?, 700);
-    assert_eq!(rt; asked(&rt, rt.alloc(), &text, [2, -2, 0, 0])?, 200);
-    assert_eq!(rt; asked(&rt, rt.alloc(), &text, [3, -2, 0, 0])?, 550);
+    let cases = [
+        ([2, 0, 0, 0], 700),
+        ([2, -2, 0, 0], 200),
+        ([3, -2, 0, 0], 550),
+    ];
+    check(&rt, rt.alloc(), &text, &cases)?;
     let odd = "S,AAA,1,30000,2,10000,40";
     let text = text_of(
         rt.alloc(),
@@ -145,8 +165,8 @@ fn sets_of_spot_months(rt: HostRuntime) -> Result<(), Fail> {
         odd,
         last,
     )?;
-    assert_eq!(rt; asked(&rt, rt.alloc(), &text, [1, -1, 0, 0])?, 75);
-    Ok(())
+    let cases = [([1, -1, 0, 0], 75)];
+    check(&rt, rt.alloc(), &text, &cases)
 }
 
 #[test]
