@@ -18,8 +18,9 @@ use Rattle.mgn_params.specs.Scan.{active, price_risk2, scan_risk, scenario_total
 use Rattle.mgn_params.specs.Spot.{spot_charge_of, spot_of}
 use Rattle.mgn_params.specs.Stages.{charges_of, stages_of}
 use Rattle.mgn_params.specs.Tables.{Tables}
+use Rattle.mgn_plain.specs.declared.figure_rows.FigureRows.{FigureRows}
 use Rattle.mgn_plain.specs.Kept.{leg_of, legs_row, total_of, totals_of}
-use Rattle.mgn_plain.specs.Parts.{AreCharges, AreChargesFrom, AreCredits, AreCreditsFrom, AreDeltas, AreNetDeltas, AreParts, AreRisks, AreStarts, AreTotals}
+use Rattle.mgn_plain.specs.Parts.{AreCharges, AreChargesFrom, AreCredits, AreCreditsFrom, AreDeltas, AreNetDeltas, AreFigureRows, AreRisks, AreStarts, AreTotals}
 use Rattle.mgn_plain.specs.Rests.{AreCreditNumbers}
 use Rattle.mgn_plain.proofs.DeltaLemmas.{net_is, net_small, start_is, start_small, starts_are}
 use Rattle.mgn_plain.proofs.PositionLemmas.{scenario_total_small}
@@ -92,9 +93,9 @@ if_ok_along (Ok x) P Q along h = along x h
 if_ok_along (Err e) P Q along h = h
 
 -- the figures from the rows are those of the definitions
-pub figures_are : (t : Tables) (nets : List ℤ) (rows : List (List ℤ)) (row : List ℤ) (intra spot credited least : List ℕ) (g : ℕ) → (scan : ℤ) (a : ℕ) (x i s c m r : ℤ) → AreParts t nets rows intra spot credited least → g < length t.commodities → row ≡ totals_of rows g → scan ≡ scan_risk (value_at row) → a ≡ active (value_at row) → x ≡ price_risk2 (value_at row) → i ≡ pos (slice_index intra g) → s ≡ pos (slice_index spot g) → c ≡ pos (slice_index credited g) → m ≡ pos (slice_index least g) → r ≡ int_max (scan +ℤ i +ℤ s -ℤ c) m → let built : CommodityFigures = record { scan = scan; active = a; price_risk2 = x; intra = i; spot = s; credit = c; minimum = m; risk = r } in built ≡ commodity_figures t (positions t.contracts nets) g
+pub figures_are : (t : Tables) (nets : List ℤ) (rows : FigureRows) (row : List ℤ) (g : ℕ) → (scan : ℤ) (a : ℕ) (x i s c m r : ℤ) → AreFigureRows t nets rows → g < length t.commodities → row ≡ totals_of rows.totals.items g → scan ≡ scan_risk (value_at row) → a ≡ active (value_at row) → x ≡ price_risk2 (value_at row) → i ≡ pos (slice_index rows.intra.items g) → s ≡ pos (slice_index rows.spot.items g) → c ≡ pos (slice_index rows.credits.items g) → m ≡ pos (slice_index rows.minimums.items g) → r ≡ int_max (scan +ℤ i +ℤ s -ℤ c) m → let built : CommodityFigures = record { scan = scan; active = a; price_risk2 = x; intra = i; spot = s; credit = c; minimum = m; risk = r } in built ≡ commodity_figures t (positions t.contracts nets) g
 unfolding commodity_figures risk
-figures_are t nets rows row intra spot credited least g scan a x i s c m r are h read scanned acted priced charged spotted creditted lowest risked =
+figures_are t nets rows row g scan a x i s c m r are h read scanned acted priced charged spotted creditted lowest risked =
     let held : List Position = positions t.contracts nets in
     let same : (k : ℕ) → k < 16 → value_at row k ≡ scenario_total g held k = λ k p. ap (λ (xs : List ℤ). value_at xs k) read ∙ are.totals.each g k h p in
     let scan_is : scan ≡ scan_of held g = scanned ∙ scan_risk_same (value_at row) (scenario_total g held) same in

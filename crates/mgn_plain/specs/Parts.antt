@@ -9,6 +9,7 @@ use Rattle.mgn_params.specs.Scan.{price_risk2, scenario_total, value_at}
 use Rattle.mgn_params.specs.Spot.{spot_of}
 use Rattle.mgn_params.specs.Stages.{charges_of, left_by, stages_of}
 use Rattle.mgn_params.specs.Tables.{Tables}
+use Rattle.mgn_plain.specs.declared.figure_rows.FigureRows.{FigureRows}
 use Rattle.mgn_plain.specs.Kept.{kept_charge_of, leg_of, legs_row, month_net_share, month_start, total_of}
 
 -- one net for each contract, each at most 10^7 in size
@@ -80,8 +81,8 @@ pub record AreCredits (set : Tables) (nets : List ℤ) (row : List ℕ) : Type 0
   pub small : (g : ℕ) → slice_index row g ≤ 256 * 10 ^ 33
 
 -- all rows that the figures of the commodities are worked out from
-pub record AreParts (set : Tables) (nets : List ℤ) (rows : List (List ℤ)) (intra spot credited least : List ℕ) : Type 0 where
-  pub totals : AreTotals set nets rows
-  pub charges : AreCharges set nets intra spot
-  pub credits : AreCredits set nets credited
-  pub minimums : AreMinimums set nets least
+pub record AreFigureRows (set : Tables) (nets : List ℤ) (rows : FigureRows) : Type 0 where
+  pub totals : AreTotals set nets rows.totals.items
+  pub charges : AreCharges set nets rows.intra.items rows.spot.items
+  pub credits : AreCredits set nets rows.credits.items
+  pub minimums : AreMinimums set nets rows.minimums.items

@@ -4,9 +4,10 @@ ghost use Rattle.mgn_num.specs.Signed.{signed_sum_below};
 ghost use Rattle.mgn_params.specs.Positions.{IsNet, positions};
 ghost use Rattle.mgn_params.specs.Requirement.{commodities_of, requirement, risk};
 ghost use Rattle.mgn_plain.specs.Figures.{commodity_figures, figures_of};
-ghost use Rattle.mgn_plain.specs.Parts.{AreNets, AreParts};
+ghost use Rattle.mgn_plain.specs.Parts.{AreFigureRows, AreNets};
 
 use crate::commodity::CommodityFigures;
+use crate::figure_rows::FigureRows;
 use crate::options::option_value;
 use crate::parts::{minimum_row, month_deltas, total_rows, work_out_charges, work_out_credits};
 use crate::scan::{scan_figures, totals_row};
@@ -15,33 +16,22 @@ use mgn_num::{Cents, Quantity};
 use mgn_params::{ParamSet, Work};
 use std::alloc::{AllocError, Global};
 
-// What the figures of the commodities are worked out from: rows with an entry for each commodity.
-#[derive(Drop)]
-struct Parts {
-    totals: Vec<[Cents; 16]>,
-    intra: Vec<u128>,
-    spot: Vec<u128>,
-    credits: Vec<u128>,
-    minimums: Vec<u128>,
-}
-
 // One pass over the contracts for each kind of row, then one over the months, the spreads and the commodities.
 fn work_out(
     alloc: Global,
     set: &ParamSet,
     nets: &[Quantity],
     work: &mut Work,
-) -> Result<Parts, AllocError>
+) -> Result<FigureRows, AllocError>
     requires { AreNets set.now nets.now }
-    ensures { IfOk result (λ p.
-        AreParts set.now nets.now p.totals.items p.intra.items p.spot.items p.credits.items p.minimums.items) }
+    ensures { IfOk result (λ rows. AreFigureRows set.now nets.now rows) }
 {
     let totals = total_rows(alloc, set, nets, work)?;
     let deltas = month_deltas(alloc, set, nets)?;
     let charges = work_out_charges(alloc, set, &deltas)?;
     let credits = work_out_credits(alloc, set, &deltas, &totals)?;
     let minimums = minimum_row(alloc, set, nets)?;
-    Ok(Parts {
+    Ok(FigureRows {
         totals,
         intra: charges.intra,
         spot: charges.spot,
@@ -77,20 +67,20 @@ fn risk_of(scan: Cents, intra: Cents, spot: Cents, credit: Cents, minimum: Cents
 
 #[tactic(auto, using(crate::proofs::PartLemmas::total_small))]
 // The figures of a commodity.
-fn figures_of(set: &ParamSet, parts: &Parts, commodity: usize) -> CommodityFigures
-    requires parts { (nets : List ℤ) × AreParts set.now nets parts.now.totals.items parts.now.intra.items parts.now.spot.items parts.now.credits.items parts.now.minimums.items }
+fn figures_of(set: &ParamSet, rows: &FigureRows, commodity: usize) -> CommodityFigures
+    requires rows { (nets : List ℤ) × AreFigureRows set.now nets rows.now }
     requires commodity { commodity < length set.now.commodities }
     ensures figures { (nets : List ℤ) →
-        AreParts set.now nets parts.now.totals.items parts.now.intra.items parts.now.spot.items parts.now.credits.items parts.now.minimums.items →
+        AreFigureRows set.now nets rows.now →
         result ≡ commodity_figures set.now (positions set.now.contracts nets) commodity }
     ensures small { unsigned_abs result.risk ≤ 10 ^ 27 }
 {
     set.limits();
-    let scan = scan_figures(totals_row(&parts.totals, commodity));
-    let intra = cents_at(&parts.intra, commodity);
-    let spot = cents_at(&parts.spot, commodity);
-    let credit = cents_at(&parts.credits, commodity);
-    let minimum = cents_at(&parts.minimums, commodity);
+    let scan = scan_figures(totals_row(&rows.totals, commodity));
+    let intra = cents_at(&rows.intra, commodity);
+    let spot = cents_at(&rows.spot, commodity);
+    let credit = cents_at(&rows.credits, commodity);
+    let minimum = cents_at(&rows.minimums, commodity);
     CommodityFigures {
         scan: scan.scan,
         active: scan.active,
@@ -105,29 +95,29 @@ fn figures_of(set: &ParamSet, parts: &Parts, commodity: usize) -> CommodityFigur
 
 #[tactic(auto, using(mgn_num::proofs::SignedLemmas::signed_sum_below_more, crate::proofs::PartLemmas::risk_is))]
 // The sum of the commodities' risks.
-fn sum_of_risks(set: &ParamSet, parts: &Parts) -> Cents
-    requires { (nets : List ℤ) × AreParts set.now nets parts.now.totals.items parts.now.intra.items parts.now.spot.items parts.now.credits.items parts.now.minimums.items }
+fn sum_of_risks(set: &ParamSet, rows: &FigureRows) -> Cents
+    requires { (nets : List ℤ) × AreFigureRows set.now nets rows.now }
     ensures sum { (nets : List ℤ) →
-        AreParts set.now nets parts.now.totals.items parts.now.intra.items parts.now.spot.items parts.now.credits.items parts.now.minimums.items →
+        AreFigureRows set.now nets rows.now →
         result ≡ signed_sum_below (risk set.now (positions set.now.contracts nets)) (length set.now.commodities) }
     ensures small { unsigned_abs result ≤ 256 * 10 ^ 27 }
 {
     let mut total = Cents::ZERO;
     for g in 0..set.commodity_count() {
-        total = total.plus(figures_of(set, parts, g).risk);
+        total = total.plus(figures_of(set, rows, g).risk);
     }
     total
 }
 
 #[tactic(auto, unfolding(mgn_params::specs::Requirement::requirement))]
 // The sum of the risks less the net option value, or 0 where that is negative.
-fn requirement_of(set: &ParamSet, nets: &[Quantity], parts: &Parts) -> Cents
+fn requirement_of(set: &ParamSet, nets: &[Quantity], rows: &FigureRows) -> Cents
     requires nets { AreNets set.now nets.now }
-    requires parts { AreParts set.now nets.now parts.now.totals.items parts.now.intra.items parts.now.spot.items parts.now.credits.items parts.now.minimums.items }
+    requires rows { AreFigureRows set.now nets.now rows.now }
     ensures requirement { result ≡ requirement set.now nets.now }
     ensures small { unsigned_abs result ≤ 10 ^ 30 }
 {
-    let risks = sum_of_risks(set, parts);
+    let risks = sum_of_risks(set, rows);
     risks.minus(option_value(set, nets)).or_zero()
 }
 
@@ -147,25 +137,25 @@ pub fn requirement(
     ensures ok { IfOk result (λ r. r ≡ requirement set.now nets.now) }
     ensures small { IfOk result (λ r. unsigned_abs r ≤ 10 ^ 30) }
 {
-    let parts = work_out(alloc, set, nets, work)?;
-    Ok(requirement_of(set, nets, &parts))
+    let rows = work_out(alloc, set, nets, work)?;
+    Ok(requirement_of(set, nets, &rows))
 }
 
 // The figures of the commodities, in file order.
 fn list_figures(
     alloc: Global,
     set: &ParamSet,
-    parts: &Parts,
+    rows: &FigureRows,
 ) -> Result<Vec<CommodityFigures>, AllocError>
-    requires { (nets : List ℤ) × AreParts set.now nets parts.now.totals.items parts.now.intra.items parts.now.spot.items parts.now.credits.items parts.now.minimums.items }
+    requires { (nets : List ℤ) × AreFigureRows set.now nets rows.now }
     ensures { IfOk result (λ list. (nets : List ℤ) →
-        AreParts set.now nets parts.now.totals.items parts.now.intra.items parts.now.spot.items parts.now.credits.items parts.now.minimums.items →
+        AreFigureRows set.now nets rows.now →
         list.items ≡ map (commodity_figures set.now (positions set.now.contracts nets)) (commodities_of set.now)) }
 {
     let count = set.commodity_count();
     let mut list = Vec::with_capacity(alloc, count)?;
     for g in 0..count {
-        list.push_reserved(figures_of(set, parts, g));
+        list.push_reserved(figures_of(set, rows, g));
     }
     Ok(list)
 }
@@ -187,8 +177,8 @@ pub fn figures(
     ensures ok { IfOk result (λ f. f ≡ figures_of set.now nets.now) }
     ensures small { IfOk result (λ f. unsigned_abs f.requirement ≤ 10 ^ 30) }
 {
-    let parts = work_out(alloc, set, nets, work)?;
-    let commodities = list_figures(alloc, set, &parts)?;
-    let requirement = requirement_of(set, nets, &parts);
+    let rows = work_out(alloc, set, nets, work)?;
+    let commodities = list_figures(alloc, set, &rows)?;
+    let requirement = requirement_of(set, nets, &rows);
     Ok(Figures::new(commodities, option_value(set, nets), requirement))
 }

@@ -5,6 +5,7 @@ mod calculation;
 mod commodity;
 mod credits;
 mod deltas;
+mod figure_rows;
 mod options;
 mod parts;
 mod rows;

@@ -61,13 +61,161 @@ fn asked(rt: &impl Abort, alloc: Global, text: &str, nets: [i64; 4]) -> Result<i
     Ok(requirement(alloc, &set, &nets, &mut work)?.amount())
 }
 
+// Whether each list of nets has the requirement beside it, under the set of a text.
+fn check(
+    rt: &impl Abort,
+    alloc: Global,
+    text: &str,
+    cases: &[([i64; 4], i128)],
+) -> Result<(), Fail> {
+    for (nets, want) in cases {
+        assert_eq!(rt; asked(rt, alloc, text, *nets)?, *want);
+    }
+    Ok(())
+}
+
 #[test]
-fn one(rt: HostRuntime) -> Result<(), Fail> {
-    let text = text_of(rt.alloc(), "H,1,ONE", "M,AAA,2,2", flat_array(), "S,AAA,1,10000,2,10000,40", "I,5000,AAA,A,10000,BBB,B,20000\n")?;
-    assert_eq!(rt; asked(&rt, rt.alloc(), &text, [2, 0, 0, 0])?, 600);
-    assert_eq!(rt; asked(&rt, rt.alloc(), &text, [2, -2, 0, 0])?, 140);
-    assert_eq!(rt; asked(&rt, rt.alloc(), &text, [1, 0, 0, -2])?, 300);
-    assert_eq!(rt; asked(&rt, rt.alloc(), &text, [0, 0, -1, 0])?, 280);
-    assert_eq!(rt; asked(&rt, rt.alloc(), &text, [0, 0, 1, 0])?, 0);
+fn set_one(rt: HostRuntime) -> Result<(), Fail> {
+    let spread = "S,AAA,1,10000,2,10000,40";
+    let credit = "I,5000,AAA,A,10000,BBB,B,20000\n";
+    let text = text_of(
+        rt.alloc(),
+        "H,1,ONE",
+        "M,AAA,2,2",
+        flat_array(),
+        spread,
+        credit,
+    )?;
+    let cases = [
+        ([2, 0, 0, 0], 600),
+        ([2, -2, 0, 0], 140),
+        ([1, 0, 0, -2], 300),
+        ([0, 0, -1, 0], 280),
+        ([0, 0, 1, 0], 0),
+    ];
+    check(&rt, rt.alloc(), &text, &cases)
+}
+
+#[test]
+fn sets_of_rounding(rt: HostRuntime) -> Result<(), Fail> {
+    let odd = "S,AAA,1,30000,2,10000,40";
+    let credit = "I,5000,AAA,A,10000,BBB,B,20000\n";
+    let text = text_of(
+        rt.alloc(),
+        "H,1,ODD",
+        "M,AAA,2,2",
+        flat_array(),
+        odd,
+        credit,
+    )?;
+    let cases = [([1, -1, 0, 0], 44)];
+    check(&rt, rt.alloc(), &text, &cases)?;
+    let flat = "S,AAA,1,10000,1,10000,40";
+    let text = text_of(
+        rt.alloc(),
+        "H,1,FLAT",
+        "M,AAA,2,1",
+        flat_array(),
+        flat,
+        credit,
+    )?;
+    let cases = [([2, -2, 0, 0], 140)];
+    check(&rt, rt.alloc(), &text, &cases)
+}
+
+#[test]
+fn sets_of_credits(rt: HostRuntime) -> Result<(), Fail> {
+    let spread = "S,AAA,1,10000,2,10000,40";
+    let lost = "-200,-200,-100,-100,100,100,-200,-200,200,200,-300,-300,300,300,-210,210";
+    let whole = "I,10000,AAA,A,10000,BBB,B,20000\n";
+    let text = text_of(rt.alloc(), "H,1,NEG", "M,AAA,2,2", lost, spread, whole)?;
+    let cases = [([1, 0, 0, -2], 0)];
+    check(&rt, rt.alloc(), &text, &cases)?;
+    let won = "-5,-5,-5,-5,-5,-5,-5,-5,-5,-5,-5,-5,-5,-5,-5,-5";
+    let half = "I,5000,AAA,A,10000,BBB,B,20000\n";
+    let text = text_of(rt.alloc(), "H,1,WIN", "M,AAA,2,2", won, spread, half)?;
+    let cases = [([1, 0, 0, -2], 150)];
+    check(&rt, rt.alloc(), &text, &cases)
+}
+
+#[test]
+fn sets_of_spot_months(rt: HostRuntime) -> Result<(), Fail> {
+    let spread = "S,AAA,1,10000,2,10000,40";
+    let last = "I,5000,AAA,A,10000,BBB,B,20000\nT,AAA,1,30,50\n";
+    let text = text_of(
+        rt.alloc(),
+        "H,2,SPOT",
+        "M,AAA,2,2",
+        flat_array(),
+        spread,
+        last,
+    )?;
+    let cases = [
+        ([2, 0, 0, 0], 700),
+        ([2, -2, 0, 0], 200),
+        ([3, -2, 0, 0], 550),
+    ];
+    check(&rt, rt.alloc(), &text, &cases)?;
+    let odd = "S,AAA,1,30000,2,10000,40";
+    let text = text_of(
+        rt.alloc(),
+        "H,2,SPODD",
+        "M,AAA,2,2",
+        flat_array(),
+        odd,
+        last,
+    )?;
+    let cases = [([1, -1, 0, 0], 75)];
+    check(&rt, rt.alloc(), &text, &cases)
+}
+
+#[test]
+fn figures_of_a_credit(rt: HostRuntime) -> Result<(), Fail> {
+    let spread = "S,AAA,1,10000,2,10000,40";
+    let credit = "I,5000,AAA,A,10000,BBB,B,20000\n";
+    let text = text_of(
+        rt.alloc(),
+        "H,1,ONE",
+        "M,AAA,2,2",
+        flat_array(),
+        spread,
+        credit,
+    )?;
+    let set = read_set(rt.alloc(), text.as_bytes())
+        .ok()
+        .ok_or("the set is not read")?;
+    assert_eq!(rt; set.contract_count(), 4);
+    let nets = [net(&rt, 1), net(&rt, 0), net(&rt, 0), net(&rt, -2)];
+    let mut work = Work::new();
+    let figures = figures(rt.alloc(), &set, &nets, &mut work)?;
+    let [first, second] = figures.commodities() else {
+        return Err("not two commodities")?;
+    };
+    assert_eq!(rt; (first.scan.amount(), first.active), (300, 12));
+    assert_eq!(rt; (second.scan.amount(), second.active), (300, 10));
+    assert_eq!(rt;
+        (
+            first.price_risk2.amount(),
+            first.credit.amount(),
+            first.risk.amount()
+        ),
+        (600, 150, 150)
+    );
+    assert_eq!(rt;
+        (
+            second.price_risk2.amount(),
+            second.credit.amount(),
+            second.risk.amount()
+        ),
+        (600, 150, 150)
+    );
+    assert_eq!(rt;
+        (
+            figures.option_value().amount(),
+            figures.requirement().amount()
+        ),
+        (0, 300)
+    );
+    assert_eq!(rt; work.arrays(), 2);
     Ok(())
 }

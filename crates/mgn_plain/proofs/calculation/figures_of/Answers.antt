@@ -7,7 +7,7 @@ use Rattle.mgn_plain.proofs.calculation.figures_of.Goals as goal
 pub returns-clause-figures : goal.returns-clause-figures
 returns-clause-figures c =
     λ nets are.
-    figures_are c.args.set.now nets c.args.parts.now.totals.items c.totals_row.result.now c.args.parts.now.intra.items c.args.parts.now.spot.items c.args.parts.now.credits.items c.args.parts.now.minimums.items c.args.commodity _ _ _ _ _ _ _ _ are c.requires.commodity
+    figures_are c.args.set.now nets c.args.rows.now c.totals_row.result.now c.args.commodity _ _ _ _ _ _ _ _ are c.requires.commodity
     (c.totals_row.ensures ∙ ap (λ (rows : List (List ℤ)). totals_of rows c.args.commodity) c.deref.ensures.value)
     c.scan_figures-scan.ensures.scan c.scan_figures-scan.ensures.active c.scan_figures-scan.ensures.price_risk2
     (c.cents_at-intra.ensures ∙ ap (λ (row : List ℕ). pos (slice_index row c.args.commodity)) c.deref-2.ensures.value)
