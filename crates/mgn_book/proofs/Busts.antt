@@ -1,6 +1,6 @@
 -- What taking a lot back owes: rows that are kept.
-use Rattle.std.proofs.Common.{◌≡◌, ℕ, ◌<◌, ◌≤◌, ◌^◌, List, length, set, get_or, sym, ap, ◌∙◌, subst, arith, All, Bool, true, false, refl}
-use Rattle.std.specs.Prelude.{ℤ, pos, neg_ℤ, ◌+ℤ◌, ◌≤ℤ◌, unsigned_abs, Ok}
+use Rattle.std.proofs.Common.{◌≡◌, ℕ, ◌<◌, List, length, set, get_or, sym, ap, ◌∙◌, subst, arith, Bool, true, false}
+use Rattle.std.specs.Prelude.{pos, neg_ℤ, ◌+ℤ◌, ◌≤ℤ◌, unsigned_abs, Ok}
 use Rattle.std.proofs.lemmas.Int.{ints}
 use Rattle.std.proofs.lemmas.List.Elements.{All-set, All-get_or}
 use Rattle.mgn_params.specs.Limits.{IsWithinLimits}
@@ -11,7 +11,7 @@ use Rattle.mgn_lots.specs.Lots.{IsLot, is_live, lot_at, no_lot, busted}
 use Rattle.mgn_machine.specs.declared.origin.Origin.{Origin}
 use Rattle.mgn_machine.specs.declared.row.Row.{Row}
 use Rattle.mgn_machine.specs.declared.row.Priced.{Priced}
-use Rattle.mgn_machine.specs.State.{AccountState, IsAccount, with_bust}
+use Rattle.mgn_machine.specs.State.{AccountState, with_bust}
 use Rattle.mgn_machine.specs.Portfolios.{account_size, unit_sum}
 use Rattle.mgn_machine.specs.Refusals.{contract_of, has_contract, IsKnown}
 use Rattle.mgn_machine.specs.Rows.{IsRoomy, Prices, bust_change, row_with}

@@ -3,17 +3,16 @@ use Rattle.std.proofs.Common.{◌≡◌, ◌<◌, List, length, set, get_or, sym
 use Rattle.std.specs.Prelude.{ℤ, pos, ◌+ℤ◌, ◌-ℤ◌, ℕ, Bool}
 use Rattle.std.proofs.Common.{arith}
 use Rattle.std.proofs.lemmas.Int.{ints}
-use Rattle.std.proofs.lemmas.List.{get_or_default}
-use Rattle.std.proofs.lemmas.List.Elements.{All-get_or}
 use Rattle.mgn_params.specs.Limits.{IsWithinLimits}
 use Rattle.mgn_params.specs.Tables.{Tables}
 use Rattle.mgn_coll.specs.Posted.{IsPosted, value}
 use Rattle.mgn_machine.specs.declared.origin.Origin.{Origin}
 use Rattle.mgn_machine.specs.declared.row.Row.{Row}
-use Rattle.mgn_machine.specs.State.{AccountState, IsAccount, no_account, with_amount}
+use Rattle.mgn_machine.specs.State.{AccountState, IsAccount, no_account, account_at, with_amount}
 use Rattle.mgn_machine.specs.Refusals.{IsKnown}
-use Rattle.mgn_machine.specs.Rows.{row_with_worth}
+use Rattle.mgn_machine.specs.Rows.{row_of, row_with_worth}
 use Rattle.mgn_machine.proofs.AccountMoves.{amount-moves, amount-limits}
+use Rattle.mgn_machine.proofs.Moved.{row-moved_worth}
 use Rattle.mgn_book.specs.Floors.{floor, IsKept}
 use Rattle.mgn_book.proofs.Kept.{kept-changed, own-moved_worth, account-limits, account-known}
 
@@ -49,3 +48,11 @@ post-kept set' origins accounts rows closed k a b r row class amount within kept
 
     worth_is : row ≡ row_with_worth (gained set' a after) r
     worth_is = worth ∙ ap (λ (x : AccountState). row_with_worth (gained set' a x) r) written
+
+-- the row of the unit with another amount of a class in an account
+pub amount-moved : (set' : Tables) (accounts : List AccountState) (k : ℕ) (class : List ℕ) (amount : ℕ) → k < length accounts → row_of set' (set accounts k (with_amount (account_at accounts k) class amount)) (account_at accounts k).unit ≡ row_with_worth (gained set' (account_at accounts k) (with_amount (account_at accounts k) class amount)) (row_of set' accounts (account_at accounts k).unit)
+amount-moved set' accounts k class amount h =
+    let a = get_or accounts k no_account in
+    let after = with_amount a class amount in
+    row-moved_worth set' accounts k a.unit after (gained set' a after) record { inside = h; was = refl; now = refl }
+    (amount-moves set' a class amount (gained set' a after) (more (pos (value set'.classes after.collateral)) (pos (value set'.classes a.collateral))))

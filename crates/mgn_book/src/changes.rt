@@ -1,10 +1,10 @@
 ghost use Rattle.std.specs.Prelude.{◌≡◌, ◌<◌, ◌≤◌, ◌-ℤ◌, pos, Ok, OnOk, OnErr, false, true, length};
 ghost use Rattle.mgn_lots.specs.Refusals.{has_number, is_full};
-ghost use Rattle.mgn_machine.specs.State.{with_lot, with_bust, with_amount};
+ghost use Rattle.mgn_machine.specs.State.{account_at, put, with_lot, with_bust, with_amount};
 ghost use Rattle.mgn_coll.specs.Posted.{IsPosted, most_of, value};
 ghost use Rattle.mgn_machine.specs.Rows.{IsRow, IsChange, IsRoomy, Prices, row_with, row_with_worth};
 ghost use Rattle.mgn_machine.specs.declared.row.Priced.{Priced};
-ghost use Rattle.mgn_machine.specs.Step.{traded, traded_lot, undone, posted};
+ghost use Rattle.mgn_machine.specs.Step.{traded, traded_lot, undone, posted, drawn};
 ghost use Rattle.mgn_lots.specs.Lots.{IsLot, is_live, lot_at};
 ghost use Rattle.mgn_book.specs.Floors.{IsKept, Steps};
 
@@ -12,7 +12,7 @@ use crate::fault::Fault;
 use crate::register::Register;
 use mgn_ids::{AccountName, ClassName, ContractName, LotId, LotQuantity, Premium, Units};
 use mgn_lots::{Lot, Mark};
-use mgn_machine::{Account, Change, Row};
+use mgn_machine::{Account, Change, Refusal, Row};
 use mgn_params::{ParamSet, Work};
 use std::alloc::{AllocError, Global};
 
@@ -104,17 +104,60 @@ impl Register {
         ensures kept { IsKept set.now self.new }
         ensures steps { Steps (posted set.now self.old.state account class.now units) result self.old self.new }
     {
-        set.limits();
         let (place, amount) = match self.post_place(set, account, class, units) {
             Ok(found) => found,
             Err(why) => return Err(Fault::Refused(why)),
         };
+        match self.write_amount(set, place, class, amount) {
+            Ok(()) => Ok(()),
+            Err(_) => Err(Fault::Memory),
+        }
+    }
+
+    /// Cash or units of a class are drawn, where the unit has room without them.
+    pub fn draw(
+        &mut self,
+        set: &ParamSet,
+        account: AccountName,
+        class: &ClassName,
+        units: Units,
+    ) -> Result<(), Fault>
+        requires kept { IsKept set.now self.old }
+        ensures kept { IsKept set.now self.new }
+        ensures steps { Steps (drawn set.now self.old.state account class.now units) result self.old self.new }
+    {
+        let (place, amount) = match self.draw_place(set, account, class, units) {
+            Ok(found) => found,
+            Err(why) => return Err(Fault::Refused(why)),
+        };
+        if self.is_short_with(set, place, class, amount) {
+            return Err(Fault::Refused(Refusal::NoRoom));
+        }
+        match self.write_amount(set, place, class, amount) {
+            Ok(()) => Ok(()),
+            Err(_) => Err(Fault::Memory),
+        }
+    }
+
+    // Another amount of a class in an account and in the row of its unit; at an error nothing has changed.
+    fn write_amount(
+        &mut self,
+        set: &ParamSet,
+        place: usize,
+        class: &ClassName,
+        amount: u64,
+    ) -> Result<(), AllocError>
+        requires kept { IsKept set.now self.old }
+        requires place { place < length self.old.state.accounts }
+        requires most { amount ≤ most_of class.now }
+        ensures kept { IsKept set.now self.new }
+        ensures written { OnOk result (self.new.state ≡ put self.old.state place (with_amount (account_at self.old.state.accounts place) class.now amount)) }
+        ensures same { OnErr result (self.new ≡ self.old) }
+    {
+        set.limits();
         let owner = &mut self.accounts[place];
         let row = &mut self.rows[owner.unit()];
-        match write_amount(set, owner, row, class, amount) {
-            Ok(()) => {}
-            Err(_) => return Err(Fault::Memory),
-        }
+        write_amount(set, owner, row, class, amount)?;
         Ok(())
     }
 }

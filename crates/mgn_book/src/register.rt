@@ -1,15 +1,15 @@
 ghost use Rattle.std.specs.Prelude.{◌≡◌, ◌<◌, ◌≤◌, ◌≤ℤ◌, ◌+ℤ◌, ◌^◌, ◌==◌, ◌||◌, IfOk, OnOk, Ok, [], length, pos, false, true, unsigned_abs, int_lt};
 ghost use Rattle.mgn_params.specs.Tables.{contract_at, is_premium};
 ghost use Rattle.mgn_lots.specs.Refusals.{has_number, is_full};
-ghost use Rattle.mgn_machine.specs.State.{account_at};
-ghost use Rattle.mgn_machine.specs.Refusals.{place_of, contract_of, has_contract, premium_fits, refuse_if, is_over, lot_places, trade_places, unit_size, bust_refusal, bust_places, post_refusal, post_place};
+ghost use Rattle.mgn_machine.specs.State.{account_at, put, with_amount};
+ghost use Rattle.mgn_machine.specs.Refusals.{place_of, contract_of, has_contract, premium_fits, refuse_if, is_over, lot_places, trade_places, unit_size, bust_refusal, bust_places, post_refusal, post_place, draw_refusal, draw_place};
 ghost use Rattle.mgn_lots.specs.Lots.{is_live, lot_at};
 ghost use Rattle.mgn_coll.specs.Posted.{most_of};
 ghost use Rattle.mgn_params.specs.Positions.{IsNet};
-ghost use Rattle.mgn_machine.specs.Rows.{row_of, IsRow};
+ghost use Rattle.mgn_machine.specs.Rows.{row_of, room_of, least_side, IsRow};
 ghost use Rattle.mgn_book.specs.Floors.{IsKept, floor};
 
-use mgn_coll::PostFault;
+use mgn_coll::{DrawFault, PostFault};
 use mgn_ids::{AccountName, ClassName, ContractName, LotId, LotQuantity, Places, Premium, Units};
 use mgn_lots::{Mark, RemoveFault};
 use mgn_machine::{Account, Origin, Refusal, Row};
@@ -252,6 +252,45 @@ impl Register {
         let amount = post_refusal(owner.amount_posted(set, class, units))?;
         Ok((place, amount))
     }
+
+    // Where an account stands that draws, and what is then left of the class, if it is not refused.
+    #[tactic(auto, unfolding(mgn_machine::specs::Refusals::draw_place))]
+    pub(crate) fn draw_place(
+        &self,
+        set: &ParamSet,
+        account: AccountName,
+        class: &ClassName,
+        units: Units,
+    ) -> Result<(usize, u64), Refusal>
+        ensures place { result ≡ draw_place set.now self.now.state account class.now units }
+        ensures account { IfOk result (λ at. at.0 < length self.now.state.accounts) }
+        ensures most { IfOk result (λ at. at.1 ≤ most_of class.now) }
+    {
+        refuse_if(self.closed, Refusal::Closed)?;
+        let place = self.place(account)?;
+        let owner = &self.accounts[place];
+        let amount = draw_refusal(owner.amount_left(set, class, units))?;
+        Ok((place, amount))
+    }
+
+    // Whether an account's unit would have room below 0 with another amount of a class.
+    pub(crate) fn is_short_with(
+        &self,
+        set: &ParamSet,
+        place: usize,
+        class: &ClassName,
+        amount: u64,
+    ) -> bool
+        requires kept { IsKept set.now self.now }
+        requires place { place < length self.now.state.accounts }
+        requires most { amount ≤ most_of class.now }
+        ensures { result ≡ int_lt (room_of (least_side (row_of set.now (put self.now.state place (with_amount (account_at self.now.state.accounts place) class.now amount)).accounts (account_at self.now.state.accounts place).unit))) (pos 0) }
+    {
+        let owner = &self.accounts[place];
+        let before = owner.collateral_value(set);
+        let after = owner.value_with(set, class, amount);
+        self.row(set, place).is_short_with(set, after.minus(before))
+    }
 }
 
 // The refusal of a lot that cannot be taken back.
@@ -262,6 +301,17 @@ fn bust_refusal(place: Result<usize, RemoveFault>) -> Result<usize, Refusal>
         Ok(at) => Ok(at),
         Err(RemoveFault::NoLot) => Err(Refusal::NoTrade),
         Err(RemoveFault::Moved) => Err(Refusal::Moved),
+    }
+}
+
+// The refusal of what cannot be drawn.
+fn draw_refusal(left: Result<u64, DrawFault>) -> Result<u64, Refusal>
+    ensures { result ≡ draw_refusal left }
+{
+    match left {
+        Ok(amount) => Ok(amount),
+        Err(DrawFault::NoClass) => Err(Refusal::NoClass),
+        Err(DrawFault::Over) => Err(Refusal::Over),
     }
 }
 

@@ -69,6 +69,9 @@ pub fn step(
         Command::Post(account, class, units) => answer_of(register.post(
             set, account, &class, units,
         )),
+        Command::Draw(account, class, units) => answer_of(register.draw(
+            set, account, &class, units,
+        )),
         Command::Ask(account) => Ok(register.ask(set, account)),
         Command::EndDay => answer_of(register.end(set)),
     }

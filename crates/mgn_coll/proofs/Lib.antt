@@ -1,1 +1,2 @@
+pub mod OtherAmounts
 pub mod Written

@@ -83,6 +83,40 @@ impl Collateral {
         Cents::new(i128::from(total))
     }
 
+    /// The same with another amount of one class, or of cash.
+    pub fn value_with(&self, set: &ParamSet, class: &ClassName, amount: u64) -> Cents
+        requires { amount ≤ most_of class.now }
+        ensures value { result ≡ pos (value set.now.classes (with_amount self.now class.now amount)) }
+        ensures most { value set.now.classes (with_amount self.now class.now amount) ≤ 2 * 10 ^ 18 }
+    {
+        set.limits();
+        let mut worth = if is_cash(class) {
+            amount
+        } else {
+            self.cash
+        };
+        for priced in set.classes() {
+            worth += class_value(priced, self.units_with(&priced.name, class, amount));
+        }
+        Cents::new(i128::from(worth))
+    }
+
+    // The units of a class where another amount of some class is posted.
+    #[tactic(auto, using(crate::proofs::OtherAmounts::units_with_cash, crate::proofs::OtherAmounts::units_with_own, crate::proofs::OtherAmounts::units_with_other))]
+    fn units_with(&self, name: &ClassName, class: &ClassName, amount: u64) -> u64
+        requires { amount ≤ most_of class.now }
+        ensures units { result ≡ units_of name.now (with_amount self.now class.now amount).units }
+        ensures most { result ≤ 10 ^ 9 }
+    {
+        if is_cash(class) {
+            return self.class_units(name);
+        }
+        if name == class {
+            return amount;
+        }
+        self.class_units(name)
+    }
+
     /// Whether a set has each class of which units are posted.
     pub fn is_priced_by(&self, set: &ParamSet) -> bool
         ensures { result ≡ is_priced_by set.now.classes self.now }

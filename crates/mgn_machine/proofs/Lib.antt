@@ -3,3 +3,4 @@ pub mod Moved
 pub mod Bounded
 pub mod AccountMoves
 pub mod Histories
+pub mod Short

@@ -6,7 +6,9 @@ use Rattle.mgn_params.specs.Limits.{contract_names}
 use Rattle.mgn_params.specs.Tables.{Tables, contract_at, is_premium}
 use Rattle.mgn_coll.specs.declared.fault.PostFault.{PostFault}
 use Rattle.mgn_coll.specs.declared.fault.PostFault.TheVariants.{NoClass as UnknownClass, Limit as OverLimit, Memory}
-use Rattle.mgn_coll.specs.Refusals.{amount_posted}
+use Rattle.mgn_coll.specs.declared.fault.DrawFault.{DrawFault}
+use Rattle.mgn_coll.specs.declared.fault.DrawFault.TheVariants.{NoClass as NoSuchClass, Over as OverPosted}
+use Rattle.mgn_coll.specs.Refusals.{amount_posted, amount_left}
 use Rattle.mgn_lots.specs.declared.lot.Lot.{Lot}
 use Rattle.mgn_lots.specs.Lots.{is_live}
 use Rattle.mgn_lots.specs.Refusals.{has_number, is_full, traded_place}
@@ -17,9 +19,10 @@ use Rattle.mgn_machine.specs.declared.command.Mode.{Mode}
 use Rattle.mgn_machine.specs.declared.command.Mode.TheVariants.{Gross, Net}
 use Rattle.mgn_machine.specs.declared.origin.Origin.{Origin}
 use Rattle.mgn_machine.specs.declared.reply.Refusal.{Refusal}
-use Rattle.mgn_machine.specs.declared.reply.Refusal.TheVariants.{NoAccount, NoOrigin, Duplicate, NoContract, NoTrade, Moved, NoClass, Limit, Premium, Closed}
+use Rattle.mgn_machine.specs.declared.reply.Refusal.TheVariants.{NoAccount, NoOrigin, Duplicate, NoContract, NoTrade, Moved, NoClass, NoRoom, Limit, Premium, Over, Closed}
 use Rattle.mgn_machine.specs.State.{State, AccountState, account_at}
 use Rattle.mgn_machine.specs.Portfolios.{unit_sum, account_size}
+use Rattle.mgn_machine.specs.Rows.{row_of, room_of, least_side}
 
 infixl 10 ◌>>=◌
 abbrev pub ◌>>=◌ : {A B : Type 0} → Result A Refusal → (A → Result B Refusal) → Result B Refusal
@@ -155,3 +158,22 @@ post_place set s account class units = do
   k ← place_of s account
   amount ← post_refusal (amount_posted set.classes (account_at s.accounts k).collateral class units)
   Ok (k, amount)
+
+-- DRAW
+
+abbrev pub draw_refusal : Result ℕ DrawFault → Result ℕ Refusal
+draw_refusal (Ok amount) = Ok amount
+draw_refusal (Err NoSuchClass) = Err NoClass
+draw_refusal (Err OverPosted) = Err Over
+
+-- where the account stands, and what is then left of the class
+unfoldable pub draw_place : Tables → State → List ℕ → List ℕ → ℕ → Result (ℕ × ℕ) Refusal
+draw_place set s account class units = do
+  _ ← refuse_if s.closed Closed
+  k ← place_of s account
+  amount ← draw_refusal (amount_left set.classes (account_at s.accounts k).collateral class units)
+  Ok (k, amount)
+
+-- the state, unless a portfolio of a unit has room below 0 in it
+abbrev pub if_room : Tables → ℕ → State → Result State Refusal
+if_room set u now = if int_lt (room_of (least_side (row_of set now.accounts u))) (pos 0) then Err NoRoom else Ok now

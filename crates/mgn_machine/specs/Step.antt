@@ -4,7 +4,7 @@ use Rattle.mgn_params.specs.Tables.{Tables}
 use Rattle.mgn_lots.specs.declared.lot.Lot.{Lot}
 use Rattle.mgn_lots.specs.declared.lot.Mark.TheVariants.{Traded}
 use Rattle.mgn_machine.specs.declared.command.Command.{Command}
-use Rattle.mgn_machine.specs.declared.command.Command.TheVariants.{NewOrigin, NewAccount, Trade, Bust, Post, Ask, EndDay}
+use Rattle.mgn_machine.specs.declared.command.Command.TheVariants.{NewOrigin, NewAccount, Trade, Bust, Post, Draw, Ask, EndDay}
 use Rattle.mgn_machine.specs.declared.command.Mode.{Mode}
 use Rattle.mgn_machine.specs.declared.command.Mode.TheVariants.{Gross, Net}
 use Rattle.mgn_machine.specs.declared.reply.Refusal.{Refusal}
@@ -13,7 +13,7 @@ use Rattle.mgn_machine.specs.declared.reply.Reply.{Reply}
 use Rattle.mgn_machine.specs.declared.reply.Reply.TheVariants.{Done, Figures, Refused}
 use Rattle.mgn_machine.specs.State.{State, account_at, put, fresh, with_lot, with_bust, with_amount}
 use Rattle.mgn_machine.specs.Rows.{row_of, figures_of}
-use Rattle.mgn_machine.specs.Refusals.{◌>>=◌, refuse_if, origin_fits, open_unit, place_of, trade_places, bust_places, post_place}
+use Rattle.mgn_machine.specs.Refusals.{◌>>=◌, refuse_if, origin_fits, open_unit, place_of, trade_places, bust_places, post_place, draw_place, if_room}
 
 -- an origin more; a netted one makes its unit
 abbrev pub with_origin : State → List ℕ → Mode → State
@@ -56,6 +56,12 @@ posted set s account class units = do
   at ← post_place set s account class units
   Ok (put s at.0 (with_amount (account_at s.accounts at.0) class at.1))
 
+-- cash or units of a class taken off, where the unit has room without them
+abbrev pub drawn : Tables → State → List ℕ → List ℕ → ℕ → Result State Refusal
+drawn set s account class units = do
+  at ← draw_place set s account class units
+  if_room set (account_at s.accounts at.0).unit (put s at.0 (with_amount (account_at s.accounts at.0) class at.1))
+
 -- the figures of the account's unit
 abbrev pub asked : Tables → State → List ℕ → Result Reply Refusal
 asked set s account = do
@@ -83,5 +89,6 @@ step set s (NewAccount account origin) = answered s (opened s account origin)
 step set s (Trade account lot contract quantity premium) = answered s (traded set s account lot contract quantity premium)
 step set s (Bust account lot) = answered s (undone s account lot)
 step set s (Post account class units) = answered s (posted set s account class units)
+step set s (Draw account class units) = answered s (drawn set s account class units)
 step set s (Ask account) = (s, told (asked set s account))
 step set s EndDay = answered s (ended s)

@@ -1,11 +1,11 @@
 ghost use Rattle.std.specs.Prelude.{◌≡◌, ◌<◌, ◌≤◌, ◌*◌, ◌^◌, pos, length, OnOk, OnErr, IfOk, false, true};
 ghost use Rattle.mgn_coll.specs.Posted.{IsPosted, most_of, value};
-ghost use Rattle.mgn_coll.specs.Refusals.{amount_posted};
+ghost use Rattle.mgn_coll.specs.Refusals.{amount_posted, amount_left};
 ghost use Rattle.mgn_lots.specs.Lots.{IsLot, is_live, lot_at};
 ghost use Rattle.mgn_lots.specs.Refusals.{has_number, is_full, traded_place};
 ghost use Rattle.mgn_machine.specs.State.{fresh, with_lot, with_bust, with_amount};
 
-use mgn_coll::{Collateral, PostFault};
+use mgn_coll::{Collateral, DrawFault, PostFault};
 use mgn_holds::Holds;
 use mgn_ids::{AccountName, ClassName, LotId, Units};
 use mgn_lots::{Lot, Lots, Mark, RemoveFault};
@@ -79,6 +79,28 @@ impl Account {
         ensures most { IfOk result (λ amount. amount ≤ most_of class.now) }
     {
         self.collateral.amount_posted(set, class, units)
+    }
+
+    /// What would be left of a class with units less, or why they cannot be drawn.
+    pub fn amount_left(
+        &self,
+        set: &ParamSet,
+        class: &ClassName,
+        units: Units,
+    ) -> Result<u64, DrawFault>
+        ensures amount { result ≡ amount_left set.now.classes self.now.collateral class.now units }
+        ensures most { IfOk result (λ amount. amount ≤ most_of class.now) }
+    {
+        self.collateral.amount_left(set, class, units)
+    }
+
+    /// The value of the collateral with another amount of one class, in cents.
+    pub fn value_with(&self, set: &ParamSet, class: &ClassName, amount: u64) -> Cents
+        requires { amount ≤ most_of class.now }
+        ensures value { result ≡ pos (value set.now.classes (with_amount self.now class.now amount).collateral) }
+        ensures most { value set.now.classes (with_amount self.now class.now amount).collateral ≤ 2 * 10 ^ 18 }
+    {
+        self.collateral.value_with(set, class, amount)
     }
 
     /// Whether the account has a lot of a number, busted or not.

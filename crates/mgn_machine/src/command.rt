@@ -24,6 +24,8 @@ pub enum Command {
     Bust(AccountName, LotId),
     /// `POST`: units of a collateral class, or cents where the class is CASH.
     Post(AccountName, ClassName, Units),
+    /// `DRAW`: units of a collateral class, or cents where the class is CASH, are taken off.
+    Draw(AccountName, ClassName, Units),
     /// `ASK`: the figures of the account's margin unit.
     Ask(AccountName),
     /// `END`: the day is over, and the book changes no more.

@@ -23,10 +23,14 @@ pub enum Refusal {
     NoTrade,
     /// The class is neither CASH nor one of the current set.
     NoClass,
+    /// A portfolio of the unit would have less than it requires.
+    NoRoom,
     /// A limit would be passed.
     Limit,
     /// The premium does not fit the contract.
     Premium,
+    /// It is more than is there.
+    Over,
     /// The lot was moved between accounts.
     Moved,
     /// The day is over.

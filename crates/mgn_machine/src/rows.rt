@@ -1,4 +1,4 @@
-ghost use Rattle.std.specs.Prelude.{◌≡◌, ◌<◌, ◌≤◌, ◌^◌, ◌+ℤ◌, All, IfOk, length, pos, replicate, unsigned_abs};
+ghost use Rattle.std.specs.Prelude.{◌≡◌, ◌<◌, ◌≤◌, ◌^◌, ◌+ℤ◌, ◌||◌, All, IfOk, int_lt, length, pos, unsigned_abs};
 ghost use Rattle.mgn_num.specs.Amount.{IsQuantity};
 ghost use Rattle.mgn_params.specs.Positions.{IsNet};
 ghost use Rattle.mgn_params.specs.Requirement.{requirement};
@@ -97,6 +97,15 @@ impl Side {
         ensures { self.new ≡ side_with_worth amount self.old }
     {
         self.worth = self.worth.plus(amount);
+    }
+
+    /// Whether the portfolio would have room below 0 with an amount more in worth.
+    fn is_short_with(&self, set: &ParamSet, amount: Cents) -> bool
+        requires side { IsSide set.now self.now }
+        requires amount { unsigned_abs amount ≤ 10 ^ 24 }
+        ensures { result ≡ int_lt (room_of (side_with_worth amount self.now)) (pos 0) }
+    {
+        self.worth.plus(amount).minus(self.requirement) < Cents::ZERO
     }
 
     /// What the portfolio has above its requirement.
@@ -211,6 +220,19 @@ impl Row {
         self.all.gain_worth(set, amount);
     }
 
+    /// Whether a portfolio would have room below 0 with an amount more in worth.
+    pub fn is_short_with(&self, set: &ParamSet, amount: Cents) -> bool
+        requires row { IsRow set.now self.now }
+        requires amount { unsigned_abs amount ≤ 10 ^ 24 }
+        ensures { result ≡ int_lt (room_of (least_side (row_with_worth amount self.now))) (pos 0) }
+    {
+        let lots = self.lots.is_short_with(set, amount);
+        let buys = self.buys.is_short_with(set, amount);
+        let sales = self.sales.is_short_with(set, amount);
+        let all = self.all.is_short_with(set, amount);
+        any_of(lots, buys, sales, all)
+    }
+
     /// The first portfolio with the least room, in the order lots, buys, sales, all.
     pub fn least_side(&self, set: &ParamSet) -> &Side
         requires { IsRow set.now self.now }
@@ -252,4 +274,20 @@ fn lesser<'a>(set: &ParamSet, first: &'a Side, second: &'a Side) -> &'a Side
     } else {
         first
     }
+}
+
+// Whether one of four answers is yes.
+fn any_of(lots: bool, buys: bool, sales: bool, all: bool) -> bool
+    ensures { result ≡ (lots || buys || sales || all) }
+{
+    if lots {
+        return true;
+    }
+    if buys {
+        return true;
+    }
+    if sales {
+        return true;
+    }
+    all
 }

@@ -1,4 +1,4 @@
-use Rattle.std.proofs.Common.{◌≡◌, sym, ◌∙◌}
+use Rattle.std.proofs.Common.{sym, ◌∙◌}
 use Rattle.mgn_book.proofs.Kept.{known-stands}
 use Rattle.mgn_book.proofs.register.known_contract.Goals as goal
 

@@ -2,7 +2,7 @@ use Rattle.std.proofs.Common.{◌≡◌, ◌<◌, ap, ◌∙◌, sym, subst, len
 use Rattle.std.proofs.lemmas.List.{get_or_default}
 use Rattle.mgn_lots.specs.declared.lot.Lot.{Lot}
 use Rattle.mgn_lots.specs.Lots.{is_live, lot_at}
-use Rattle.mgn_machine.specs.Refusals.{has_contract, contract_of}
+use Rattle.mgn_machine.specs.Refusals.{has_contract}
 use Rattle.mgn_machine.specs.State.{AccountState, no_account, account_at}
 use Rattle.mgn_book.specs.Floors.{Floor, IsKept, floor}
 use Rattle.mgn_book.proofs.Kept.{lot-known}
