@@ -8,7 +8,7 @@ use Rattle.mgn_ids.specs.Number.{number_in}
 use Rattle.mgn_ids.specs.declared.fault.IdFault.{IdFault}
 use Rattle.mgn_ids.specs.declared.fault.IdFault.TheVariants.{Syntax, Range}
 use Rattle.mgn_machine.specs.declared.command.Command.{Command}
-use Rattle.mgn_machine.specs.declared.command.Command.TheVariants.{NewOrigin, NewAccount, Trade, Post, Ask, EndDay}
+use Rattle.mgn_machine.specs.declared.command.Command.TheVariants.{NewOrigin, NewAccount, Trade, Bust, Post, Ask, EndDay}
 use Rattle.mgn_wire.specs.Word.{words_of, mode_in}
 use Rattle.mgn_wire.specs.declared.fault.LineFault.{LineFault}
 use Rattle.mgn_wire.specs.declared.fault.LineFault.TheVariants as line
@@ -30,6 +30,12 @@ open_of account origin = do
   name ← name_in account
   within ← name_in origin
   Ok (NewAccount name within)
+
+unfoldable pub bust_of : List ℕ → List ℕ → Result Command IdFault
+bust_of account lot = do
+  name ← name_in account
+  number ← number_in lot
+  Ok (Bust name number)
 
 unfoldable pub origin_of : List ℕ → List ℕ → Result Command IdFault
 origin_of origin mode = do
@@ -63,7 +69,8 @@ with_one verb a = if bytes_eq verb (codes "ASK") then ask_of a else Err Syntax
 
 unfoldable pub with_two : List ℕ → List ℕ → List ℕ → Result Command IdFault
 with_two verb a b =
-    if bytes_eq verb (codes "OPEN") then open_of a b
+    if bytes_eq verb (codes "BUST") then bust_of a b
+    else if bytes_eq verb (codes "OPEN") then open_of a b
     else if bytes_eq verb (codes "ORIGIN") then origin_of a b
     else Err Syntax
 

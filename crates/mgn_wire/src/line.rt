@@ -1,6 +1,6 @@
 ghost use Rattle.std.specs.Prelude.{◌≡◌, map, nat_lt, length};
 ghost use Rattle.std.specs.List.{list_all};
-ghost use Rattle.mgn_wire.specs.Line.{line_of, in_line, command_of, with_none, with_one, with_two, with_three, with_five, ask_of, open_of, origin_of, post_of, trade_of};
+ghost use Rattle.mgn_wire.specs.Line.{line_of, in_line, command_of, with_none, with_one, with_two, with_three, with_five, ask_of, bust_of, open_of, origin_of, post_of, trade_of};
 
 use crate::fault::LineFault;
 use crate::words::{read_mode, split_words};
@@ -28,6 +28,15 @@ fn read_open(account: &[u8], origin: &[u8]) -> Result<Command, IdFault>
     let account = AccountName::read(account)?;
     let origin = OriginName::read(origin)?;
     Ok(Command::NewAccount(account, origin))
+}
+
+#[tactic(auto, unfolding(crate::specs::Line::bust_of))]
+fn read_bust(account: &[u8], lot: &[u8]) -> Result<Command, IdFault>
+    ensures { result ≡ bust_of account.now lot.now }
+{
+    let account = AccountName::read(account)?;
+    let lot = LotId::read(lot)?;
+    Ok(Command::Bust(account, lot))
 }
 
 #[tactic(auto, unfolding(crate::specs::Line::origin_of))]
@@ -95,7 +104,9 @@ fn read_one(verb: &[u8], a: &[u8]) -> Result<Command, IdFault>
 fn read_two(verb: &[u8], a: &[u8], b: &[u8]) -> Result<Command, IdFault>
     ensures { result ≡ with_two verb.now a.now b.now }
 {
-    if verb == b"OPEN".as_slice() {
+    if verb == b"BUST".as_slice() {
+        read_bust(a, b)
+    } else if verb == b"OPEN".as_slice() {
         read_open(a, b)
     } else if verb == b"ORIGIN".as_slice() {
         read_origin(a, b)
@@ -210,6 +221,8 @@ mod tests {
         assert!(rt; matches!(&account, Ok(Command::NewAccount(_, _))));
         let post = read_line(b"POST A1 CASH 1000");
         assert!(rt; matches!(&post, Ok(Command::Post(_, _, _))));
+        let bust = read_line(b"BUST A1 1");
+        assert!(rt; matches!(&bust, Ok(Command::Bust(_, _))));
         let end = read_line(b"END");
         assert!(rt; matches!(&end, Ok(Command::EndDay)));
         let ask = read_line(b"ASK A1");

@@ -1,0 +1,65 @@
+use mgn_session::SessionFault;
+use std::alloc::AllocError;
+use thiserror::Error;
+
+/// Why the program ends before the end of its input.
+#[derive(Debug, Drop, Error)]
+pub enum Fault {
+    /// The command line is wrong, or asks for help.
+    #[error("{0}")]
+    Usage(clap::Error),
+    /// The set's file is missing, cannot be read, or is too long, or its name is none.
+    #[error("set NOSET")]
+    NoSet,
+    /// The record of this number, the first that is wrong, is no record of a set.
+    #[error("set BADSET {0}")]
+    BadSet(u64),
+    /// The session ended before the end of its input.
+    #[error("session {}", name_of(.0))]
+    Session(SessionFault),
+    /// Memory could not be had.
+    #[error("memory")]
+    Memory,
+}
+
+fn name_of(fault: &SessionFault) -> &'static str {
+    match fault {
+        SessionFault::Read => "READ",
+        SessionFault::Write => "WRITE",
+        SessionFault::Memory => "MEMORY",
+        SessionFault::Lines => "LINES",
+    }
+}
+
+impl Fault {
+    /// Tells the fault, as one line on standard error or as the text of the command line's own, and gives the
+    /// program's exit status.
+    pub fn report<R: Print + Eprint>(&self, rt: &R) -> u8 {
+        if let Fault::Usage(error) = self {
+            let _ = error.print(rt);
+            return if error.use_stderr() { 2 } else { 0 };
+        }
+        let _ = eprintln!(rt; "spand: {self}");
+        match self {
+            Fault::Usage(_) => 2,
+            Fault::NoSet | Fault::BadSet(_) => 3,
+            Fault::Session(_) => 4,
+            Fault::Memory => 6,
+        }
+    }
+}
+
+impl From<AllocError> for Fault {
+    fn from(_error: AllocError) -> Fault {
+        Fault::Memory
+    }
+}
+
+impl From<clap::Error> for Fault {
+    fn from(error: clap::Error) -> Fault {
+        match error.kind() {
+            clap::error::ErrorKind::OutOfMemory => Fault::Memory,
+            _ => Fault::Usage(error),
+        }
+    }
+}
