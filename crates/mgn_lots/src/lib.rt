@@ -5,10 +5,12 @@ pub mod fault;
 pub mod lot;
 pub mod lots;
 pub mod position;
+pub mod transfer;
 
 pub use fault::{AddFault, RemoveFault};
 pub use lot::{Lot, Mark};
 pub use lots::Lots;
+pub use transfer::push_both;
 
 #[cfg(test)]
 mod tests;
