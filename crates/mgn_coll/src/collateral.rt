@@ -1,5 +1,5 @@
 ghost use Rattle.std.specs.Prelude.{◌≡◌, ◌≤◌, ◌*◌, ◌^◌, pos, Ok, Err, OnOk, OnErr, IfOk, IfErr, IsOk};
-ghost use Rattle.mgn_coll.specs.Posted.{nothing, is_cash, units_of, amount_of, with_amount, most_of, value, is_priced_by};
+ghost use Rattle.mgn_coll.specs.Posted.{IsPosted, nothing, is_cash, units_of, amount_of, with_amount, most_of, value, is_priced_by};
 ghost use Rattle.mgn_coll.specs.Refusals.{amount_posted, posted, Explains, amount_left, drawn};
 
 use crate::amounts::{class_value, is_cash, is_known, most_of};
@@ -30,6 +30,13 @@ impl Model for Collateral {
 }
 
 impl Collateral {
+    /// What everything posted meets: no work, a fact for callers.
+    pub fn limits(&self)
+        ensures { IsPosted self.now.cash self.now.units }
+    {
+        let _ = &self.units;
+    }
+
     /// Nothing is posted. Takes no memory.
     pub fn new(alloc: Global) -> Collateral
         ensures { result ≡ nothing }

@@ -7,3 +7,6 @@ pub mod fault;
 
 pub use collateral::Collateral;
 pub use fault::{DrawFault, PostFault};
+
+#[cfg(test)]
+mod tests;

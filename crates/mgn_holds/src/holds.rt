@@ -59,7 +59,7 @@ impl Holds {
     pub fn is_full(&self) -> bool
         ensures { result ≡ is_full self.now }
     {
-        MOST_HOLDS <= self.holds.len()
+        MOST_HOLDS <= self.len()
     }
 
     /// All holds, in order of entry.

@@ -11,3 +11,6 @@ pub use fault::{AddFault, FillFault, ReleaseFault};
 pub use held::Held;
 pub use holds::Holds;
 pub use side::Side;
+
+#[cfg(test)]
+mod tests;

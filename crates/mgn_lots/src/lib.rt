@@ -9,3 +9,6 @@ pub mod position;
 pub use fault::{AddFault, RemoveFault};
 pub use lot::{Lot, Mark};
 pub use lots::Lots;
+
+#[cfg(test)]
+mod tests;

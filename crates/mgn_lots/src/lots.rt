@@ -67,7 +67,7 @@ impl Lots {
     pub fn is_full(&self) -> bool
         ensures { result ≡ is_full self.now.lots }
     {
-        MOST_LOTS <= self.lots.len()
+        MOST_LOTS <= self.len()
     }
 
     /// All lots, in order of entry.

@@ -1,1 +1,7 @@
--- The definitions of the machine.
+-- The definitions of the machine of one thread.
+pub mod State
+pub mod Portfolios
+pub mod Rows
+pub mod Refusals
+pub mod Step
+pub mod History

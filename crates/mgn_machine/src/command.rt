@@ -20,6 +20,8 @@ pub enum Command {
     NewAccount(AccountName, OriginName),
     /// `TRADE`: a lot of an account, with the premium for each contract.
     Trade(AccountName, LotId, ContractName, LotQuantity, Premium),
+    /// `BUST`: a traded lot of an account is taken back.
+    Bust(AccountName, LotId),
     /// `POST`: units of a collateral class, or cents where the class is CASH.
     Post(AccountName, ClassName, Units),
     /// `ASK`: the figures of the account's margin unit.

@@ -1,10 +1,21 @@
 //! The machine of one thread: commands, replies, the state of the book, and the definition of a step.
 #![tactic(auto)]
 
+pub mod account;
+pub mod change;
 pub mod command;
 pub mod entry;
+pub mod nets;
+pub mod origin;
 pub mod reply;
+pub mod row;
+pub mod rows;
 
+pub use account::Account;
+pub use change::{Change, Gain};
 pub use command::{Command, Mode};
 pub use entry::{Entry, Item};
+pub use nets::Nets;
+pub use origin::Origin;
 pub use reply::{Answer, Figures, Refusal, Reply};
+pub use row::{Priced, Row, Side};

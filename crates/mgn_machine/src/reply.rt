@@ -19,12 +19,16 @@ pub enum Refusal {
     Duplicate,
     /// The current set has no such contract.
     NoContract,
+    /// The account has no such lot, or it is busted.
+    NoTrade,
     /// The class is neither CASH nor one of the current set.
     NoClass,
     /// A limit would be passed.
     Limit,
     /// The premium does not fit the contract.
     Premium,
+    /// The lot was moved between accounts.
+    Moved,
     /// The day is over.
     Closed,
     /// Memory could not be had. Nothing has changed.

@@ -1,7 +1,7 @@
 -- Nets of 0 give a requirement of 0.
-use Rattle.std.proofs.Common.{◌≡◌, ℕ, zero, suc, ◌+◌, ◌-◌, ◌*◌, ◌/◌, ◌<◌, Option, Some, None, List, [], ◌∷◌, ◌==◌, length, map, replicate, get_or, set, refl, sym, ap, ◌∙◌, arith, rules}
-use Rattle.std.specs.Prelude.{ℤ, pos, ◌+ℤ◌, ◌-ℤ◌, ◌*ℤ◌, slice_index, slice_set, if◌then◌else◌, ◌&&◌, Bool, true, false, nat_lt, unsigned_abs}
-use Rattle.std.specs.Int.{div_ceil, int_max}
+use Rattle.std.proofs.Common.{◌≡◌, ℕ, zero, suc, ◌-◌, ◌*◌, Option, Some, None, List, [], ◌∷◌, ◌==◌, length, map, replicate, set, refl, ap, arith}
+use Rattle.std.specs.Prelude.{ℤ, pos, ◌*ℤ◌, slice_index, slice_set, if◌then◌else◌, ◌&&◌, Bool, true, false, nat_lt}
+use Rattle.std.specs.Int.{int_max}
 use Rattle.std.specs.List.{AllByRecursion, range_with_len, sum_by}
 use Rattle.std.proofs.Math.IntN.{zero-*ℤ}
 use Rattle.std.proofs.Math.Nat.{zero-div, zero-mul}
@@ -17,10 +17,10 @@ use Rattle.mgn_params.specs.declared.tables.Stage.{Stage}
 use Rattle.mgn_params.specs.Deltas.{is_in_tier, negative_part, positive_part, long_delta, long_share, month_delta, month_share, short_delta, short_share, start_of, starts_of}
 use Rattle.mgn_params.specs.Options.{net_option_value, short_option_minimum, short_share_of, value_share}
 use Rattle.mgn_params.specs.Positions.{AreFlat, Position, positions}
-use Rattle.mgn_params.specs.Requirement.{credit, intra_charge, minimum, requirement, risk, scan_of, spot_charge}
-use Rattle.mgn_params.specs.Scan.{active, scan_risk, scenario_share, scenario_total, value_at}
-use Rattle.mgn_params.specs.Spot.{outright_delta, spot_charge_at, spot_charge_of, spot_of, spread_delta}
-use Rattle.mgn_params.specs.Stages.{amount_of, charge_of, charges_of, left_after, long_leg, short_leg, stages_of, used, used_by, used_of}
+use Rattle.mgn_params.specs.Requirement.{intra_charge, requirement, risk, scan_of, spot_charge}
+use Rattle.mgn_params.specs.Scan.{active, scenario_share, scenario_total, value_at}
+use Rattle.mgn_params.specs.Spot.{outright_delta, spot_charge_of, spot_of, spread_delta}
+use Rattle.mgn_params.specs.Stages.{amount_of, charge_of, charges_of, left_after, long_leg, short_leg, stages_of, used, used_by}
 use Rattle.mgn_params.specs.Tables.{Tables, commodity_at, is_option, is_premium}
 
 -- each net is 0

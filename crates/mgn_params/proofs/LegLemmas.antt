@@ -1,6 +1,6 @@
 -- Reading the legs of a spread between commodities one after another.
-use Rattle.std.proofs.Common.{◌≡◌, ℕ, suc, zero, ◌⊎◌, ◌+◌, ◌-◌, ◌*◌, ◌<◌, ◌≤◌, List, [], ◌∷◌, ◌++◌, Option, Some, None, length, take, drop, set, get_or, replicate, Result, Ok, Err, All, Bool, true, false, refl, sym, ap, ◌∙◌, arith, append_assoc, add-one, take_all, map, length-append, inr}
-use Rattle.std.specs.Prelude.{◌||◌, ◌==◌, IfSome, IfOk, IfErr}
+use Rattle.std.proofs.Common.{◌≡◌, ℕ, ◌⊎◌, ◌+◌, ◌-◌, ◌<◌, ◌≤◌, List, [], ◌∷◌, ◌++◌, Some, None, length, take, drop, set, get_or, replicate, Result, Ok, Err, All, Bool, true, false, refl, ap, ◌∙◌, arith, add-one, length-append, inr}
+use Rattle.std.specs.Prelude.{◌||◌, ◌==◌, IfOk, IfErr}
 use Rattle.std.specs.List.{IsDistinct, AllByRecursion, list_any}
 use Rattle.std.proofs.Math.ListN.{take-append-drop}
 use Rattle.std.proofs.Math.Seq.{drop-cons, take-append_seam}

@@ -1,5 +1,5 @@
 -- The limits, kept as tables grow.
-use Rattle.std.proofs.Common.{◌≡◌, ◌≢◌, ℕ, ◌+◌, ◌<◌, ◌≤◌, ◌++◌, ◌∷◌, [], List, length, map, All, ap, ◌∙◌, ⊎_elim, arith, length-append, eq-eqb, count_by, false, get_or}
+use Rattle.std.proofs.Common.{◌≡◌, ◌≢◌, ℕ, ◌+◌, ◌<◌, ◌≤◌, ◌++◌, ◌∷◌, [], List, length, map, All, ap, ◌∙◌, ⊎_elim, arith, length-append, count_by, false, get_or}
 use Rattle.std.specs.Prelude.{◌==◌}
 use Rattle.std.specs.List.{IsDistinct, list_any}
 use Rattle.std.specs.Str.{bytes_eq}
@@ -20,7 +20,7 @@ use Rattle.mgn_params.specs.declared.tables.Month.{Month}
 use Rattle.mgn_params.specs.declared.tables.SpotCharge.{SpotCharge}
 use Rattle.mgn_params.specs.declared.tables.Spread.{Spread}
 use Rattle.mgn_params.specs.Limits.{IsClass, IsCommodity, IsContract, IsCreditSpread, IsLeg, IsMonth, IsNextClass, IsNextCommodity, IsNextContract, IsNextCreditSpread, IsNextMonth, IsNextSpot, IsNextSpread, IsSpotCharge, IsSpread, IsWithinLimits}
-use Rattle.mgn_params.specs.Tables.{Tables, month_at, no_month}
+use Rattle.mgn_params.specs.Tables.{Tables, no_month}
 
 -- one more row of a commodity that had room
 count_push : {X : Type 0} (f : X → ℕ) → (most g : ℕ) (xs : List X) (x : X) → count_by (λ y. f y == f x) xs < most → count_by (λ y. f y == g) xs ≤ most → count_by (λ y. f y == g) (xs ++ x ∷ []) ≤ most

@@ -1,6 +1,6 @@
 -- From reads of one line to the records of that line.
-use Rattle.std.proofs.Common.{◌≡◌, ℕ, List, [], ◌∷◌, length, Option, Some, None, Ok, Err, true, false, refl, sym, ◌∙◌, add-one, suc}
-use Rattle.std.proofs.Common.{◌<◌, ◌+◌, ◌≤◌, take, drop, Bool, cond, arith}
+use Rattle.std.proofs.Common.{◌≡◌, ℕ, List, [], ◌∷◌, length, Option, Some, None, Ok, Err, true, false, refl, sym, ◌∙◌, add-one}
+use Rattle.std.proofs.Common.{◌+◌, ◌≤◌, take, drop, Bool, cond, arith}
 use Rattle.std.specs.Prelude.{position, nat_lt}
 use Rattle.std.specs.List.{slice_split, position_or_len}
 use Rattle.std.proofs.lemmas.Bool.Decides.{nat_tests}
@@ -9,13 +9,13 @@ use Rattle.std.proofs.lemmas.List.Sums.{fails_before_first, position_or_len_is}
 use Rattle.std.proofs.lemmas.List.Elements.{All-from_get_or}
 use Rattle.std.proofs.lemmas.List.Quantifiers.{position-Some}
 use Rattle.csv.specs.Machine.{Read, next_record}
-use Rattle.csv.specs.Reading.{records, records_from, Reached, default_config, strip_bom, source_of, ReadRecord}
+use Rattle.csv.specs.Reading.{records, records_from, Reached, default_config, source_of, ReadRecord}
 use Rattle.csv.specs.declared.reader.Reader.{Reader}
 use Rattle.csv.proofs.ReadFacts.{rows-end, rows-more}
 use Rattle.csv.specs.declared.parser.State.{State}
 use Rattle.csv.specs.declared.parser.State.TheVariants as st
 use Rattle.mgn_params.specs.Fields.{Fields}
-use Rattle.mgn_params.specs.Lines.{single, line_records}
+use Rattle.mgn_params.specs.Lines.{single}
 use Rattle.mgn_params.specs.declared.fault.LineFault.TheVariants.{Second}
 
 pub none_found : (xs : List ℕ) → next_record default_config st.StartRecord [] [] xs ≡ None → records default_config xs ≡ []

@@ -5,9 +5,8 @@ use Rattle.mgn_params.specs.declared.tables.Contract.{Contract}
 use Rattle.mgn_params.specs.declared.tables.Kind.TheVariants.{Future, Call}
 use Rattle.mgn_params.specs.declared.tables.Side.TheVariants.{A, B}
 use Rattle.mgn_params.specs.declared.tables.Style.TheVariants.{Premium, Other}
-use Rattle.mgn_params.specs.Credits.{credits_of}
 use Rattle.mgn_params.specs.Deltas.{starts_of}
-use Rattle.mgn_params.specs.Positions.{Position, positions}
+use Rattle.mgn_params.specs.Positions.{positions}
 use Rattle.mgn_params.specs.Requirement.{credits, intra_charge, minimum, requirement, risk, scan_of, spot_charge}
 use Rattle.mgn_params.specs.Scan.{active, scenario_total}
 use Rattle.mgn_params.specs.Tables.{Tables, no_leg}

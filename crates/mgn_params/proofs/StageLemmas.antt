@@ -1,11 +1,8 @@
 -- A stage never uses more than its legs have, and what is left of a leg is its start less all earlier uses.
-use Rattle.std.proofs.Common.{◌≡◌, ◌≢◌, ℕ, zero, suc, ◌+◌, ◌-◌, ◌*◌, ◌/◌, ◌<◌, ◌≤◌, min, List, [], ◌∷◌, length, set, get_or, slice_index, slice_set, refl, sym, ap, ◌∙◌, arith, ⊎_elim, length-set}
-use Rattle.std.specs.Prelude.{◌==◌, if◌then◌else◌}
+use Rattle.std.proofs.Common.{ℕ, ◌*◌, ◌/◌, ◌<◌, ◌≤◌, List, slice_index, arith}
 use Rattle.std.proofs.Math.Nat.{mul-le-mul_right}
-use Rattle.std.proofs.lemmas.Bool.{cases_eq}
-use Rattle.std.proofs.lemmas.Grind.{common_steps}
 use Rattle.mgn_params.specs.declared.tables.Stage.{Stage}
-use Rattle.mgn_params.specs.Stages.{IsStage, amount_of, left_after, left_by, used, used_by, used_of}
+use Rattle.mgn_params.specs.Stages.{IsStage, amount_of, used}
 
 pub used_le_left : (amount left ratio : ℕ) → 0 < ratio → amount ≤ 10000 * left / ratio → used amount ratio ≤ left
 used_le_left amount left ratio h k = let more = mul-le-mul_right ratio k in omega arith

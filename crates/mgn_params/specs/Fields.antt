@@ -1,5 +1,5 @@
 -- What one field of a record says (own format).
-use Rattle.std.specs.Prelude.{◌≡◌, ℕ, ◌==◌, if◌then◌else◌, List, [], ◌∷◌, Option, Some, None, ℤ, Result, Ok, Err, codes, Bool}
+use Rattle.std.specs.Prelude.{ℕ, ◌==◌, if◌then◌else◌, List, Option, Some, None, ℤ, Result, Ok, Err, codes, Bool}
 use Rattle.std.specs.Str.{bytes_eq}
 use Rattle.mgn_ids.specs.Name.{name_in}
 use Rattle.mgn_ids.specs.declared.fault.IdFault.{IdFault}

@@ -1,5 +1,5 @@
 -- The limits on a set and on each of its rows (own profile), and when a row may come next in its table.
-use Rattle.std.specs.Prelude.{◌≡◌, ℕ, ◌<◌, ◌≤◌, ◌^◌, ◌*◌, Bool, true, false, ◌==◌, List, length, map, unsigned_abs, All, count_by}
+use Rattle.std.specs.Prelude.{◌≡◌, ℕ, ◌<◌, ◌≤◌, ◌^◌, ◌*◌, true, false, ◌==◌, List, length, map, unsigned_abs, All, count_by}
 use Rattle.std.specs.List.{IsDistinct, list_any}
 use Rattle.std.specs.Str.{bytes_eq}
 use Rattle.mgn_params.specs.declared.tables.Class.{Class}

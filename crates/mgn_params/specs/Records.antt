@@ -1,5 +1,5 @@
 -- What one record adds to the tables so far, or the first cause why it is faulty (own format).
-use Rattle.std.specs.Prelude.{◌≡◌, ℕ, ◌-◌, ◌+◌, ◌*◌, ◌^◌, ◌==◌, ◌&&◌, ◌||◌, Bool, false, nat_le, if◌then◌else◌, List, [], ◌∷◌, ◌++◌, length, map, replicate, Option, Some, None, ℤ, Result, Ok, Err, codes, position, count_by, is_some, ◌<◌, ◌≤◌, IfSome}
+use Rattle.std.specs.Prelude.{ℕ, ◌-◌, ◌*◌, ◌^◌, ◌==◌, ◌&&◌, ◌||◌, Bool, false, nat_le, if◌then◌else◌, List, [], ◌∷◌, ◌++◌, length, map, replicate, Option, ℤ, Result, Ok, Err, codes, position, count_by, is_some, ◌<◌, ◌≤◌, IfSome}
 use Rattle.std.specs.List.{list_any}
 use Rattle.std.specs.Str.{bytes_eq}
 use Rattle.mgn_params.specs.declared.fault.Cause.{Cause}

@@ -1,5 +1,5 @@
 -- The tables of a parameter set, in file order.
-use Rattle.std.specs.Prelude.{ℕ, Bool, true, false, List, [], ◌∷◌, pos, slice_index_or, take, replicate}
+use Rattle.std.specs.Prelude.{ℕ, Bool, true, false, List, [], pos, slice_index_or, take}
 use Rattle.mgn_params.specs.declared.tables.Class.{Class}
 use Rattle.mgn_params.specs.declared.tables.Commodity.{Commodity}
 use Rattle.mgn_params.specs.declared.tables.Contract.{Contract}

@@ -13,11 +13,15 @@ mod records;
 mod set;
 mod spreads;
 mod tables;
+#[cfg(test)]
+mod tests;
 mod work;
 
 pub use fault::{Cause, SetFault};
 pub use file::read_set;
-pub use laws::flat_owes_nothing;
+pub use laws::{
+    activates_lowest_largest, flat_owes_nothing, owes_at_least_nothing, scans_within_worst_cases,
+};
 pub use set::ParamSet;
 pub use tables::{
     Class, Commodity, Contract, CreditSpread, Kind, Leg, Month, Side, SpotCharge, Spread, Stage,

@@ -1,5 +1,5 @@
 -- The words of a line: cutting them, and how many of them matter.
-use Rattle.std.proofs.Common.{◌≡◌, ℕ, ◌+◌, ◌≤◌, List, [], ◌∷◌, ◌++◌, length, take, drop, Option, Some, None, Err, Bool, true, false, cond, refl, arith, sym, map, option_map, Bor}
+use Rattle.std.proofs.Common.{◌≡◌, ℕ, ◌+◌, ◌≤◌, List, [], ◌∷◌, ◌++◌, length, take, drop, Option, Some, None, Err, Bool, true, false, cond, refl, arith, sym, ap, map, option_map, Bor}
 use Rattle.std.specs.Prelude.{position, nat_lt, ◌&&◌}
 use Rattle.std.specs.List.{list_all, slice_split, position_or_len}
 use Rattle.std.proofs.lemmas.Bool.Decides.{nat_tests}
@@ -11,8 +11,9 @@ use Rattle.std.proofs.lemmas.List.Quantifiers.{position-Some}
 use Rattle.std.proofs.Math.Seq.{take-append_seam}
 use Rattle.std.proofs.lemmas.List.Folds.{list_all-map}
 use Rattle.mgn_wire.specs.Word.{words_of, words_left}
-use Rattle.mgn_wire.specs.Line.{all_filled, command_of, line_of}
-use Rattle.mgn_wire.specs.declared.fault.LineFault.TheVariants.{Syntax}
+use Rattle.mgn_wire.specs.Line.{all_filled, command_of, in_line, line_of}
+use Rattle.mgn_ids.specs.declared.fault.IdFault.TheVariants.{Syntax}
+use Rattle.mgn_wire.specs.declared.fault.LineFault.TheVariants as fault
 
 -- no command has seven words, so the first seven say as much as all of them
 first_seven : (words : List (List ℕ)) → command_of (take 7 words) ≡ command_of words
@@ -92,18 +93,18 @@ short : (n : ℕ) → n ≤ 256 → nat_lt 256 n ≡ false
 short n few = grind (arith, nat_tests)
 
 pub line_unfilled : (line : List ℕ) (items : List (Bor (List ℕ))) → length line ≤ 256 → map (λ s. s.now) items ≡ take 7 (words_of line)
-    → list_all (λ (s : Bor (List ℕ)). nat_lt 0 (length s.now)) items ≡ false → line_of line ≡ Err Syntax
+    → list_all (λ (s : Bor (List ℕ)). nat_lt 0 (length s.now)) items ≡ false → line_of line ≡ Err fault.Syntax
 line_unfilled line items few e fails =
     let front : all_filled (take 7 (words_of line)) ≡ false = rw (sym e, list_all-map) fails in
     rw (short (length line) few, empty_early (λ word. nat_lt 0 (length word)) 7 (words_of line) front) refl
 
 by_filled : (b : Bool) (words : List (List ℕ)) → all_filled words ≡ b → all_filled (take 7 words) ≡ true
-    → cond b (command_of words) (Err Syntax) ≡ command_of (take 7 words)
-by_filled true words all front = sym (first_seven words)
-by_filled false words all front = sym (empty_later words front all)
+    → cond b (in_line (command_of words)) (Err fault.Syntax) ≡ in_line (command_of (take 7 words))
+by_filled true words all front = ap in_line (sym (first_seven words))
+by_filled false words all front = ap in_line (sym (empty_later words front all))
 
 pub line_filled : (line : List ℕ) (items : List (Bor (List ℕ))) → length line ≤ 256 → map (λ s. s.now) items ≡ take 7 (words_of line)
-    → list_all (λ (s : Bor (List ℕ)). nat_lt 0 (length s.now)) items ≡ true → line_of line ≡ command_of (map (λ s. s.now) items)
+    → list_all (λ (s : Bor (List ℕ)). nat_lt 0 (length s.now)) items ≡ true → line_of line ≡ in_line (command_of (map (λ s. s.now) items))
 line_filled line items few e passes =
     let front : all_filled (take 7 (words_of line)) ≡ true = rw (sym e, list_all-map) passes in
     rw (short (length line) few, e) (by_filled (all_filled (words_of line)) (words_of line) refl front)

@@ -1,11 +1,11 @@
 ghost use Rattle.std.specs.Prelude.{◌≡◌, map, nat_lt, length};
 ghost use Rattle.std.specs.List.{list_all};
-ghost use Rattle.mgn_wire.specs.Line.{line_of, command_of, with_one, with_two, with_three, with_five, ask_of, open_of, origin_of, post_of, trade_of};
+ghost use Rattle.mgn_wire.specs.Line.{line_of, in_line, command_of, with_none, with_one, with_two, with_three, with_five, ask_of, open_of, origin_of, post_of, trade_of};
 
 use crate::fault::LineFault;
-use crate::words::{
-    read_account, read_class, read_contract, read_lot, read_mode, read_origin_name, read_premium,
-    read_quantity, read_units, split_words,
+use crate::words::{read_mode, split_words};
+use mgn_ids::{
+    AccountName, ClassName, ContractName, IdFault, LotId, LotQuantity, OriginName, Premium, Units,
 };
 use mgn_machine::Command;
 
@@ -14,38 +14,38 @@ const LONGEST_LINE: usize = 256;
 // Each command by its words, from left to right.
 
 #[tactic(auto, unfolding(crate::specs::Line::ask_of))]
-fn read_ask(account: &[u8]) -> Result<Command, LineFault>
+fn read_ask(account: &[u8]) -> Result<Command, IdFault>
     ensures { result ≡ ask_of account.now }
 {
-    let account = read_account(account)?;
+    let account = AccountName::read(account)?;
     Ok(Command::Ask(account))
 }
 
 #[tactic(auto, unfolding(crate::specs::Line::open_of))]
-fn read_open(account: &[u8], origin: &[u8]) -> Result<Command, LineFault>
+fn read_open(account: &[u8], origin: &[u8]) -> Result<Command, IdFault>
     ensures { result ≡ open_of account.now origin.now }
 {
-    let account = read_account(account)?;
-    let origin = read_origin_name(origin)?;
+    let account = AccountName::read(account)?;
+    let origin = OriginName::read(origin)?;
     Ok(Command::NewAccount(account, origin))
 }
 
 #[tactic(auto, unfolding(crate::specs::Line::origin_of))]
-fn read_origin(origin: &[u8], mode: &[u8]) -> Result<Command, LineFault>
+fn read_origin(origin: &[u8], mode: &[u8]) -> Result<Command, IdFault>
     ensures { result ≡ origin_of origin.now mode.now }
 {
-    let origin = read_origin_name(origin)?;
+    let origin = OriginName::read(origin)?;
     let mode = read_mode(mode)?;
     Ok(Command::NewOrigin(origin, mode))
 }
 
 #[tactic(auto, unfolding(crate::specs::Line::post_of))]
-fn read_post(account: &[u8], class: &[u8], units: &[u8]) -> Result<Command, LineFault>
+fn read_post(account: &[u8], class: &[u8], units: &[u8]) -> Result<Command, IdFault>
     ensures { result ≡ post_of account.now class.now units.now }
 {
-    let account = read_account(account)?;
-    let class = read_class(class)?;
-    let units = read_units(units)?;
+    let account = AccountName::read(account)?;
+    let class = ClassName::read(class)?;
+    let units = Units::read(units)?;
     Ok(Command::Post(account, class, units))
 }
 
@@ -56,32 +56,43 @@ fn read_trade(
     contract: &[u8],
     quantity: &[u8],
     premium: &[u8],
-) -> Result<Command, LineFault>
+) -> Result<Command, IdFault>
     ensures { result ≡ trade_of account.now lot.now contract.now quantity.now premium.now }
 {
-    let account = read_account(account)?;
-    let lot = read_lot(lot)?;
-    let contract = read_contract(contract)?;
-    let quantity = read_quantity(quantity)?;
-    let premium = read_premium(premium)?;
+    let account = AccountName::read(account)?;
+    let lot = LotId::read(lot)?;
+    let contract = ContractName::read(contract)?;
+    let quantity = LotQuantity::read(quantity)?;
+    let premium = Premium::read(premium)?;
     Ok(Command::Trade(account, lot, contract, quantity, premium))
 }
 
-// The commands of one, two, three and five words after the verb.
+// The commands of no word, one, two, three and five words after the verb.
+
+#[tactic(auto, unfolding(crate::specs::Line::with_none))]
+fn read_none(verb: &[u8]) -> Result<Command, IdFault>
+    ensures { result ≡ with_none verb.now }
+{
+    if verb == b"END".as_slice() {
+        Ok(Command::EndDay)
+    } else {
+        Err(IdFault::Syntax)
+    }
+}
 
 #[tactic(auto, unfolding(crate::specs::Line::with_one))]
-fn read_one(verb: &[u8], a: &[u8]) -> Result<Command, LineFault>
+fn read_one(verb: &[u8], a: &[u8]) -> Result<Command, IdFault>
     ensures { result ≡ with_one verb.now a.now }
 {
     if verb == b"ASK".as_slice() {
         read_ask(a)
     } else {
-        Err(LineFault::Syntax)
+        Err(IdFault::Syntax)
     }
 }
 
 #[tactic(auto, unfolding(crate::specs::Line::with_two))]
-fn read_two(verb: &[u8], a: &[u8], b: &[u8]) -> Result<Command, LineFault>
+fn read_two(verb: &[u8], a: &[u8], b: &[u8]) -> Result<Command, IdFault>
     ensures { result ≡ with_two verb.now a.now b.now }
 {
     if verb == b"OPEN".as_slice() {
@@ -89,18 +100,18 @@ fn read_two(verb: &[u8], a: &[u8], b: &[u8]) -> Result<Command, LineFault>
     } else if verb == b"ORIGIN".as_slice() {
         read_origin(a, b)
     } else {
-        Err(LineFault::Syntax)
+        Err(IdFault::Syntax)
     }
 }
 
 #[tactic(auto, unfolding(crate::specs::Line::with_three))]
-fn read_three(verb: &[u8], a: &[u8], b: &[u8], c: &[u8]) -> Result<Command, LineFault>
+fn read_three(verb: &[u8], a: &[u8], b: &[u8], c: &[u8]) -> Result<Command, IdFault>
     ensures { result ≡ with_three verb.now a.now b.now c.now }
 {
     if verb == b"POST".as_slice() {
         read_post(a, b, c)
     } else {
-        Err(LineFault::Syntax)
+        Err(IdFault::Syntax)
     }
 }
 
@@ -112,26 +123,38 @@ fn read_five(
     c: &[u8],
     d: &[u8],
     e: &[u8],
-) -> Result<Command, LineFault>
+) -> Result<Command, IdFault>
     ensures { result ≡ with_five verb.now a.now b.now c.now d.now e.now }
 {
     if verb == b"TRADE".as_slice() {
         read_trade(a, b, c, d, e)
     } else {
-        Err(LineFault::Syntax)
+        Err(IdFault::Syntax)
     }
 }
 
 #[tactic(auto, unfolding(crate::specs::Line::command_of))]
-fn read_words(words: &[&[u8]]) -> Result<Command, LineFault>
+fn read_words(words: &[&[u8]]) -> Result<Command, IdFault>
     ensures { result ≡ command_of (map (λ s. s.now) words.now) }
 {
     match *words {
+        [verb] => read_none(verb),
         [verb, a] => read_one(verb, a),
         [verb, a, b] => read_two(verb, a, b),
         [verb, a, b, c] => read_three(verb, a, b, c),
         [verb, a, b, c, d, e] => read_five(verb, a, b, c, d, e),
-        _ => Err(LineFault::Syntax),
+        _ => Err(IdFault::Syntax),
+    }
+}
+
+// What is wrong with a word is wrong with its line.
+fn in_line(read: Result<Command, IdFault>) -> Result<Command, LineFault>
+    ensures { result ≡ in_line read }
+{
+    match read {
+        Ok(command) => Ok(command),
+        Err(IdFault::Syntax) => Err(LineFault::Syntax),
+        Err(IdFault::Range) => Err(LineFault::Range),
     }
 }
 
@@ -156,7 +179,7 @@ pub fn read_line(line: &[u8]) -> Result<Command, LineFault>
     if !are_filled(words) {
         return Err(LineFault::Syntax);
     }
-    read_words(words)
+    in_line(read_words(words))
 }
 
 #[cfg(test)]
@@ -170,8 +193,8 @@ mod tests {
                 account.as_bytes() == b"A1".as_slice()
                     && lot.number() == 1
                     && contract.as_bytes() == b"AAA1".as_slice()
-                    && quantity.contracts() == -2
-                    && *premium == 0
+                    && quantity.quantity().contracts() == -2
+                    && premium.cents() == 0
             }
             _ => false,
         }
@@ -186,7 +209,9 @@ mod tests {
         let account = read_line(b"OPEN A1 CUST");
         assert!(rt; matches!(&account, Ok(Command::NewAccount(_, _))));
         let post = read_line(b"POST A1 CASH 1000");
-        assert!(rt; matches!(&post, Ok(Command::Post(_, _, 1000))));
+        assert!(rt; matches!(&post, Ok(Command::Post(_, _, _))));
+        let end = read_line(b"END");
+        assert!(rt; matches!(&end, Ok(Command::EndDay)));
         let ask = read_line(b"ASK A1");
         assert!(rt; matches!(&ask, Ok(Command::Ask(_))));
     }

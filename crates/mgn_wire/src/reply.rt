@@ -21,6 +21,7 @@ fn refusal_text(refusal: Refusal) -> &'static str
         Refusal::NoClass => "26 NOCLASS",
         Refusal::Limit => "31 LIMIT",
         Refusal::Premium => "32 PREMIUM",
+        Refusal::Closed => "50 CLOSED",
         Refusal::Memory => "90 MEMORY",
         Refusal::Full => "91 FULL",
     }

@@ -1,10 +1,8 @@
 ghost use Rattle.std.specs.Prelude.{◌≡◌, ◌==◌, ◌≤◌, position, length, take, map, option_map, ◌∷◌};
-ghost use Rattle.mgn_wire.specs.Word.{words_of, words_left, name_at, number_at, quantity_at, premium_at, units_at, mode_at};
+ghost use Rattle.mgn_wire.specs.Word.{words_of, words_left, mode_in};
 
-use crate::fault::LineFault;
-use mgn_ids::{AccountName, ClassName, ContractName, LotId, OriginName};
+use mgn_ids::IdFault;
 use mgn_machine::Mode;
-use mgn_num::{Quantity, read_signed, read_unsigned};
 
 fn find_space(text: &[u8]) -> Option<usize>
     ensures { result ≡ position (λ b. b == 32) text.now }
@@ -54,86 +52,16 @@ pub(crate) fn split_words(line: &[u8]) -> Words<'_>
     }
 }
 
-#[tactic(auto, unfolding(crate::specs::Word::name_at))]
-pub(crate) fn read_account(word: &[u8]) -> Result<AccountName, LineFault>
-    ensures { result ≡ name_at word.now }
-{
-    let account = AccountName::read(word)?;
-    Ok(account)
-}
-
-#[tactic(auto, unfolding(crate::specs::Word::name_at))]
-pub(crate) fn read_origin_name(word: &[u8]) -> Result<OriginName, LineFault>
-    ensures { result ≡ name_at word.now }
-{
-    let origin = OriginName::read(word)?;
-    Ok(origin)
-}
-
-#[tactic(auto, unfolding(crate::specs::Word::name_at))]
-pub(crate) fn read_contract(word: &[u8]) -> Result<ContractName, LineFault>
-    ensures { result ≡ name_at word.now }
-{
-    let contract = ContractName::read(word)?;
-    Ok(contract)
-}
-
-#[tactic(auto, unfolding(crate::specs::Word::name_at))]
-pub(crate) fn read_class(word: &[u8]) -> Result<ClassName, LineFault>
-    ensures { result ≡ name_at word.now }
-{
-    let class = ClassName::read(word)?;
-    Ok(class)
-}
-
-#[tactic(auto, unfolding(crate::specs::Word::number_at))]
-pub(crate) fn read_lot(word: &[u8]) -> Result<LotId, LineFault>
-    ensures { result ≡ number_at word.now }
-{
-    let lot = LotId::read(word)?;
-    Ok(lot)
-}
-
-/// A number of contracts: at most 1,000,000 in size, and not 0.
-#[tactic(auto, unfolding(crate::specs::Word::quantity_at))]
-pub(crate) fn read_quantity(word: &[u8]) -> Result<Quantity, LineFault>
-    ensures { result ≡ quantity_at word.now }
-{
-    let contracts = read_signed(word, 1_000_000)?;
-    if contracts == 0 {
-        return Err(LineFault::Range);
-    }
-    Ok(Quantity::new(contracts))
-}
-
-/// A premium or a limit: 0 to 10^8 cents.
-#[tactic(auto, unfolding(crate::specs::Word::premium_at))]
-pub(crate) fn read_premium(word: &[u8]) -> Result<u32, LineFault>
-    ensures { result ≡ premium_at word.now }
-{
-    let cents = read_unsigned(word, 0, 100_000_000)?;
-    Ok(cents as u32)
-}
-
-/// Units of a collateral class, or cents: 1 to 10^15.
-#[tactic(auto, unfolding(crate::specs::Word::units_at))]
-pub(crate) fn read_units(word: &[u8]) -> Result<u64, LineFault>
-    ensures { result ≡ units_at word.now }
-{
-    let units = read_unsigned(word, 1, 1_000_000_000_000_000)?;
-    Ok(units)
-}
-
 /// How an origin is margined: `GROSS` or `NET`.
-#[tactic(auto, unfolding(crate::specs::Word::mode_at))]
-pub(crate) fn read_mode(word: &[u8]) -> Result<Mode, LineFault>
-    ensures { result ≡ mode_at word.now }
+#[tactic(auto, unfolding(crate::specs::Word::mode_in))]
+pub(crate) fn read_mode(word: &[u8]) -> Result<Mode, IdFault>
+    ensures { result ≡ mode_in word.now }
 {
     if word == b"GROSS".as_slice() {
         Ok(Mode::Gross)
     } else if word == b"NET".as_slice() {
         Ok(Mode::Net)
     } else {
-        Err(LineFault::Syntax)
+        Err(IdFault::Syntax)
     }
 }

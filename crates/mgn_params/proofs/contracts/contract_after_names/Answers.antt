@@ -1,4 +1,4 @@
-use Rattle.std.proofs.Common.{arith, length, map, sym, Bor, List, ℕ, ◌<◌}
+use Rattle.std.proofs.Common.{arith, map, sym, Bor, List, ℕ}
 use Rattle.std.proofs.lemmas.List.{length-map}
 use Rattle.mgn_params.proofs.RecordLemmas.{after_names_short}
 use Rattle.mgn_params.proofs.contracts.contract_after_names.Goals as goal

@@ -1,11 +1,9 @@
-use Rattle.std.proofs.Common.{◌≡◌, ◌∙◌, ◌+◌, ◌<◌, ◌≤◌, arith, rules, sym, ap, length, map, take, drop, Bor, List, ℕ, Ok, Err, get_or, refl, [], length-set, w64}
+use Rattle.std.proofs.Common.{◌≡◌, ◌∙◌, ◌<◌, ◌≤◌, arith, rules, sym, length, map, Bor, List, ℕ, Err, length-set, w64}
 use Rattle.std.specs.Prelude.{◌^◌, unsigned_abs, ℤ}
-use Rattle.std.proofs.lemmas.Int.{ints, fits_signed_from_abs, to_z-of_z}
+use Rattle.std.proofs.lemmas.Int.{fits_signed_from_abs, to_z-of_z}
 use Rattle.std.proofs.lemmas.List.{length-map}
 use Rattle.std.proofs.lemmas.List.Elements.{All-set}
-use Rattle.mgn_params.specs.Fields.{field_signed}
-use Rattle.mgn_params.specs.Records.{values_of}
-use Rattle.mgn_params.proofs.RecordLemmas.{fronted, values_fail, values_more, values_end, now_at}
+use Rattle.mgn_params.proofs.RecordLemmas.{values_fail, values_more, values_end, now_at}
 use Rattle.mgn_params.proofs.contracts.read_values.Goals as goal
 
 pub returns-in_err-values-clause-value : goal.returns-in_err-values-clause-value

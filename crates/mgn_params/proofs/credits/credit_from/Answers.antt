@@ -1,7 +1,6 @@
-use Rattle.std.proofs.Common.{arith, rules, map, ◌∙◌, ◌≡◌, ◌≤◌, ◌*◌, ◌+◌, ◌<◌, false, true, sym, ap, length, Ok, Err, inr, Bor, List, ℕ, All}
-use Rattle.std.specs.Prelude.{IfOk, IfErr, Result}
+use Rattle.std.proofs.Common.{arith, rules, map, ◌∙◌, ◌≡◌, true, sym, length, Ok, Bor, List, ℕ}
 use Rattle.mgn_params.specs.Fields.{field_number}
-use Rattle.mgn_params.specs.Records.{IsFoundLeg, credit_from, credit_row, has_side_a, has_side_b, kept_legs, legs_from}
+use Rattle.mgn_params.specs.Records.{has_side_a, has_side_b, kept_legs}
 use Rattle.mgn_params.proofs.LegLemmas.{credit_is, ok_along, err_along, sided_is}
 use Rattle.mgn_params.proofs.credits.credit_from.Goals as goal
 

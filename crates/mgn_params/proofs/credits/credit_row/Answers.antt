@@ -1,4 +1,4 @@
-use Rattle.std.proofs.Common.{arith, rules, map, ◌∙◌, ◌≡◌, false, sym}
+use Rattle.std.proofs.Common.{rules, map, ◌∙◌, sym}
 use Rattle.mgn_params.specs.declared.tables.Leg.{Leg}
 use Rattle.mgn_params.specs.Tables.{legs_of}
 use Rattle.mgn_params.proofs.LegLemmas.{all_differ}

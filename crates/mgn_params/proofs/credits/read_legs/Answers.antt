@@ -1,4 +1,4 @@
-use Rattle.std.proofs.Common.{arith, length, map, ◌∙◌, ◌<◌, Bor, List, ℕ}
+use Rattle.std.proofs.Common.{arith, map, ◌∙◌, Bor, List, ℕ}
 use Rattle.std.proofs.lemmas.List.{length-map}
 use Rattle.mgn_params.proofs.LegLemmas.{legs_end}
 use Rattle.mgn_params.proofs.credits.read_legs.Goals as goal

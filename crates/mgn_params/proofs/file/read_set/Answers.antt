@@ -1,4 +1,4 @@
-use Rattle.std.proofs.Common.{arith, ◌≡◌, ◌∙◌, ◌+◌, ◌<◌, ◌≤◌, ℕ, List, Option, None, Some, length, option_map, Bor, inl, inr, refl}
+use Rattle.std.proofs.Common.{arith, ◌∙◌, ◌≤◌, ℕ, List, length, option_map, Bor, inl, inr, refl}
 use Rattle.csv.specs.Records.{fields_of}
 use Rattle.mgn_params.specs.File.{outcome}
 use Rattle.mgn_params.proofs.FileLemmas.{left_of, less, skips, stops, stops_twice, takes}

@@ -1,4 +1,4 @@
-use Rattle.std.proofs.Common.{arith, sym, ◌∙◌, ◌≡◌, ◌+◌, ◌-◌, ℕ, take, drop, length, length-drop}
+use Rattle.std.proofs.Common.{arith, sym, ◌∙◌, ◌+◌, ◌-◌, drop, length, length-drop}
 use Rattle.std.specs.Prelude.{◌==◌}
 use Rattle.std.proofs.lemmas.List.{take_all}
 use Rattle.mgn_params.proofs.LineLemmas.{no_end, at_end}

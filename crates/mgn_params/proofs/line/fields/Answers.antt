@@ -1,4 +1,4 @@
-use Rattle.std.proofs.Common.{arith, ◌≡◌, ◌<◌, ◌+◌, map, length, take, sym, ◌∙◌, refl, []}
+use Rattle.std.proofs.Common.{arith, sym, refl, []}
 use Rattle.std.proofs.lemmas.List.{take_more, map-append}
 use Rattle.csv.proofs.RecordFacts.{field-get, field-there}
 use Rattle.csv.specs.Records.{fields_of}

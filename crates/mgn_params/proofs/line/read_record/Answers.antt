@@ -1,4 +1,4 @@
-use Rattle.std.proofs.Common.{◌≡◌, ◌∙◌, ℕ, List, Bor, Some, refl, inl, inr}
+use Rattle.std.proofs.Common.{◌∙◌, ℕ, List, Bor, Some, refl, inr}
 use Rattle.csv.specs.Reading.{Ready, strip_bom}
 use Rattle.csv.specs.Records.{fields_of}
 use Rattle.mgn_params.proofs.LineLemmas.{no_record, one_record, two_records}

@@ -1,4 +1,3 @@
-use Rattle.std.proofs.Common.{◌∙◌, ◌∷◌, [], ap, ◌++◌, List, sym, ℕ}
 use Rattle.std.proofs.lemmas.List.{map-append}
 use Rattle.mgn_params.proofs.LimitsLemmas.{IsWithinLimits-contract}
 use Rattle.mgn_params.proofs.set.ParamSet.push_contract.Goals as goal

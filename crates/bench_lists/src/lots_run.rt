@@ -1,0 +1,120 @@
+ghost use Rattle.std.specs.Prelude.{IfOk, ◌<◌};
+ghost use Rattle.mgn_lots.specs.Lots.{IsLot};
+
+use anyhow::{Result, bail};
+use itoa::Buffer;
+use mgn_ids::{ContractName, LotId, LotQuantity};
+use mgn_lots::{Lot, Lots, Mark};
+use std::alloc::Global;
+use std::rt::Clock;
+use std::time::Instant;
+
+/// Nanoseconds that the calls of each kind took.
+#[derive(Clone, Copy)]
+pub struct Costs {
+    pub add: u128,
+    pub find: u128,
+    pub remove: u128,
+}
+
+/// The numbers from 1 on.
+pub fn numbers(alloc: Global, count: usize) -> Result<Vec<LotId>> {
+    let mut numbers = Vec::new(alloc);
+    for i in 1..=count {
+        let mut buffer = Buffer::new();
+        let Ok(number) = LotId::read(buffer.format(i).as_bytes()) else {
+            bail!("{i} is no number of a lot");
+        };
+        numbers.push(number)?;
+    }
+    Ok(numbers)
+}
+
+/// A lot of one contract, whose number the runs replace.
+pub fn template() -> Result<Lot>
+    ensures { IfOk result IsLot }
+{
+    let (Ok(number), Ok(contract), Ok(quantity)) = (
+        LotId::read(b"1"),
+        ContractName::read(b"AAA1"),
+        LotQuantity::read(b"1"),
+    ) else {
+        bail!("a word was refused");
+    };
+    Ok(Lot {
+        number,
+        contract,
+        quantity: quantity.quantity(),
+        premium: 0,
+        mark: Mark::Traded,
+    })
+}
+
+/// Adds, finds and removes a lot of each number, in accounts of so many lots each.
+pub fn measure(
+    clock: &impl Clock,
+    alloc: Global,
+    numbers: &[LotId],
+    size: usize,
+    template: &Lot,
+) -> Result<Costs>
+    requires template { IsLot template.now }
+    requires size { 0 < size }
+{
+    let mut costs = Costs {
+        add: 0,
+        find: 0,
+        remove: 0,
+    };
+    for part in numbers.chunks(size) {
+        let mut lots = Lots::new(alloc);
+        let start = Instant::now(clock)?;
+        add_all(&mut lots, part, template)?;
+        costs.add = costs.add.saturating_add(start.elapsed(clock)?.as_nanos());
+        let start = Instant::now(clock)?;
+        find_all(&lots, part)?;
+        costs.find = costs.find.saturating_add(start.elapsed(clock)?.as_nanos());
+        let start = Instant::now(clock)?;
+        remove_all(&mut lots, part)?;
+        costs.remove = costs
+            .remove
+            .saturating_add(start.elapsed(clock)?.as_nanos());
+    }
+    Ok(costs)
+}
+
+fn add_all(lots: &mut Lots, numbers: &[LotId], template: &Lot) -> Result<()>
+    requires { IsLot template.now }
+{
+    for number in numbers {
+        let lot = Lot {
+            number: *number,
+            contract: template.contract,
+            quantity: template.quantity,
+            premium: template.premium,
+            mark: Mark::Traded,
+        };
+        if lots.add(&lot).is_err() {
+            bail!("a lot was refused");
+        }
+    }
+    Ok(())
+}
+
+fn find_all(lots: &Lots, numbers: &[LotId]) -> Result<()> {
+    for number in numbers {
+        if lots.find(*number).is_none() {
+            bail!("a lot was not found");
+        }
+    }
+    Ok(())
+}
+
+fn remove_all(lots: &mut Lots, numbers: &[LotId]) -> Result<()> {
+    for number in numbers {
+        if lots.remove(*number).is_err() {
+            bail!("a lot was not removed");
+        }
+    }
+    Ok(())
+}

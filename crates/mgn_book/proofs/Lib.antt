@@ -1,0 +1,7 @@
+pub mod Busts
+pub mod Histories
+pub mod Kept
+pub mod Opened
+pub mod Postings
+pub mod Steps
+pub mod Trades

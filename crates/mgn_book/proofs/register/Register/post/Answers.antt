@@ -1,0 +1,30 @@
+use Rattle.std.proofs.Common.{◌≡◌, ◌<◌, ap, ◌∙◌, sym, subst, length, rules, get_or, set}
+use Rattle.mgn_coll.specs.Posted.{IsPosted}
+use Rattle.mgn_machine.specs.Rows.{row_with_worth}
+use Rattle.mgn_machine.specs.State.{AccountState, with_amount}
+use Rattle.mgn_book.specs.Floors.{IsKept, floor}
+use Rattle.mgn_book.proofs.Kept.{names-kept}
+use Rattle.mgn_book.proofs.Postings.{gained, post-kept}
+use Rattle.mgn_book.proofs.register.Register.post.Goals as goal
+
+pub invariant_of-self-2 : goal.invariant_of-self-2
+invariant_of-self-2 c =
+    let a = c.index_mut-owner.result.now in
+    let written : c.write_amount.new.owner ≡ with_amount a c.args.class.now c.in-Ok.found.1 = search rules in
+    names-kept c.self.inside.names c.self.inside.accounts.items c.in-Ok.found.0 c.write_amount.new.owner a c.self.invariant
+    (ap (λ (x : AccountState). x.name) (written ∙ ap (λ (x : AccountState). with_amount x c.args.class.now c.in-Ok.found.1) c.index_mut-owner.ensures.value))
+
+pub returns-clause-kept : goal.returns-clause-kept
+returns-clause-kept c =
+    let r = c.self.inside in
+    let a = c.index_mut-owner.result.now in
+    let b = c.write_amount.new.owner in
+    let row = c.index_mut-row.result.now in
+    let kept : IsKept c.args.set.now (floor r.origins.items r.accounts.items r.rows.items r.closed) = search rules in
+    let within : c.in-Ok.found.0 < length r.accounts.items = search rules in
+    let written : b ≡ with_amount a c.args.class.now c.in-Ok.found.1 = search rules in
+    let limits : IsPosted b.collateral.cash b.collateral.units = search rules in
+    let worth : c.write_amount.new.row ≡ row_with_worth (gained c.args.set.now a b) row = search rules in
+    subst (λ (u : _). IsKept c.args.set.now (floor r.origins.items (set r.accounts.items c.in-Ok.found.0 b) (set r.rows.items u c.write_amount.new.row) r.closed)) (sym c.unit.ensures)
+    (post-kept c.args.set.now r.origins.items r.accounts.items r.rows.items r.closed c.in-Ok.found.0 a b row c.write_amount.new.row c.args.class.now c.in-Ok.found.1
+    c.limits.ensures kept within c.index_mut-owner.ensures.value (c.index_mut-row.ensures.value ∙ ap (λ (u : _). get_or r.rows.items u row) c.unit.ensures) written limits worth)

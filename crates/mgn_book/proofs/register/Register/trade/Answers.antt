@@ -1,0 +1,69 @@
+use Rattle.std.proofs.Common.{◌≡◌, ap, ◌∙◌, sym, subst, rules, get_or, set, false}
+use Rattle.std.proofs.lemmas.List.{get_or_default}
+use Rattle.mgn_lots.specs.Lots.{IsLot}
+use Rattle.mgn_lots.specs.Refusals.{is_full}
+use Rattle.mgn_machine.specs.declared.change.Change.{Change}
+use Rattle.mgn_machine.specs.declared.row.Priced.{Priced}
+use Rattle.mgn_machine.specs.Rows.{IsRoomy, Prices, lot_change, row_with}
+use Rattle.mgn_machine.specs.State.{AccountState, no_account, account_at, with_lot}
+use Rattle.mgn_machine.specs.Step.{traded_lot}
+use Rattle.mgn_book.specs.Floors.{Floor, IsKept, floor}
+use Rattle.mgn_book.proofs.Kept.{names-kept}
+use Rattle.mgn_book.proofs.Trades.{Trading, trade-roomy, trade-kept}
+use Rattle.mgn_book.proofs.register.Register.trade.Goals as goal
+
+pub enter_lot-requires-clause-roomy : goal.enter_lot-requires-clause-roomy
+enter_lot-requires-clause-roomy c =
+    let r = c.self.inside in
+    let f = floor r.origins.items r.accounts.items r.rows.items r.closed in
+    let a = c.index_mut-owner.result.now in
+    let trading : Trading c.args.set.now f c.in-Ok.places.0 c.in-Ok.places.1 a c.index_mut-row.result.now c.args.number c.args.contract c.args.quantity c.args.premium = record {
+      within = c.limits.ensures;
+      kept = search rules;
+      account = search rules;
+      was = c.index_mut-owner.ensures.value;
+      row = c.index_mut-row.ensures.value ∙ ap (λ (u : _). get_or r.rows.items u c.index_mut-row.result.now) c.unit.ensures;
+      stands = search rules;
+      room = search rules;
+    } in
+    subst (λ (change : Change). IsRoomy change c.index_mut-row.result.now) (sym c.of_lot-change.ensures.change)
+    (trade-roomy c.args.set.now f c.in-Ok.places.0 c.in-Ok.places.1 a c.index_mut-row.result.now c.args.number c.args.contract c.args.quantity c.args.premium trading)
+
+pub invariant_of-self-2 : goal.invariant_of-self-2
+invariant_of-self-2 c =
+    let a = c.index_mut-owner.result.now in
+    let lot = c.traded_lot-lot.result in
+    let added : c.enter_lot.new.owner ≡ with_lot a lot = search rules in
+    names-kept c.self.inside.names c.self.inside.accounts.items c.in-Ok.places.0 c.enter_lot.new.owner a c.self.invariant
+    (ap (λ (x : AccountState). x.name) (added ∙ ap (λ (x : AccountState). with_lot x lot) c.index_mut-owner.ensures.value))
+
+pub returns-clause-kept : goal.returns-clause-kept
+returns-clause-kept c =
+    let r = c.self.inside in
+    let f = floor r.origins.items r.accounts.items r.rows.items r.closed in
+    let a = c.index_mut-owner.result.now in
+    let row = c.index_mut-row.result.now in
+    let trading : Trading c.args.set.now f c.in-Ok.places.0 c.in-Ok.places.1 a row c.args.number c.args.contract c.args.quantity c.args.premium = record {
+      within = c.limits.ensures;
+      kept = search rules;
+      account = search rules;
+      was = c.index_mut-owner.ensures.value;
+      row = c.index_mut-row.ensures.value ∙ ap (λ (u : _). get_or r.rows.items u row) c.unit.ensures;
+      stands = search rules;
+      room = search rules;
+    } in
+    let change = lot_change c.in-Ok.places.1 c.args.quantity c.args.premium in
+    let lot = traded_lot c.args.number c.args.contract c.args.quantity c.args.premium in
+    let said : (priced : Priced) × Prices c.args.set.now c.of_lot-change.result row priced = search rules in
+    let prices : Prices c.args.set.now change row said.0 = subst (λ (x : Change). Prices c.args.set.now x row said.0) c.of_lot-change.ensures.change said.1 in
+    let changed : c.enter_lot.new.row ≡ row_with c.args.set.now c.of_lot-change.result row = search rules in
+    let added : c.enter_lot.new.owner ≡ with_lot a c.traded_lot-lot.result = search rules in
+    let limits : IsLot lot = subst IsLot c.traded_lot-lot.ensures.lot c.traded_lot-lot.ensures.limits in
+    let k = c.in-Ok.places.0 in
+    let few : is_full a.lots ≡ false =
+    ap (λ (x : AccountState). is_full x.lots) (c.index_mut-owner.ensures.value ∙ get_or_default r.accounts.items k a no_account trading.account)
+    ∙ ap (λ (g : Floor). is_full (account_at g.state.accounts k).lots) c.self.view_is ∙ c.in-Ok.ensures.few
+    in
+    let kept = trade-kept c.args.set.now r.origins.items r.accounts.items r.rows.items r.closed c.in-Ok.places.0 c.in-Ok.places.1 a c.enter_lot.new.owner row c.enter_lot.new.row c.args.number c.args.contract c.args.quantity c.args.premium said.0
+    trading prices (changed ∙ ap (λ (x : Change). row_with c.args.set.now x row) c.of_lot-change.ensures.change) (added ∙ ap (λ (x : _). with_lot a x) c.traded_lot-lot.ensures.lot) limits few in
+    subst (λ (u : _). IsKept c.args.set.now (floor r.origins.items (set r.accounts.items c.in-Ok.places.0 c.enter_lot.new.owner) (set r.rows.items u c.enter_lot.new.row) r.closed)) (sym c.unit.ensures) kept

@@ -1,0 +1,3 @@
+-- The state with its rows, and days of them.
+pub mod Floors
+pub mod Days

@@ -1,0 +1,111 @@
+ghost use Rattle.std.specs.Prelude.{◌≡◌, ◌+◌, ◌<◌, ◌++◌, ◌∷◌, [], length};
+ghost use Rattle.mgn_machine.specs.History.{calls, entry};
+ghost use Rattle.mgn_book.specs.Days.{Stands, Committed, opening};
+ghost use Rattle.mgn_book.specs.declared.book.Outcome.TheVariants.{Done};
+
+use crate::register::Register;
+use crate::step::step;
+use mgn_ids::SessionNo;
+use mgn_machine::{Command, Entry, Reply};
+use mgn_params::ParamSet;
+use std::alloc::Global;
+use std::marker::Model;
+
+/// How many entries the history has at most.
+const MOST_ENTRIES: usize = 1_000_000;
+
+/// What a commit did.
+#[derive(Clone, Copy)]
+pub enum Outcome {
+    /// One step, with the place of its entry in the history and its reply.
+    Done(u64, Reply),
+    /// Nothing: the history is full.
+    Full,
+    /// Nothing: memory was refused.
+    Memory,
+}
+
+/// The state of the machine, a row for each margin unit, and the history. Contracts see the day: the floor of state and
+/// rows, and the list of the entries.
+#[derive(Drop)]
+pub struct Book {
+    register: Register,
+    history: Vec<Entry>,
+}
+
+impl Model for Book {
+    ghost use Rattle.mgn_book.specs.Days.{Day};
+
+    ghost Value = { Day };
+
+    ghost view = { λ b. record { floor = b.register; history = b.history.items } };
+}
+
+impl Book {
+    /// The book before its first command. Takes no memory.
+    pub fn new(alloc: Global, set: &ParamSet) -> Book
+        ensures opening { result ≡ opening }
+        ensures stands { Stands set.now result }
+    {
+        Book {
+            register: Register::new(alloc, set),
+            history: Vec::new(alloc),
+        }
+    }
+
+    /// How many entries the history has.
+    pub fn len(&self) -> usize
+        ensures { result ≡ length self.now.history }
+    {
+        self.history.len()
+    }
+
+    /// One step of the machine and its entry in the history. `Full` where the history has 1,000,000 entries, `Memory`
+    /// where memory is refused; then nothing has changed.
+    pub fn commit_plain(
+        &mut self,
+        alloc: Global,
+        set: &ParamSet,
+        session: SessionNo,
+        number: u64,
+        command: &Command,
+    ) -> Outcome
+        requires stands { Stands set.now self.old }
+        requires number { number ≡ calls session self.old.history + 1 }
+        ensures stands { Stands set.now self.new }
+        ensures committed { Committed set.now self.old session number command.now result self.new }
+    {
+        if self.history.len() >= MOST_ENTRIES {
+            return Outcome::Full;
+        }
+        if self.history.reserve(1).is_err() {
+            return Outcome::Memory;
+        }
+        let reply = match step(&mut self.register, alloc, set, command) {
+            Ok(reply) => reply,
+            Err(_) => return Outcome::Memory,
+        };
+        write(&mut self.history, session, number, command, &reply)
+    }
+}
+
+// Writes an entry where there is room for it.
+fn write(
+    history: &mut Vec<Entry>,
+    session: SessionNo,
+    number: u64,
+    command: &Command,
+    reply: &Reply,
+) -> Outcome
+    requires room { length history.old.items < history.old.cap }
+    ensures outcome { result ≡ Done (length history.new.items) reply.now }
+    ensures entry { history.new.items ≡ history.old.items ++ entry session number command.now reply.now ∷ [] }
+{
+    history.push_reserved(Entry {
+        session,
+        number,
+        command: *command,
+        reply: *reply,
+    });
+    Outcome::Done(history.len() as u64, *reply)
+}

@@ -1,0 +1,198 @@
+ghost use Rattle.std.specs.Prelude.{◌≡◌, ◌<◌, ◌≤◌, ◌-ℤ◌, pos, Ok, OnOk, OnErr, false, true, length};
+ghost use Rattle.mgn_lots.specs.Refusals.{has_number, is_full};
+ghost use Rattle.mgn_machine.specs.State.{with_lot, with_bust, with_amount};
+ghost use Rattle.mgn_coll.specs.Posted.{IsPosted, most_of, value};
+ghost use Rattle.mgn_machine.specs.Rows.{IsRow, IsChange, IsRoomy, Prices, row_with, row_with_worth};
+ghost use Rattle.mgn_machine.specs.declared.row.Priced.{Priced};
+ghost use Rattle.mgn_machine.specs.Step.{traded, traded_lot, undone, posted};
+ghost use Rattle.mgn_lots.specs.Lots.{IsLot, is_live, lot_at};
+ghost use Rattle.mgn_book.specs.Floors.{IsKept, Steps};
+
+use crate::fault::Fault;
+use crate::register::Register;
+use mgn_ids::{AccountName, ClassName, ContractName, LotId, LotQuantity, Premium, Units};
+use mgn_lots::{Lot, Mark};
+use mgn_machine::{Account, Change, Row};
+use mgn_params::{ParamSet, Work};
+use std::alloc::{AllocError, Global};
+
+// A lot as it is traded.
+fn traded_lot(number: LotId, contract: ContractName, quantity: LotQuantity, premium: Premium) -> Lot
+    ensures lot { result ≡ traded_lot number contract quantity premium }
+    ensures limits { IsLot result }
+{
+    Lot {
+        number,
+        contract,
+        quantity: quantity.quantity(),
+        premium: premium.cents(),
+        mark: Mark::Traded,
+    }
+}
+
+impl Register {
+    /// A lot is traded.
+    pub fn trade(
+        &mut self,
+        alloc: Global,
+        set: &ParamSet,
+        account: AccountName,
+        number: LotId,
+        contract: ContractName,
+        quantity: LotQuantity,
+        premium: Premium,
+    ) -> Result<(), Fault>
+        requires kept { IsKept set.now self.old }
+        ensures kept { IsKept set.now self.new }
+        ensures steps { Steps (traded set.now self.old.state account number contract quantity premium) result self.old self.new }
+    {
+        set.limits();
+        let (place, i) = match self.trade_places(
+            set, account, number, contract, quantity, premium,
+        ) {
+            Ok(places) => places,
+            Err(why) => return Err(Fault::Refused(why)),
+        };
+        let change = Change::of_lot(i, quantity, premium);
+        let lot = traded_lot(number, contract, quantity, premium);
+        let owner = &mut self.accounts[place];
+        let row = &mut self.rows[owner.unit()];
+        match enter_lot(alloc, set, owner, row, &change, &lot) {
+            Ok(()) => {}
+            Err(_) => return Err(Fault::Memory),
+        }
+        Ok(())
+    }
+
+    /// A traded lot is taken back.
+    pub fn bust(
+        &mut self,
+        alloc: Global,
+        set: &ParamSet,
+        account: AccountName,
+        number: LotId,
+    ) -> Result<(), Fault>
+        requires kept { IsKept set.now self.old }
+        ensures kept { IsKept set.now self.new }
+        ensures steps { Steps (undone self.old.state account number) result self.old self.new }
+    {
+        set.limits();
+        let (place, at) = match self.bust_places(account, number) {
+            Ok(found) => found,
+            Err(why) => return Err(Fault::Refused(why)),
+        };
+        let contract = self.contract_of_lot(set, place, at);
+        let owner = &mut self.accounts[place];
+        let row = &mut self.rows[owner.unit()];
+        let change = Change::of_bust(contract, owner.lot_at(at));
+        match bust_lot(alloc, set, owner, row, &change, at) {
+            Ok(()) => {}
+            Err(_) => return Err(Fault::Memory),
+        }
+        Ok(())
+    }
+
+    /// Cash or units of a class are posted.
+    pub fn post(
+        &mut self,
+        set: &ParamSet,
+        account: AccountName,
+        class: &ClassName,
+        units: Units,
+    ) -> Result<(), Fault>
+        requires kept { IsKept set.now self.old }
+        ensures kept { IsKept set.now self.new }
+        ensures steps { Steps (posted set.now self.old.state account class.now units) result self.old self.new }
+    {
+        set.limits();
+        let (place, amount) = match self.post_place(set, account, class, units) {
+            Ok(found) => found,
+            Err(why) => return Err(Fault::Refused(why)),
+        };
+        let owner = &mut self.accounts[place];
+        let row = &mut self.rows[owner.unit()];
+        match write_amount(set, owner, row, class, amount) {
+            Ok(()) => {}
+            Err(_) => return Err(Fault::Memory),
+        }
+        Ok(())
+    }
+}
+
+// A live lot of an account taken back, and its change in the row of the unit; at an error nothing has changed in either.
+fn bust_lot(
+    alloc: Global,
+    set: &ParamSet,
+    owner: &mut Account,
+    row: &mut Row,
+    change: &Change,
+    at: usize,
+) -> Result<(), AllocError>
+    requires row { IsRow set.now row.old }
+    requires change { IsChange set.now change.now }
+    requires roomy { IsRoomy change.now row.old }
+    requires lot { at < length owner.old.lots }
+    requires live { is_live (lot_at owner.old.lots at).mark ≡ true }
+    ensures busted { OnOk result (owner.new ≡ with_bust owner.old at) }
+    ensures changed { OnOk result (row.new ≡ row_with set.now change.now row.old) }
+    ensures priced { OnOk result ((priced : Priced) × Prices set.now change.now row.old priced) }
+    ensures same_account { OnErr result (owner.new ≡ owner.old) }
+    ensures same_row { OnErr result (row.new ≡ row.old) }
+{
+    let priced = row.priced_with(alloc, set, change, &mut Work::new())?;
+    owner.bust(at);
+    row.apply(set, change, &priced);
+    Ok(())
+}
+
+// Another amount of a class in an account, and what the row of its unit gains by it; at an error nothing has changed in
+// either.
+fn write_amount(
+    set: &ParamSet,
+    owner: &mut Account,
+    row: &mut Row,
+    class: &ClassName,
+    amount: u64,
+) -> Result<(), AllocError>
+    requires row { IsRow set.now row.old }
+    requires amount { amount ≤ most_of class.now }
+    ensures written { OnOk result (owner.new ≡ with_amount owner.old class.now amount) }
+    ensures limits { OnOk result (IsPosted owner.new.collateral.cash owner.new.collateral.units) }
+    ensures gained { OnOk result (row.new ≡ row_with_worth (pos (value set.now.classes owner.new.collateral) -ℤ pos (value set.now.classes owner.old.collateral)) row.old) }
+    ensures same_account { OnErr result (owner.new ≡ owner.old) }
+    ensures same_row { OnErr result (row.new ≡ row.old) }
+{
+    let before = owner.collateral_value(set);
+    owner.write_amount(class, amount)?;
+    owner.collateral_limits();
+    let after = owner.collateral_value(set);
+    row.gain_worth(set, after.minus(before));
+    Ok(())
+}
+
+// A lot more in an account, and its change in the row of the unit; at an error nothing has changed in either.
+fn enter_lot(
+    alloc: Global,
+    set: &ParamSet,
+    owner: &mut Account,
+    row: &mut Row,
+    change: &Change,
+    lot: &Lot,
+) -> Result<(), AllocError>
+    requires row { IsRow set.now row.old }
+    requires change { IsChange set.now change.now }
+    requires roomy { IsRoomy change.now row.old }
+    requires lot { IsLot lot.now }
+    requires fresh { has_number owner.old.lots lot.now.number ≡ false }
+    requires few { is_full owner.old.lots ≡ false }
+    ensures added { OnOk result (owner.new ≡ with_lot owner.old lot.now) }
+    ensures changed { OnOk result (row.new ≡ row_with set.now change.now row.old) }
+    ensures priced { OnOk result ((priced : Priced) × Prices set.now change.now row.old priced) }
+    ensures same_account { OnErr result (owner.new ≡ owner.old) }
+    ensures same_row { OnErr result (row.new ≡ row.old) }
+{
+    let priced = row.priced_with(alloc, set, change, &mut Work::new())?;
+    owner.add_lot(lot)?;
+    row.apply(set, change, &priced);
+    Ok(())
+}

@@ -1,0 +1,12 @@
+//! The book: the machine's state with a row for each margin unit, and the history that made it.
+#![tactic(auto)]
+
+pub mod book;
+pub mod changes;
+pub mod fault;
+pub mod origins;
+pub mod register;
+pub mod step;
+
+pub use book::{Book, Outcome};
+pub use fault::Fault;

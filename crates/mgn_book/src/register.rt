@@ -1,0 +1,286 @@
+ghost use Rattle.std.specs.Prelude.{◌≡◌, ◌<◌, ◌≤◌, ◌≤ℤ◌, ◌+ℤ◌, ◌^◌, ◌==◌, ◌||◌, IfOk, OnOk, Ok, [], length, pos, false, true, unsigned_abs, int_lt};
+ghost use Rattle.mgn_params.specs.Tables.{contract_at, is_premium};
+ghost use Rattle.mgn_lots.specs.Refusals.{has_number, is_full};
+ghost use Rattle.mgn_machine.specs.State.{account_at};
+ghost use Rattle.mgn_machine.specs.Refusals.{place_of, contract_of, has_contract, premium_fits, refuse_if, is_over, lot_places, trade_places, unit_size, bust_refusal, bust_places, post_refusal, post_place};
+ghost use Rattle.mgn_lots.specs.Lots.{is_live, lot_at};
+ghost use Rattle.mgn_coll.specs.Posted.{most_of};
+ghost use Rattle.mgn_params.specs.Positions.{IsNet};
+ghost use Rattle.mgn_machine.specs.Rows.{row_of, IsRow};
+ghost use Rattle.mgn_book.specs.Floors.{IsKept, floor};
+
+use mgn_coll::PostFault;
+use mgn_ids::{AccountName, ClassName, ContractName, LotId, LotQuantity, Places, Premium, Units};
+use mgn_lots::{Mark, RemoveFault};
+use mgn_machine::{Account, Origin, Refusal, Row};
+use mgn_num::Quantity;
+use mgn_params::{ParamSet, Style};
+use std::alloc::Global;
+use std::marker::Model;
+
+/// How much the live lots and holds of a unit may come to in one contract.
+const MOST_SIZE: i64 = 10_000_000;
+
+/// The state of the machine with a row for each margin unit.
+#[derive(Drop)]
+pub struct Register {
+    pub(crate) origins: Vec<Origin>,
+    pub(crate) names: Places<AccountName>,
+    pub(crate) accounts: Vec<Account>,
+    pub(crate) rows: Vec<Row>,
+    pub(crate) closed: bool,
+}
+
+impl Model for Register {
+    ghost use Rattle.std.specs.Prelude.{◌≡◌};
+    ghost use Rattle.mgn_book.specs.Floors.{Floor, floor};
+    ghost use Rattle.mgn_machine.specs.Refusals.{account_names};
+
+    ghost Value = { Floor };
+
+    ghost view = { λ r. floor r.origins.items r.accounts.items r.rows.items r.closed };
+
+    ghost invariant = { λ r. r.names ≡ account_names r.accounts.items };
+}
+
+/// Refuses where the test holds.
+#[tactic(auto, unfolding(mgn_machine::specs::Refusals::refuse_if))]
+pub(crate) fn refuse_if(test: bool, why: Refusal) -> Result<(), Refusal>
+    ensures refused { result ≡ refuse_if test why }
+    ensures passes { OnOk result (test ≡ false) }
+{
+    if test { Err(why) } else { Ok(()) }
+}
+
+// Where a contract stands in the set.
+#[tactic(auto, unfolding(mgn_machine::specs::Refusals::contract_of))]
+fn contract_of(set: &ParamSet, contract: ContractName) -> Result<usize, Refusal>
+    ensures place { result ≡ contract_of set.now contract }
+    ensures within { IfOk result (λ i. i < length set.now.contracts) }
+{
+    match set.contract(contract) {
+        Some(place) => Ok(place),
+        None => Err(Refusal::NoContract),
+    }
+}
+
+// Where a contract stands that the set has.
+fn known_contract(set: &ParamSet, contract: ContractName) -> usize
+    requires { has_contract set.now contract ≡ true }
+    ensures stands { contract_of set.now contract ≡ Ok result }
+    ensures within { result < length set.now.contracts }
+{
+    match contract_of(set, contract) {
+        Ok(place) => place,
+        Err(_) => unreachable!(),
+    }
+}
+
+// A premium other than 0 is for options of the premium style alone.
+fn premium_fits(set: &ParamSet, contract: usize, premium: Premium) -> bool
+    requires { contract < length set.now.contracts }
+    ensures { result ≡ premium_fits set.now contract premium }
+{
+    premium.cents() == 0 || is_premium(set.contract_at(contract).style)
+}
+
+fn is_premium(style: Style) -> bool
+    ensures { result ≡ is_premium style }
+{
+    match style {
+        Style::Premium => true,
+        Style::Other => false,
+    }
+}
+
+impl Register {
+    /// The machine before its first command. Takes no memory.
+    pub fn new(alloc: Global, set: &ParamSet) -> Register
+        ensures empty { result ≡ floor [] [] [] false }
+        ensures kept { IsKept set.now result }
+    {
+        Register {
+            origins: Vec::new(alloc),
+            names: Places::new(alloc),
+            accounts: Vec::new(alloc),
+            rows: Vec::new(alloc),
+            closed: false,
+        }
+    }
+
+    // Where an account stands.
+    #[tactic(auto, unfolding(mgn_machine::specs::Refusals::place_of))]
+    pub(crate) fn place(&self, account: AccountName) -> Result<usize, Refusal>
+        ensures place { result ≡ place_of self.now.state account }
+        ensures within { IfOk result (λ k. k < length self.now.state.accounts) }
+    {
+        match self.names.place(account) {
+            Some(place) => Ok(place),
+            None => Err(Refusal::NoAccount),
+        }
+    }
+
+    // The row of an account's unit.
+    pub(crate) fn row(&self, set: &ParamSet, place: usize) -> &Row
+        requires kept { IsKept set.now self.now }
+        requires place { place < length self.now.state.accounts }
+        ensures row { result.now ≡ row_of set.now self.now.state.accounts (account_at self.now.state.accounts place).unit }
+        ensures limits { IsRow set.now result.now }
+    {
+        let unit = self.accounts[place].unit();
+        &self.rows[unit]
+    }
+
+    // How much the live lots and holds of an account's unit come to in a contract.
+    fn unit_size(
+        &self,
+        set: &ParamSet,
+        place: usize,
+        name: ContractName,
+        contract: usize,
+    ) -> Quantity
+        requires kept { IsKept set.now self.now }
+        requires place { place < length self.now.state.accounts }
+        requires contract { contract_of set.now name ≡ Ok contract }
+        ensures size { result ≡ unit_size self.now.state (account_at self.now.state.accounts place).unit name }
+        ensures limit { IsNet result }
+    {
+        set.limits();
+        self.row(set, place).sizes.at(contract)
+    }
+
+    // Where the account and the contract of a new lot stand, if it is not refused.
+    #[tactic(auto, unfolding(mgn_machine::specs::Refusals::lot_places))]
+    fn lot_places(
+        &self,
+        set: &ParamSet,
+        account: AccountName,
+        lot: LotId,
+        contract: ContractName,
+        premium: Premium,
+    ) -> Result<(usize, usize), Refusal>
+        ensures places { result ≡ lot_places set.now self.now.state account lot contract premium }
+        ensures account { IfOk result (λ at. at.0 < length self.now.state.accounts) }
+        ensures contract { IfOk result (λ at. at.1 < length set.now.contracts) }
+        ensures stands { IfOk result (λ at. contract_of set.now contract ≡ Ok at.1) }
+        ensures fresh { IfOk result (λ at. has_number (account_at self.now.state.accounts at.0).lots lot ≡ false) }
+        ensures few { IfOk result (λ at. is_full (account_at self.now.state.accounts at.0).lots ≡ false) }
+    {
+        refuse_if(self.closed, Refusal::Closed)?;
+        let place = self.place(account)?;
+        let owner = &self.accounts[place];
+        refuse_if(owner.has_lot(lot), Refusal::Duplicate)?;
+        let i = contract_of(set, contract)?;
+        refuse_if(!premium_fits(set, i, premium), Refusal::Premium)?;
+        refuse_if(owner.is_full(), Refusal::Limit)?;
+        Ok((place, i))
+    }
+
+    // The same of a trade, which also has to leave the unit within its size.
+    #[tactic(auto, unfolding(mgn_machine::specs::Refusals::trade_places))]
+    pub(crate) fn trade_places(
+        &self,
+        set: &ParamSet,
+        account: AccountName,
+        lot: LotId,
+        contract: ContractName,
+        quantity: LotQuantity,
+        premium: Premium,
+    ) -> Result<(usize, usize), Refusal>
+        requires kept { IsKept set.now self.now }
+        ensures places { result ≡ trade_places set.now self.now.state account lot contract quantity premium }
+        ensures account { IfOk result (λ at. at.0 < length self.now.state.accounts) }
+        ensures contract { IfOk result (λ at. at.1 < length set.now.contracts) }
+        ensures stands { IfOk result (λ at. contract_of set.now contract ≡ Ok at.1) }
+        ensures fresh { IfOk result (λ at. has_number (account_at self.now.state.accounts at.0).lots lot ≡ false) }
+        ensures few { IfOk result (λ at. is_full (account_at self.now.state.accounts at.0).lots ≡ false) }
+        ensures room { IfOk result (λ at. is_over self.now.state at.0 contract quantity ≡ false) }
+    {
+        let (place, i) = self.lot_places(set, account, lot, contract, premium)?;
+        let size = self.unit_size(set, place, contract, i);
+        refuse_if(is_over(size, quantity), Refusal::Limit)?;
+        Ok((place, i))
+    }
+
+    // Where an account and its traded lot stand, if the lot can be taken back.
+    #[tactic(auto, unfolding(mgn_machine::specs::Refusals::bust_places))]
+    pub(crate) fn bust_places(
+        &self,
+        account: AccountName,
+        lot: LotId,
+    ) -> Result<(usize, usize), Refusal>
+        ensures places { result ≡ bust_places self.now.state account lot }
+        ensures account { IfOk result (λ at. at.0 < length self.now.state.accounts) }
+        ensures lot { IfOk result (λ at. at.1 < length (account_at self.now.state.accounts at.0).lots) }
+        ensures traded { IfOk result (λ at. (lot_at (account_at self.now.state.accounts at.0).lots at.1).mark ≡ Mark.Traded) }
+    {
+        refuse_if(self.closed, Refusal::Closed)?;
+        let place = self.place(account)?;
+        let owner = &self.accounts[place];
+        let at = bust_refusal(owner.traded_place(lot))?;
+        Ok((place, at))
+    }
+
+    // Where the contract of a live lot stands in the set.
+    pub(crate) fn contract_of_lot(&self, set: &ParamSet, place: usize, at: usize) -> usize
+        requires kept { IsKept set.now self.now }
+        requires account { place < length self.now.state.accounts }
+        requires lot { at < length (account_at self.now.state.accounts place).lots }
+        requires live { is_live (lot_at (account_at self.now.state.accounts place).lots at).mark ≡ true }
+        ensures stands { contract_of set.now (lot_at (account_at self.now.state.accounts place).lots at).contract ≡ Ok result }
+        ensures within { result < length set.now.contracts }
+    {
+        known_contract(set, self.accounts[place].lot_at(at).contract)
+    }
+
+    // Where an account stands that posts, and what is then posted of the class, if it is not refused.
+    #[tactic(auto, unfolding(mgn_machine::specs::Refusals::post_place))]
+    pub(crate) fn post_place(
+        &self,
+        set: &ParamSet,
+        account: AccountName,
+        class: &ClassName,
+        units: Units,
+    ) -> Result<(usize, u64), Refusal>
+        ensures place { result ≡ post_place set.now self.now.state account class.now units }
+        ensures account { IfOk result (λ at. at.0 < length self.now.state.accounts) }
+        ensures most { IfOk result (λ at. at.1 ≤ most_of class.now) }
+    {
+        refuse_if(self.closed, Refusal::Closed)?;
+        let place = self.place(account)?;
+        let owner = &self.accounts[place];
+        let amount = post_refusal(owner.amount_posted(set, class, units))?;
+        Ok((place, amount))
+    }
+}
+
+// The refusal of a lot that cannot be taken back.
+fn bust_refusal(place: Result<usize, RemoveFault>) -> Result<usize, Refusal>
+    ensures { result ≡ bust_refusal place }
+{
+    match place {
+        Ok(at) => Ok(at),
+        Err(RemoveFault::NoLot) => Err(Refusal::NoTrade),
+        Err(RemoveFault::Moved) => Err(Refusal::Moved),
+    }
+}
+
+// The refusal of what cannot be posted. Want of memory is none.
+fn post_refusal(amount: Result<u64, PostFault>) -> Result<u64, Refusal>
+    ensures { result ≡ post_refusal amount }
+{
+    match amount {
+        Ok(amount) => Ok(amount),
+        Err(PostFault::NoClass) => Err(Refusal::NoClass),
+        Err(PostFault::Limit) | Err(PostFault::Memory) => Err(Refusal::Limit),
+    }
+}
+
+// Whether a quantity more would be more than a unit may have of a contract.
+fn is_over(size: Quantity, quantity: LotQuantity) -> bool
+    requires { IsNet size }
+    ensures { result ≡ int_lt (pos (10 ^ 7)) (size +ℤ pos (unsigned_abs quantity)) }
+{
+    let more = Quantity::new(quantity.quantity().size() as i64);
+    Quantity::new(MOST_SIZE) < size.plus(more)
+}

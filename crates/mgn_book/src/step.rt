@@ -1,0 +1,75 @@
+ghost use Rattle.std.specs.Prelude.{◌≡◌};
+ghost use Rattle.mgn_machine.specs.Step.{step, told, asked, ended};
+ghost use Rattle.mgn_book.specs.Floors.{IsKept, Steps, Replies, answer_of};
+
+use crate::fault::Fault;
+use crate::register::{Register, refuse_if};
+use mgn_ids::AccountName;
+use mgn_machine::{Command, Refusal, Reply};
+use mgn_params::ParamSet;
+use std::alloc::Global;
+
+impl Register {
+    /// The figures of an account's unit.
+    pub fn ask(&self, set: &ParamSet, account: AccountName) -> Reply
+        requires kept { IsKept set.now self.now }
+        ensures { result ≡ told (asked set.now self.now.state account) }
+    {
+        match self.place(account) {
+            Ok(place) => Reply::Figures(self.row(set, place).figures(set)),
+            Err(why) => Reply::Refused(why),
+        }
+    }
+
+    /// The day ends.
+    pub fn end(&mut self, set: &ParamSet) -> Result<(), Fault>
+        requires kept { IsKept set.now self.old }
+        ensures kept { IsKept set.now self.new }
+        ensures steps { Steps (ended self.old.state) result self.old self.new }
+    {
+        match refuse_if(self.closed, Refusal::Closed) {
+            Ok(()) => {}
+            Err(why) => return Err(Fault::Refused(why)),
+        }
+        self.closed = true;
+        Ok(())
+    }
+}
+
+// What is answered where a change is done or refused. Want of memory is no answer.
+fn answer_of(done: Result<(), Fault>) -> Result<Reply, Fault>
+    ensures { result ≡ answer_of done }
+{
+    match done {
+        Ok(()) => Ok(Reply::Done),
+        Err(Fault::Refused(why)) => Ok(Reply::Refused(why)),
+        Err(Fault::Memory) => Err(Fault::Memory),
+    }
+}
+
+/// One step of the machine; at want of memory nothing has changed.
+#[tactic(auto, using(crate::proofs::Steps::answered_by))]
+pub fn step(
+    register: &mut Register,
+    alloc: Global,
+    set: &ParamSet,
+    command: &Command,
+) -> Result<Reply, Fault>
+    requires kept { IsKept set.now register.old }
+    ensures kept { IsKept set.now register.new }
+    ensures replies { Replies (step set.now register.old.state command.now) result register.old register.new }
+{
+    match *command {
+        Command::NewOrigin(name, mode) => answer_of(register.originate(alloc, set, name, mode)),
+        Command::NewAccount(name, origin) => answer_of(register.open(alloc, set, name, origin)),
+        Command::Trade(account, lot, contract, quantity, premium) => {
+            answer_of(register.trade(alloc, set, account, lot, contract, quantity, premium))
+        }
+        Command::Bust(account, lot) => answer_of(register.bust(alloc, set, account, lot)),
+        Command::Post(account, class, units) => answer_of(register.post(
+            set, account, &class, units,
+        )),
+        Command::Ask(account) => Ok(register.ask(set, account)),
+        Command::EndDay => answer_of(register.end(set)),
+    }
+}

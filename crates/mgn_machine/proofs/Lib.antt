@@ -1,0 +1,5 @@
+pub mod Sums
+pub mod Moved
+pub mod Bounded
+pub mod AccountMoves
+pub mod Histories

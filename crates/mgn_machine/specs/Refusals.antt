@@ -1,0 +1,157 @@
+-- Why commands are refused, in the one order in which the reasons are looked for (own profile).
+use Rattle.std.specs.Prelude.{◌≡◌, All, ℕ, ◌^◌, Bool, true, false, not, ◌==◌, ◌&&◌, ◌||◌, nat_le, int_lt, if◌then◌else◌, ℤ, pos, ◌+ℤ◌, unsigned_abs, Option, None, Some, is_some, List, length, map, position, slice_index_or, codes, Result, Ok, Err}
+use Rattle.std.specs.Str.{bytes_eq}
+use Rattle.std.specs.List.{list_any}
+use Rattle.mgn_params.specs.Limits.{contract_names}
+use Rattle.mgn_params.specs.Tables.{Tables, contract_at, is_premium}
+use Rattle.mgn_coll.specs.declared.fault.PostFault.{PostFault}
+use Rattle.mgn_coll.specs.declared.fault.PostFault.TheVariants.{NoClass as UnknownClass, Limit as OverLimit, Memory}
+use Rattle.mgn_coll.specs.Refusals.{amount_posted}
+use Rattle.mgn_lots.specs.declared.lot.Lot.{Lot}
+use Rattle.mgn_lots.specs.Lots.{is_live}
+use Rattle.mgn_lots.specs.Refusals.{has_number, is_full, traded_place}
+use Rattle.mgn_lots.specs.declared.fault.RemoveFault.{RemoveFault}
+use Rattle.mgn_lots.specs.declared.fault.RemoveFault.TheVariants.{NoLot, Moved as WasMoved}
+use Rattle.mgn_holds.specs.declared.held.Held.{Held}
+use Rattle.mgn_machine.specs.declared.command.Mode.{Mode}
+use Rattle.mgn_machine.specs.declared.command.Mode.TheVariants.{Gross, Net}
+use Rattle.mgn_machine.specs.declared.origin.Origin.{Origin}
+use Rattle.mgn_machine.specs.declared.reply.Refusal.{Refusal}
+use Rattle.mgn_machine.specs.declared.reply.Refusal.TheVariants.{NoAccount, NoOrigin, Duplicate, NoContract, NoTrade, Moved, NoClass, Limit, Premium, Closed}
+use Rattle.mgn_machine.specs.State.{State, AccountState, account_at}
+use Rattle.mgn_machine.specs.Portfolios.{unit_sum, account_size}
+
+infixl 10 ◌>>=◌
+abbrev pub ◌>>=◌ : {A B : Type 0} → Result A Refusal → (A → Result B Refusal) → Result B Refusal
+(Ok x) >>= f = f x
+(Err why) >>= f = Err why
+
+unfoldable pub refuse_if : Bool → Refusal → Result (Unit {0}) Refusal
+refuse_if test why = if test then Err why else Ok tt
+
+abbrev pub found : {X : Type 0} → Option X → Refusal → Result X Refusal
+found None why = Err why
+found (Some x) why = Ok x
+
+-- ORIGIN
+
+abbrev pub is_net : Mode → Bool
+is_net Gross = false
+is_net Net = true
+
+abbrev pub has_origin : List Origin → List ℕ → Bool
+has_origin origins name = list_any (λ (o : Origin). bytes_eq o.name name) origins
+
+unfoldable pub origin_fits : State → List ℕ → Mode → Result (Unit {0}) Refusal
+origin_fits s name mode = do
+  _ ← refuse_if s.closed Closed
+  _ ← refuse_if (has_origin s.origins name) Duplicate
+  _ ← refuse_if (nat_le 8 (length s.origins)) Limit
+  _ ← refuse_if (is_net mode && nat_le 1024 s.units) Limit
+  Ok tt
+
+-- OPEN
+
+abbrev pub account_names : List AccountState → List (List ℕ)
+account_names accounts = map (λ (a : AccountState). a.name) accounts
+
+abbrev pub no_origin : Origin
+no_origin = record { name = codes ""; unit = None }
+
+abbrev pub unit_at : List Origin → Option ℕ → Result (Option ℕ) Refusal
+unit_at origins None = Err NoOrigin
+unit_at origins (Some i) = Ok (slice_index_or origins i no_origin).unit
+
+-- the unit of an origin's accounts, if it is netted
+unfoldable pub unit_of_origin : List Origin → List ℕ → Result (Option ℕ) Refusal
+unit_of_origin origins name = unit_at origins (position (λ (o : Origin). bytes_eq o.name name) origins)
+
+unfoldable pub open_unit : State → List ℕ → List ℕ → Result (Option ℕ) Refusal
+open_unit s account origin = do
+  _ ← refuse_if s.closed Closed
+  u ← unit_of_origin s.origins origin
+  _ ← refuse_if (list_any (bytes_eq account) (account_names s.accounts)) Duplicate
+  _ ← refuse_if (nat_le 1024 (length s.accounts)) Limit
+  _ ← refuse_if (not (is_some u) && nat_le 1024 s.units) Limit
+  Ok u
+
+-- TRADE
+
+-- where an account stands
+unfoldable pub place_of : State → List ℕ → Result ℕ Refusal
+place_of s account = found (position (bytes_eq account) (account_names s.accounts)) NoAccount
+
+-- where a contract stands in the set
+unfoldable pub contract_of : Tables → List ℕ → Result ℕ Refusal
+contract_of set contract = found (position (bytes_eq contract) (contract_names set.contracts)) NoContract
+
+-- the set has a contract of that name
+abbrev pub has_contract : Tables → List ℕ → Bool
+has_contract set contract = is_some (position (bytes_eq contract) (contract_names set.contracts))
+
+-- the set has the contract of each live lot and of each hold of an account
+pub record IsKnown (set : Tables) (a : AccountState) : Type 0 where
+  pub lots : All (λ (x : Lot). is_live x.mark ≡ true → has_contract set x.contract ≡ true) a.lots
+  pub holds : All (λ (x : Held). has_contract set x.contract ≡ true) a.holds
+
+-- a premium other than 0 is for options of the premium style alone
+abbrev pub premium_fits : Tables → ℕ → ℕ → Bool
+premium_fits set i premium = (premium == 0) || is_premium (contract_at set.contracts i).style
+
+-- the sum of the sizes of the live lots and holds of a unit in a contract
+abbrev pub unit_size : State → ℕ → List ℕ → ℤ
+unit_size s u contract = unit_sum u (account_size contract) s.accounts
+
+-- where the account and the contract of a new lot stand
+unfoldable pub lot_places : Tables → State → List ℕ → ℕ → List ℕ → ℕ → Result (ℕ × ℕ) Refusal
+lot_places set s account lot contract premium = do
+  _ ← refuse_if s.closed Closed
+  k ← place_of s account
+  _ ← refuse_if (has_number (account_at s.accounts k).lots lot) Duplicate
+  i ← contract_of set contract
+  _ ← refuse_if (not (premium_fits set i premium)) Premium
+  _ ← refuse_if (is_full (account_at s.accounts k).lots) Limit
+  Ok (k, i)
+
+-- a quantity more of a contract would be more than 10,000,000 in the unit of the account
+abbrev pub is_over : State → ℕ → List ℕ → ℤ → Bool
+is_over s k contract quantity =
+    int_lt (pos (10 ^ 7)) (unit_size s (account_at s.accounts k).unit contract +ℤ pos (unsigned_abs quantity))
+
+unfoldable pub trade_places : Tables → State → List ℕ → ℕ → List ℕ → ℤ → ℕ → Result (ℕ × ℕ) Refusal
+trade_places set s account lot contract quantity premium = do
+  at ← lot_places set s account lot contract premium
+  _ ← refuse_if (is_over s at.0 contract quantity) Limit
+  Ok at
+
+-- BUST
+
+abbrev pub bust_refusal : Result ℕ RemoveFault → Result ℕ Refusal
+bust_refusal (Ok i) = Ok i
+bust_refusal (Err NoLot) = Err NoTrade
+bust_refusal (Err WasMoved) = Err Moved
+
+-- where the account and its traded lot stand
+unfoldable pub bust_places : State → List ℕ → ℕ → Result (ℕ × ℕ) Refusal
+bust_places s account lot = do
+  _ ← refuse_if s.closed Closed
+  k ← place_of s account
+  i ← bust_refusal (traded_place (account_at s.accounts k).lots lot)
+  Ok (k, i)
+
+-- POST
+
+-- the refusal of what cannot be posted; want of memory is none
+abbrev pub post_refusal : Result ℕ PostFault → Result ℕ Refusal
+post_refusal (Ok amount) = Ok amount
+post_refusal (Err UnknownClass) = Err NoClass
+post_refusal (Err OverLimit) = Err Limit
+post_refusal (Err Memory) = Err Limit
+
+-- where the account stands, and what is then posted of the class
+unfoldable pub post_place : Tables → State → List ℕ → List ℕ → ℕ → Result (ℕ × ℕ) Refusal
+post_place set s account class units = do
+  _ ← refuse_if s.closed Closed
+  k ← place_of s account
+  amount ← post_refusal (amount_posted set.classes (account_at s.accounts k).collateral class units)
+  Ok (k, amount)

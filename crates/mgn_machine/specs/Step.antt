@@ -1,0 +1,87 @@
+-- One step of the machine: what a command does to the state, and what it is answered (own profile).
+use Rattle.std.specs.Prelude.{ℕ, ◌+◌, true, Option, None, Some, ℤ, List, [], ◌∷◌, ◌++◌, Result, Ok, Err}
+use Rattle.mgn_params.specs.Tables.{Tables}
+use Rattle.mgn_lots.specs.declared.lot.Lot.{Lot}
+use Rattle.mgn_lots.specs.declared.lot.Mark.TheVariants.{Traded}
+use Rattle.mgn_machine.specs.declared.command.Command.{Command}
+use Rattle.mgn_machine.specs.declared.command.Command.TheVariants.{NewOrigin, NewAccount, Trade, Bust, Post, Ask, EndDay}
+use Rattle.mgn_machine.specs.declared.command.Mode.{Mode}
+use Rattle.mgn_machine.specs.declared.command.Mode.TheVariants.{Gross, Net}
+use Rattle.mgn_machine.specs.declared.reply.Refusal.{Refusal}
+use Rattle.mgn_machine.specs.declared.reply.Refusal.TheVariants.{Closed}
+use Rattle.mgn_machine.specs.declared.reply.Reply.{Reply}
+use Rattle.mgn_machine.specs.declared.reply.Reply.TheVariants.{Done, Figures, Refused}
+use Rattle.mgn_machine.specs.State.{State, account_at, put, fresh, with_lot, with_bust, with_amount}
+use Rattle.mgn_machine.specs.Rows.{row_of, figures_of}
+use Rattle.mgn_machine.specs.Refusals.{◌>>=◌, refuse_if, origin_fits, open_unit, place_of, trade_places, bust_places, post_place}
+
+-- an origin more; a netted one makes its unit
+abbrev pub with_origin : State → List ℕ → Mode → State
+with_origin s name Gross = record s { origins = s.origins ++ record { name = name; unit = None } ∷ [] }
+with_origin s name Net = record s { origins = s.origins ++ record { name = name; unit = Some s.units } ∷ []; units = s.units + 1 }
+
+abbrev pub originated : State → List ℕ → Mode → Result State Refusal
+originated s name mode = do
+  _ ← origin_fits s name mode
+  Ok (with_origin s name mode)
+
+-- an account more, in a unit of its own or in the origin's
+abbrev pub with_account : State → List ℕ → Option ℕ → State
+with_account s name None = record s { accounts = s.accounts ++ fresh name s.units ∷ []; units = s.units + 1 }
+with_account s name (Some u) = record s { accounts = s.accounts ++ fresh name u ∷ [] }
+
+abbrev pub opened : State → List ℕ → List ℕ → Result State Refusal
+opened s account origin = do
+  u ← open_unit s account origin
+  Ok (with_account s account u)
+
+-- a lot more, as it is traded
+abbrev pub traded_lot : ℕ → List ℕ → ℤ → ℕ → Lot
+traded_lot number contract quantity premium = record { number = number; contract = contract; quantity = quantity; premium = premium; mark = Traded }
+
+abbrev pub traded : Tables → State → List ℕ → ℕ → List ℕ → ℤ → ℕ → Result State Refusal
+traded set s account number contract quantity premium = do
+  at ← trade_places set s account number contract quantity premium
+  Ok (put s at.0 (with_lot (account_at s.accounts at.0) (traded_lot number contract quantity premium)))
+
+-- a lot taken back: it stays in the list, and counts for nothing
+abbrev pub undone : State → List ℕ → ℕ → Result State Refusal
+undone s account lot = do
+  at ← bust_places s account lot
+  Ok (put s at.0 (with_bust (account_at s.accounts at.0) at.1))
+
+-- cash or units of a class more
+abbrev pub posted : Tables → State → List ℕ → List ℕ → ℕ → Result State Refusal
+posted set s account class units = do
+  at ← post_place set s account class units
+  Ok (put s at.0 (with_amount (account_at s.accounts at.0) class at.1))
+
+-- the figures of the account's unit
+abbrev pub asked : Tables → State → List ℕ → Result Reply Refusal
+asked set s account = do
+  k ← place_of s account
+  Ok (Figures (figures_of (row_of set s.accounts (account_at s.accounts k).unit)))
+
+abbrev pub ended : State → Result State Refusal
+ended s = do
+  _ ← refuse_if s.closed Closed
+  Ok record s { closed = true }
+
+-- a change that is done, or refused: then nothing changes
+abbrev pub answered : State → Result State Refusal → State × Reply
+answered s (Ok now) = (now, Done)
+answered s (Err why) = (s, Refused why)
+
+-- what a question is answered
+abbrev pub told : Result Reply Refusal → Reply
+told (Ok reply) = reply
+told (Err why) = Refused why
+
+abbrev pub step : Tables → State → Command → State × Reply
+step set s (NewOrigin name mode) = answered s (originated s name mode)
+step set s (NewAccount account origin) = answered s (opened s account origin)
+step set s (Trade account lot contract quantity premium) = answered s (traded set s account lot contract quantity premium)
+step set s (Bust account lot) = answered s (undone s account lot)
+step set s (Post account class units) = answered s (posted set s account class units)
+step set s (Ask account) = (s, told (asked set s account))
+step set s EndDay = answered s (ended s)

@@ -1,0 +1,39 @@
+-- Laws of the calculation in the subject's own words.
+use Rattle.std.proofs.Common.{ℕ, ◌<◌, List, [], ◌∷◌, arith}
+use Rattle.std.specs.Prelude.{ℤ, pos, ◌≤ℤ◌}
+use Rattle.std.proofs.lemmas.Int.{clamps, ints}
+use Rattle.mgn_num.proofs.SignedLemmas.{signed_sum_by-cons}
+use Rattle.mgn_params.specs.Laws.{own_worst, worst_cases}
+use Rattle.mgn_params.specs.Positions.{Position}
+use Rattle.mgn_params.specs.Requirement.{requirement, scan_of}
+use Rattle.mgn_params.specs.Scan.{active, scan_risk, scenario_share, scenario_total}
+use Rattle.mgn_params.specs.Tables.{Tables}
+use Rattle.mgn_params.proofs.ActiveLemmas.{active_is}
+
+-- no total is above the scan risk
+total_le_scan : (t : ℕ → ℤ) (s : ℕ) → s < 16 → t s ≤ℤ scan_risk t
+total_le_scan t s h = omega (arith, ints, clamps, (active_is t).largest s h)
+
+scan_not_negative : (t : ℕ → ℤ) → pos 0 ≤ℤ scan_risk t
+scan_not_negative t = omega (arith, ints, clamps)
+
+worst_not_negative : (g : ℕ) (held : List Position) → pos 0 ≤ℤ worst_cases g held
+worst_not_negative g [] = omega (arith, ints)
+worst_not_negative g (p ∷ held) =
+    omega (arith, ints, signed_sum_by-cons (own_worst g) p held, scan_not_negative (λ s. scenario_share g s p), worst_not_negative g held)
+
+total_le_worst : (g s : ℕ) → s < 16 → (held : List Position) → scenario_total g held s ≤ℤ worst_cases g held
+total_le_worst g s h [] = omega (arith, ints)
+total_le_worst g s h (p ∷ held) =
+    omega (arith, ints, signed_sum_by-cons (own_worst g) p held, signed_sum_by-cons (scenario_share g s) p held, total_le_scan (λ k. scenario_share g k p) s h, total_le_worst g s h held)
+
+-- a scan never exceeds the positions' own worst cases together
+pub scan_le_worst : (g : ℕ) (held : List Position) → scan_of held g ≤ℤ worst_cases g held
+scan_le_worst g held =
+    let total = total_le_worst g (active (scenario_total g held)) (active_is (scenario_total g held)).scenario held in
+    omega (arith, ints, clamps, total, worst_not_negative g held)
+
+-- no requirement is negative
+pub requirement_not_negative : (set : Tables) (nets : List ℤ) → pos 0 ≤ℤ requirement set nets
+unfolding requirement
+requirement_not_negative set nets = omega (arith, ints, clamps)

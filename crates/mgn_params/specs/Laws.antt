@@ -1,0 +1,13 @@
+-- Words of the laws of the calculation.
+use Rattle.std.specs.Prelude.{ℕ, ℤ, List}
+use Rattle.mgn_num.specs.Signed.{signed_sum_by}
+use Rattle.mgn_params.specs.Positions.{Position}
+use Rattle.mgn_params.specs.Scan.{scan_risk, scenario_share}
+
+-- the worst that one position alone may come to in a commodity
+abbrev pub own_worst : ℕ → Position → ℤ
+own_worst commodity p = scan_risk (λ s. scenario_share commodity s p)
+
+-- the positions' own worst cases together
+abbrev pub worst_cases : ℕ → List Position → ℤ
+worst_cases commodity held = signed_sum_by (own_worst commodity) held

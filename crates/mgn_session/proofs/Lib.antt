@@ -1,0 +1,4 @@
+-- Lemmas of the crate.
+pub mod LineFacts
+pub mod RunFacts
+pub mod PlainFacts

@@ -1,0 +1,176 @@
+-- From piece to piece of a line, and from line to line of a session.
+use Rattle.std.proofs.Common.{◌≡◌, ◌+◌, ◌-◌, ◌<◌, ◌≤◌, ℕ, Bool, true, false, List, [], ◌∷◌, ◌++◌, length, take, drop, get_or, Some, None, Result, Ok, Err, OnErr, cond, refl, sym, ap, ◌∙◌, arith, append_assoc, length-append, min}
+use Rattle.std.specs.Prelude.{◌==◌, nat_lt, position}
+use Rattle.std.specs.List.{list_any, position_or_len}
+use Rattle.std.proofs.lemmas.Bool.Decides.{nat_tests}
+use Rattle.std.proofs.lemmas.Grind.{flat_map-append}
+use Rattle.std.proofs.lemmas.List.{append-nil, get_or-take, length-take, take_all, take_more, take-append-le, take-append-drop}
+use Rattle.std.proofs.lemmas.List.Elements.{All-from_get_or}
+use Rattle.std.proofs.lemmas.List.Folds.{list_any-append, list_any_none}
+use Rattle.std.proofs.lemmas.List.Quantifiers.{position-Some}
+use Rattle.std.proofs.lemmas.List.Sums.{fails_before_first}
+use Rattle.mgn_machine.specs.declared.entry.Item.{Item}
+use Rattle.mgn_machine.specs.declared.reply.Answer.{Answer}
+use Rattle.mgn_wire.specs.Line.{line_of}
+use Rattle.mgn_wire.specs.Text.{text_of}
+use Rattle.mgn_session.specs.Session.{AddsRead, AnswersRead, HasTaken, IsAt, IsGrown, Matches, ended, has_end}
+
+-- the fronts of lists that are put together
+
+take_front_by : (b : Bool) (n : ℕ) (xs ys : List ℕ) → nat_lt n (length xs) ≡ b → take n (take n xs ++ ys) ≡ take n (xs ++ ys)
+take_front_by true n xs ys e =
+    let long : n ≤ length xs = grind (arith, nat_tests) in
+    let full : n ≤ length (take n xs) = omega (arith, length-take n xs) in
+    take-append-le n (take n xs) ys full ∙ take_all n (take n xs) (omega (arith, length-take n xs)) ∙ sym (take-append-le n xs ys long)
+take_front_by false n xs ys e =
+    let short : length xs ≤ n = grind (arith, nat_tests) in
+    rw (take_all n xs short) refl
+
+take_front : (n : ℕ) (xs ys : List ℕ) → take n (take n xs ++ ys) ≡ take n (xs ++ ys)
+take_front n xs ys = take_front_by (nat_lt n (length xs)) n xs ys refl
+
+pub fronts : (n : ℕ) (xs ys more : List ℕ) → take n xs ≡ take n ys → take n (xs ++ more) ≡ take n (ys ++ more)
+fronts n xs ys more e = sym (take_front n xs more) ∙ ap (λ (front : List ℕ). take n (front ++ more)) e ∙ take_front n ys more
+
+-- as much of a piece as there is room for
+kept_by : (b : Bool) (line piece : List ℕ) (room : ℕ) → nat_lt (length line + room) 257 ≡ b → room ≡ min (257 - length line) (length piece)
+    → take 257 (line ++ take room piece) ≡ take 257 (line ++ piece)
+kept_by true line piece room e is =
+    let all : length piece ≤ room = grind (arith, nat_tests) in
+    rw (take_all room piece all) refl
+kept_by false line piece room e is =
+    let size : 257 ≤ length line + room = grind (arith, nat_tests) in
+    let long : 257 ≤ length (line ++ take room piece) = omega (arith, length-append line (take room piece), length-take room piece) in
+    let cut : take 257 ((line ++ take room piece) ++ drop room piece) ≡ take 257 (line ++ take room piece) =
+    take-append-le 257 (line ++ take room piece) (drop room piece) long in
+    sym (rw (append_assoc, take-append-drop room piece) at cut)
+
+pub kept : (line piece : List ℕ) (room : ℕ) → room ≡ min (257 - length line) (length piece) → take 257 (line ++ take room piece) ≡ take 257 (line ++ piece)
+kept line piece room is = kept_by (nat_lt (length line + room) 257) line piece room refl is
+
+-- a line is as its first 257 bytes say
+
+line_front_by : (b : Bool) (line : List ℕ) → nat_lt 256 (length line) ≡ b → line_of (take 257 line) ≡ line_of line
+line_front_by true line e =
+    let long : 256 < length line = grind (arith, nat_tests) in
+    let front_long : 256 < length (take 257 line) = omega (arith, length-take 257 line) in
+    let f : nat_lt 256 (length (take 257 line)) ≡ true = grind (arith, nat_tests) in
+    rw (e, f) refl
+line_front_by false line e =
+    let short : length line ≤ 256 = grind (arith, nat_tests) in
+    rw (take_all 257 line (omega arith)) refl
+
+line_front : (line : List ℕ) → line_of (take 257 line) ≡ line_of line
+line_front line = line_front_by (nat_lt 256 (length line)) line refl
+
+pub same_line : (xs ys : List ℕ) → take 257 xs ≡ take 257 ys → line_of xs ≡ line_of ys
+same_line xs ys e = sym (line_front xs) ∙ ap line_of e ∙ line_front ys
+
+-- where a line ends
+
+absent : (b : Bool) (x : ℕ) → cond b (Some x) None ≡ None → b ≡ false
+absent true x e = cc
+absent false x e = refl
+
+position-None : (p : ℕ → Bool) (xs : List ℕ) → position p xs ≡ None → length xs ≤ position_or_len p xs
+position-None p xs e =
+    let none = absent (nat_lt (position_or_len p xs) (length xs)) (position_or_len p xs) e in
+    grind (arith, nat_tests)
+
+pub no_end : (xs : List ℕ) → position (λ b. b == 10) xs ≡ None → has_end xs ≡ false
+no_end xs e =
+    list_any_none (λ b. b == 10) xs (All-from_get_or (λ b. (b == 10) ≡ false) xs 0 (λ i inside. fails_before_first (λ b. b == 10) xs i 0 (omega (arith, position-None (λ b. b == 10) xs e))))
+
+is_end : (b : ℕ) → (b == 10) ≡ true → b ≡ 10
+is_end b e = grind (arith, nat_tests)
+
+pub end_at : (xs : List ℕ) (i : ℕ) → position (λ b. b == 10) xs ≡ Some i
+    → (i < length xs) × (take (i + 1) xs ≡ take i xs ++ 10 ∷ []) × (has_end (take i xs) ≡ false)
+end_at xs i e =
+    let found = position-Some (λ b. b == 10) xs i 0 e in
+    let before : (k : ℕ) → k < length (take i xs) → (get_or (take i xs) k 0 == 10) ≡ false = λ k inside.
+    let small : k < i = omega (arith, length-take i xs) in
+    rw (get_or-take i xs k 0 small) (found.2 k small) in
+    (found.0, rw (is_end (get_or xs i 0) found.1) at (take_more xs i 0 found.0), list_any_none (λ b. b == 10) (take i xs) (All-from_get_or (λ b. (b == 10) ≡ false) (take i xs) 0 before))
+
+any_append : {A : Type 0} (p : A → Bool) (xs ys : List A) → list_any p xs ≡ false → list_any p ys ≡ false → list_any p (xs ++ ys) ≡ false
+any_append p xs ys e f = rw (list_any-append p xs ys, e, f) refl
+
+-- answers line by line
+
+matches_more : (lines : List (List ℕ)) (answers : List Answer) (items new : List Item) (line : List ℕ) (answer : Answer)
+    → Matches lines answers items → AnswersRead (line_of line) answer new → Matches (lines ++ line ∷ []) (answers ++ answer ∷ []) (items ++ new)
+matches_more [] [] items new line answer m read = (new, [], rw m (sym (append-nil new)), read, refl)
+matches_more [] (a ∷ answers) items new line answer m read = absurd m
+matches_more (l ∷ lines) [] items new line answer m read = absurd m
+matches_more (l ∷ lines) (a ∷ answers) items new line answer m read =
+    (m.0, m.1 ++ new, rw (m.2, append_assoc) refl, m.3, matches_more lines answers m.1 new line answer m.4 read)
+
+-- a line that is answered
+pub ends_line : (old now now2 : List Item) (input text : List ℕ) (n : ℕ) (line last : List ℕ) (answer : Answer)
+    → IsAt old now input text n line → has_end last ≡ false → AddsRead (line_of (line ++ last)) answer now now2
+    → IsAt old now2 (input ++ (last ++ 10 ∷ [])) (text ++ text_of answer) (n + 1) []
+ends_line old now now2 input text n line last answer at whole adds =
+    let s = at.session in
+    let read = rw (same_line (line ++ last) (s.rest ++ last) (fronts 257 line s.rest last at.front)) at adds.2 in
+    let unbroken : has_end (s.rest ++ last) ≡ false = any_append (λ b. b == 10) s.rest last s.splits.partial whole in
+    record {
+      session = record {
+        lines = s.lines ++ (s.rest ++ last) ∷ [];
+        rest = [];
+        answers = s.answers ++ answer ∷ [];
+        gained = s.gained ++ adds.0;
+        splits = record {
+          whole = rw (s.splits.whole, flat_map-append ended s.lines ((s.rest ++ last) ∷ [])) (simp (append_assoc, append-nil));
+          each = any_append has_end s.lines ((s.rest ++ last) ∷ []) s.splits.each (rw unbroken refl);
+          partial = refl;
+        };
+        count_is = omega (arith, s.count_is, length-append s.lines ((s.rest ++ last) ∷ []));
+        matches = matches_more s.lines s.answers s.gained adds.0 (s.rest ++ last) answer s.matches read;
+        entries = rw (adds.1, s.entries, append_assoc) refl;
+        text_is = rw (s.text_is, flat_map-append text_of s.answers (answer ∷ [])) (simp append-nil);
+      };
+      front = refl;
+    }
+
+-- a piece of a line that goes on
+pub goes_further : (old now : List Item) (input text : List ℕ) (n : ℕ) (line piece line2 : List ℕ)
+    → IsAt old now input text n line → has_end piece ≡ false → take 257 line2 ≡ take 257 (line ++ piece)
+    → IsAt old now (input ++ piece) text n line2
+goes_further old now input text n line piece line2 at whole front =
+    let s = at.session in
+    record {
+      session = record {
+        lines = s.lines;
+        rest = s.rest ++ piece;
+        answers = s.answers;
+        gained = s.gained;
+        splits = record {
+          whole = rw (s.splits.whole, append_assoc) refl;
+          each = s.splits.each;
+          partial = any_append (λ b. b == 10) s.rest piece s.splits.partial whole;
+        };
+        count_is = s.count_is;
+        matches = s.matches;
+        entries = s.entries;
+        text_is = s.text_is;
+      };
+      front = front ∙ fronts 257 line s.rest piece at.front;
+    }
+
+-- a fact holds at an error too
+pub at_err : {X E P : Type 0} (r : Result X E) → P → OnErr r P
+at_err (Ok x) p = tt
+at_err (Err e) p = p
+
+pub grown_none : (xs : List Item) → IsGrown xs xs
+grown_none xs = ([], sym (append-nil xs))
+
+pub grown_on : (xs ys zs : List Item) → IsGrown xs ys → IsGrown ys zs → IsGrown xs zs
+grown_on xs ys zs first second = (first.0 ++ second.0, rw (second.1, first.1, append_assoc) refl)
+
+-- what was taken of a chunk
+pub part_taken : (old now final : List Item) (input text chunk : List ℕ) (lines : ℕ) (line : List ℕ) (k : ℕ)
+    → IsAt old now (input ++ take k chunk) text lines line → IsGrown now final → HasTaken old final input text chunk
+part_taken old now final input text chunk lines line k at grown =
+    record { k = k; now = now; count = lines; session = at.session; grown = grown }

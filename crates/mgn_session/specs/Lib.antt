@@ -1,0 +1,4 @@
+-- What the contracts of sessions cite.
+pub mod Device
+pub mod Plain
+pub mod Session

@@ -1,0 +1,17 @@
+//! Sessions: the bytes that go out are the replies to the lines that come in.
+#![tactic(auto)]
+
+pub mod counted;
+pub mod exec;
+pub mod fault;
+pub mod plain;
+pub mod run;
+#[cfg(test)]
+mod tests;
+mod work;
+
+pub use counted::Counted;
+pub use exec::Exec;
+pub use fault::SessionFault;
+pub use plain::Plain;
+pub use run::run_lines;
