@@ -1,5 +1,5 @@
 -- From the rows that loops fill to the words of the definitions.
-use Rattle.std.proofs.Common.{◌≡◌, ℕ, ◌*◌, ◌<◌, ◌≤◌, ◌^◌, List, length, ⊎_elim, ap, ◌∙◌, sym, arith, refl, map, pos, ℤ, unsigned_abs}
+use Rattle.std.proofs.Common.{◌≡◌, ℕ, ◌*◌, ◌<◌, ◌≤◌, ◌^◌, List, [], length, replicate, ⊎_elim, ap, ◌∙◌, sym, arith, refl, map, pos, ℤ, unsigned_abs}
 use Rattle.std.specs.Int.{int_max}
 use Rattle.mgn_plain.specs.Figures.{commodity_figures}
 use Rattle.mgn_plain.specs.declared.commodity.CommodityFigures.{CommodityFigures}
@@ -7,8 +7,8 @@ use Rattle.std.specs.Prelude.{◌+ℤ◌, ◌-ℤ◌, slice_index, Result, Ok, E
 use Rattle.std.specs.List.{range_with_len}
 use Rattle.std.proofs.lemmas.Bool.{cases_lt}
 use Rattle.std.proofs.lemmas.Int.{ints}
-use Rattle.std.proofs.lemmas.List.{get_or_default, get_or_past}
-use Rattle.std.proofs.lemmas.List.FromFn.{fill_by_all}
+use Rattle.std.proofs.lemmas.List.{get_or-replicate, get_or_default, get_or_past, length-replicate, nil_from_length}
+use Rattle.std.proofs.lemmas.List.FromFn.{fill_by_all, length-map-range_with_len}
 use Rattle.mgn_params.specs.Credits.{credits_of}
 use Rattle.mgn_params.specs.Deltas.{net_delta}
 use Rattle.mgn_params.specs.Limits.{IsWithinLimits}
@@ -85,6 +85,19 @@ credits_are t nets deltas row totals risks credited are totalled netted priced f
       is = from.is ∙ ap (λ (xs : List ℤ). credits_of xs risks t.credits) rests ∙ ap (λ (xs : List ℕ). credits_of (map (net_delta t.months held) (range_with_len 0 n)) xs t.credits) prices;
       one_each = from.one_each;
       small = from.small;
+    }
+
+-- without spreads there are no credits
+pub no_credits : (t : Tables) (nets : List ℤ) (credited : List ℕ) → length t.credits ≡ 0 → credited ≡ replicate (length t.commodities) 0 → AreCredits t nets credited
+unfolding credits
+no_credits t nets credited none zeros =
+    let held : List Position = positions t.contracts nets in
+    let n = length t.commodities in
+    let empty : t.credits ≡ [] = nil_from_length t.credits none in
+    record {
+      is = zeros ∙ ap (λ (m : ℕ). replicate m 0) (sym (length-map-range_with_len (net_delta t.months held) 0 n)) ∙ ap (credits_of (map (net_delta t.months held) (range_with_len 0 n)) (map (price_risk2_of held) (range_with_len 0 n))) (sym empty);
+      one_each = ap length zeros ∙ length-replicate {A = ℕ} n 0;
+      small = λ g. rw zeros (⊎_elim (λ inside. rw (get_or-replicate {A = ℕ} n g 0 0 inside) (omega arith)) (λ past. rw (get_or_past {X = ℕ} (replicate {A = ℕ} n 0) g 0 (omega (arith, length-replicate {A = ℕ} n 0))) (omega arith)) (cases_lt g n));
     }
 
 -- what follows from what an `Ok` holds

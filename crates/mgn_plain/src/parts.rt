@@ -154,7 +154,8 @@ pub(crate) fn work_out_charges(
     charge_rows(alloc, set, &starts)
 }
 
-// The credits by the deltas of the months and the totals of the scenarios.
+// The credits by the deltas of the months and the totals of the scenarios. Where the set has no intercommodity spread
+// nothing is worked out.
 pub(crate) fn work_out_credits(
     alloc: Global,
     set: &ParamSet,
@@ -167,6 +168,9 @@ pub(crate) fn work_out_credits(
         AreCredits set.now nets row.items) }
 {
     set.limits();
+    if set.credits().is_empty() {
+        return filled(alloc, set.commodity_count(), 0);
+    }
     let nets = net_deltas(alloc, set, deltas)?;
     let risks = price_risks(alloc, totals)?;
     credit_row(alloc, set, &nets, &risks)
