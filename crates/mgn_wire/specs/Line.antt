@@ -8,7 +8,7 @@ use Rattle.mgn_ids.specs.Number.{number_in}
 use Rattle.mgn_ids.specs.declared.fault.IdFault.{IdFault}
 use Rattle.mgn_ids.specs.declared.fault.IdFault.TheVariants.{Syntax, Range}
 use Rattle.mgn_machine.specs.declared.command.Command.{Command}
-use Rattle.mgn_machine.specs.declared.command.Command.TheVariants.{NewOrigin, NewAccount, Trade, Bust, Post, Ask, EndDay}
+use Rattle.mgn_machine.specs.declared.command.Command.TheVariants.{NewOrigin, NewAccount, Trade, Bust, Post, Draw, Ask, EndDay}
 use Rattle.mgn_wire.specs.Word.{words_of, mode_in}
 use Rattle.mgn_wire.specs.declared.fault.LineFault.{LineFault}
 use Rattle.mgn_wire.specs.declared.fault.LineFault.TheVariants as line
@@ -43,6 +43,13 @@ origin_of origin mode = do
   margined ← mode_in mode
   Ok (NewOrigin name margined)
 
+unfoldable pub draw_of : List ℕ → List ℕ → List ℕ → Result Command IdFault
+draw_of account class units = do
+  name ← name_in account
+  drawn ← name_in class
+  count ← units_in units
+  Ok (Draw name drawn count)
+
 unfoldable pub post_of : List ℕ → List ℕ → List ℕ → Result Command IdFault
 post_of account class units = do
   name ← name_in account
@@ -75,7 +82,10 @@ with_two verb a b =
     else Err Syntax
 
 unfoldable pub with_three : List ℕ → List ℕ → List ℕ → List ℕ → Result Command IdFault
-with_three verb a b c = if bytes_eq verb (codes "POST") then post_of a b c else Err Syntax
+with_three verb a b c =
+    if bytes_eq verb (codes "POST") then post_of a b c
+    else if bytes_eq verb (codes "DRAW") then draw_of a b c
+    else Err Syntax
 
 unfoldable pub with_five : List ℕ → List ℕ → List ℕ → List ℕ → List ℕ → List ℕ → Result Command IdFault
 with_five verb a b c d e = if bytes_eq verb (codes "TRADE") then trade_of a b c d e else Err Syntax

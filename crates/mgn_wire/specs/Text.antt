@@ -2,7 +2,7 @@
 use Rattle.std.specs.Prelude.{ℕ, ℤ, List, [], ◌++◌, Option, Some, None, codes}
 use Rattle.std.specs.Fmt.{decimal, signed_decimal}
 use Rattle.mgn_machine.specs.declared.reply.Refusal.{Refusal}
-use Rattle.mgn_machine.specs.declared.reply.Refusal.TheVariants.{Syntax, Long, Range, NoAccount, NoOrigin, Duplicate, NoContract, NoTrade, NoClass, Limit, Premium, Moved, Closed, Memory, Full}
+use Rattle.mgn_machine.specs.declared.reply.Refusal.TheVariants.{Syntax, Long, Range, NoAccount, NoOrigin, Duplicate, NoContract, NoTrade, NoClass, NoRoom, Limit, Premium, Over, Moved, Closed, Memory, Full}
 use Rattle.mgn_machine.specs.declared.reply.Figures.{Figures}
 use Rattle.mgn_machine.specs.declared.reply.Reply.{Reply}
 use Rattle.mgn_machine.specs.declared.reply.Reply.TheVariants as reply
@@ -19,8 +19,10 @@ refusal_text Duplicate = codes "22 DUP"
 refusal_text NoContract = codes "23 NOCONTRACT"
 refusal_text NoTrade = codes "24 NOTRADE"
 refusal_text NoClass = codes "26 NOCLASS"
+refusal_text NoRoom = codes "30 NOROOM"
 refusal_text Limit = codes "31 LIMIT"
 refusal_text Premium = codes "32 PREMIUM"
+refusal_text Over = codes "33 OVER"
 refusal_text Moved = codes "35 MOVED"
 refusal_text Closed = codes "50 CLOSED"
 refusal_text Memory = codes "90 MEMORY"

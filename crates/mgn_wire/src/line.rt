@@ -1,6 +1,6 @@
 ghost use Rattle.std.specs.Prelude.{◌≡◌, map, nat_lt, length};
 ghost use Rattle.std.specs.List.{list_all};
-ghost use Rattle.mgn_wire.specs.Line.{line_of, in_line, command_of, with_none, with_one, with_two, with_three, with_five, ask_of, bust_of, open_of, origin_of, post_of, trade_of};
+ghost use Rattle.mgn_wire.specs.Line.{line_of, in_line, command_of, with_none, with_one, with_two, with_three, with_five, ask_of, bust_of, draw_of, open_of, origin_of, post_of, trade_of};
 
 use crate::fault::LineFault;
 use crate::words::{read_mode, split_words};
@@ -46,6 +46,16 @@ fn read_origin(origin: &[u8], mode: &[u8]) -> Result<Command, IdFault>
     let origin = OriginName::read(origin)?;
     let mode = read_mode(mode)?;
     Ok(Command::NewOrigin(origin, mode))
+}
+
+#[tactic(auto, unfolding(crate::specs::Line::draw_of))]
+fn read_draw(account: &[u8], class: &[u8], units: &[u8]) -> Result<Command, IdFault>
+    ensures { result ≡ draw_of account.now class.now units.now }
+{
+    let account = AccountName::read(account)?;
+    let class = ClassName::read(class)?;
+    let units = Units::read(units)?;
+    Ok(Command::Draw(account, class, units))
 }
 
 #[tactic(auto, unfolding(crate::specs::Line::post_of))]
@@ -121,6 +131,8 @@ fn read_three(verb: &[u8], a: &[u8], b: &[u8], c: &[u8]) -> Result<Command, IdFa
 {
     if verb == b"POST".as_slice() {
         read_post(a, b, c)
+    } else if verb == b"DRAW".as_slice() {
+        read_draw(a, b, c)
     } else {
         Err(IdFault::Syntax)
     }
