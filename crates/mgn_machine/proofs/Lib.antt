@@ -4,5 +4,6 @@ pub mod Bounded
 pub mod AccountMoves
 pub mod HoldMoves
 pub mod FillMoves
+pub mod AtLimit
 pub mod Histories
 pub mod Short

@@ -1,5 +1,5 @@
 -- Holds: what is held for orders, filled and released, and what that changes (own profile).
-use Rattle.std.specs.Prelude.{ℕ, Bool, not, ◌==◌, int_lt, if◌then◌else◌, ℤ, pos, neg_ℤ, ◌+ℤ◌, ◌*ℤ◌, unsigned_abs, List, [], ◌∷◌, ◌++◌, remove, Result, Ok, Err}
+use Rattle.std.specs.Prelude.{ℕ, ◌≡◌, ◌<◌, Bool, true, false, not, ◌==◌, int_lt, if◌then◌else◌, ℤ, pos, neg_ℤ, ◌+ℤ◌, ◌*ℤ◌, unsigned_abs, List, [], ◌∷◌, ◌++◌, length, remove, slice_set, Result, Ok, Err}
 use Rattle.mgn_params.specs.Tables.{Tables}
 use Rattle.mgn_lots.specs.declared.lot.Lot.{Lot}
 use Rattle.mgn_lots.specs.Refusals.{has_number, is_full}
@@ -12,7 +12,8 @@ use Rattle.mgn_machine.specs.declared.reply.Refusal.{Refusal}
 use Rattle.mgn_machine.specs.declared.reply.Refusal.TheVariants.{Duplicate, NoOrder, NoRoom, Limit, Premium, Over, Closed}
 use Rattle.mgn_machine.specs.declared.row.Row.{Row}
 use Rattle.mgn_machine.specs.State.{State, AccountState, account_at, put, traded_lot}
-use Rattle.mgn_machine.specs.Rows.{gain, room_of, least_side, row_of}
+use Rattle.mgn_machine.specs.Portfolios.{Portfolio, OnlyLots, WithBuys, WithSales, WithAll}
+use Rattle.mgn_machine.specs.Rows.{gain, room_of, least_side, row_of, side_of}
 use Rattle.mgn_machine.specs.Refusals.{◌>>=◌, refuse_if, found, place_of, contract_of, premium_fits, is_over}
 
 -- Changes of one account.
@@ -139,3 +140,20 @@ abbrev pub released : State → List ℕ → ℕ → Result State Refusal
 released s account order = do
   at ← release_places s account order
   Ok (put s at.0 (without_hold (account_at s.accounts at.0) at.1))
+
+-- A fill at the limit
+
+-- the portfolios that count a hold, by whether it buys
+abbrev pub counts : Portfolio → Bool → Bool
+counts OnlyLots buys = false
+counts WithBuys buys = buys
+counts WithSales buys = not buys
+counts WithAll buys = true
+
+-- a fill at the limit of its hold leaves each portfolio that counts the hold as it was: its nets, its worth and what it
+-- requires, and so its room
+abbrev pub FillAtLimitKeeps : Type 0
+FillAtLimitKeeps =
+    (set : Tables) (accounts : List AccountState) (k j lot : ℕ) (quantity : ℤ) (p : Portfolio) (u : ℕ) → k < length accounts → j < length (account_at accounts k).holds
+    → covers (hold_at (account_at accounts k).holds j) quantity ≡ true → counts p (is_buy quantity) ≡ true
+    → side_of set (slice_set accounts k (fill_of (account_at accounts k) j lot quantity (hold_at (account_at accounts k).holds j).limit)) u p ≡ side_of set accounts u p

@@ -4,7 +4,7 @@ ghost use Rattle.mgn_lots.specs.Refusals.{has_number, is_full};
 ghost use Rattle.mgn_holds.specs.Holds.{IsHeld, is_buy, hold_at, has_order, place_of_order};
 ghost use Rattle.mgn_holds.specs.Refusals.{is_full as holds_full, covers};
 ghost use Rattle.mgn_params.specs.Tables.{Tables};
-ghost use Rattle.mgn_machine.specs.Holding.{with_hold, without_hold, with_fill, held_change, hold_change, release_change, fill_change, is_short, lesser_room};
+ghost use Rattle.mgn_machine.specs.Holding.{with_hold, without_hold, with_fill, held_change, hold_change, release_change, fill_change, is_short, lesser_room, FillAtLimitKeeps};
 ghost use Rattle.mgn_machine.specs.Rows.{gain, row_with, IsRow, IsSide, IsChange, IsGain, IsRoomy, Prices, PricesSide, room_of, side_with, lesser};
 
 use crate::account::Account;
@@ -245,3 +245,9 @@ fn lesser_room(first: Cents, second: Cents) -> Cents
 {
     if second < first { second } else { first }
 }
+
+/// A law, and no work: a fill at the limit of its hold leaves the portfolio with the holds of its side, and the one with
+/// all holds, as they were, what they require, their worth and their room.
+pub fn filling_at_limit_keeps_room()
+    ensures { FillAtLimitKeeps }
+{}
