@@ -1,6 +1,6 @@
 -- What the commands on holds owe: room for their sizes, and rows that are kept.
 use Rattle.std.proofs.Common.{◌≡◌, ℕ, ◌<◌, ◌≤◌, ◌^◌, List, length, set, get_or, refl, sym, ap, ◌∙◌, subst, arith, Bool, true, false, length-set}
-use Rattle.std.specs.Prelude.{ℤ, pos, neg_ℤ, ◌+ℤ◌, ◌≤ℤ◌, unsigned_abs, Result, Ok, Err, int_lt, is_some, Option, None, Some}
+use Rattle.std.specs.Prelude.{ℤ, pos, neg_ℤ, ◌+ℤ◌, ◌≤ℤ◌, unsigned_abs, Result, Ok, Err, int_lt, is_some, Some}
 use Rattle.std.proofs.lemmas.Int.{ints}
 use Rattle.std.proofs.lemmas.Bool.Decides.{nat_tests}
 use Rattle.std.proofs.lemmas.List.{get_or_default, set-get_or}
@@ -22,7 +22,7 @@ use Rattle.mgn_machine.specs.declared.row.Row.{Row}
 use Rattle.mgn_machine.specs.declared.row.Priced.{Priced}
 use Rattle.mgn_machine.specs.State.{State, AccountState, IsAccount, no_account, account_at, put, traded_lot}
 use Rattle.mgn_machine.specs.Portfolios.{account_size}
-use Rattle.mgn_machine.specs.Refusals.{◌>>=◌, refuse_if, found, contract_of, has_contract, is_over, unit_size, IsKnown}
+use Rattle.mgn_machine.specs.Refusals.{◌>>=◌, refuse_if, contract_of, has_contract, is_over, unit_size, IsKnown}
 use Rattle.mgn_machine.specs.Rows.{IsRoomy, Prices, Moves, row_of, row_with}
 use Rattle.mgn_machine.specs.Holding.{entered, if_room, is_short, hold_places, new_hold, with_hold, without_hold, fill_of, hold_change, release_change, fill_change}
 use Rattle.mgn_machine.proofs.Bounded.{unit-within}
@@ -252,14 +252,6 @@ same-floor origins accounts rows closed k u a now r row was is same same_row =
 pub held-known : (set' : Tables) (f : Floor) (k j : ℕ) → IsKept set' f → k < length f.state.accounts → j < length (account_at f.state.accounts k).holds → has_contract set' (hold_at (account_at f.state.accounts k).holds j).contract ≡ true
 held-known set' f k j kept inside held =
     All-get_or (λ (y : Held). has_contract set' y.contract ≡ true) (account_at f.state.accounts k).holds j no_hold held (All-get_or (IsKnown set') f.state.accounts k no_account inside kept.known).holds
-
-found-never : (o : Option ℕ) (why other : Refusal) → is_some o ≡ true → found o why ≡ Err other → ⊥
-found-never None why other some is = cc
-found-never (Some i) why other some is = cc
-
-pub known-found : (set' : Tables) (name : List ℕ) (why : Refusal) → has_contract set' name ≡ true → contract_of set' name ≡ Err why → ⊥
-unfolding contract_of
-known-found set' name why known is = found-never _ _ why known is
 
 -- What a hold is answered.
 

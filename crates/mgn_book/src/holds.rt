@@ -14,7 +14,7 @@ ghost use Rattle.mgn_book.specs.Holding.{AsksRoom};
 
 use crate::changes::traded_lot;
 use crate::fault::Fault;
-use crate::register::{Register, contract_of, is_over, premium_fits, refuse_if};
+use crate::register::{Register, contract_of, is_over, known_contract, premium_fits, refuse_if};
 use mgn_holds::Held;
 use mgn_holds::fills::{covers, meets_limit};
 use mgn_ids::{AccountName, ContractName, LotId, LotQuantity, OrderId, Premium};
@@ -115,11 +115,7 @@ impl Register {
         ensures stands { contract_of set.now (hold_at (account_at self.now.state.accounts place).holds hold).contract ≡ Ok result }
         ensures within { result < length set.now.contracts }
     {
-        let contract = self.accounts[place].hold_at(hold).contract;
-        match contract_of(set, contract) {
-            Ok(i) => i,
-            Err(_) => unreachable!(),
-        }
+        known_contract(set, self.accounts[place].hold_at(hold).contract)
     }
 
     /// Room is held for an order.

@@ -65,7 +65,7 @@ pub(crate) fn contract_of(set: &ParamSet, contract: ContractName) -> Result<usiz
 }
 
 // Where a contract stands that the set has.
-fn known_contract(set: &ParamSet, contract: ContractName) -> usize
+pub(crate) fn known_contract(set: &ParamSet, contract: ContractName) -> usize
     requires { has_contract set.now contract ≡ true }
     ensures stands { contract_of set.now contract ≡ Ok result }
     ensures within { result < length set.now.contracts }
