@@ -1,6 +1,6 @@
 -- What the commands on holds owe: room for their sizes, and rows that are kept.
 use Rattle.std.proofs.Common.{◌≡◌, ℕ, ◌<◌, ◌≤◌, ◌^◌, List, length, set, get_or, refl, sym, ap, ◌∙◌, subst, arith, Bool, true, false, length-set}
-use Rattle.std.specs.Prelude.{ℤ, pos, neg_ℤ, ◌+ℤ◌, ◌≤ℤ◌, unsigned_abs, Result, Ok, Err, int_lt, is_some, Some}
+use Rattle.std.specs.Prelude.{if◌then◌else◌, ℤ, pos, neg_ℤ, ◌+ℤ◌, ◌≤ℤ◌, unsigned_abs, Result, Ok, Err, int_lt, is_some, Some}
 use Rattle.std.proofs.lemmas.Int.{ints}
 use Rattle.std.proofs.lemmas.Bool.Decides.{nat_tests}
 use Rattle.std.proofs.lemmas.List.{get_or_default, set-get_or}
@@ -22,9 +22,9 @@ use Rattle.mgn_machine.specs.declared.row.Row.{Row}
 use Rattle.mgn_machine.specs.declared.row.Priced.{Priced}
 use Rattle.mgn_machine.specs.State.{State, AccountState, IsAccount, no_account, account_at, put, traded_lot}
 use Rattle.mgn_machine.specs.Portfolios.{account_size}
-use Rattle.mgn_machine.specs.Refusals.{◌>>=◌, refuse_if, contract_of, has_contract, is_over, unit_size, IsKnown}
+use Rattle.mgn_machine.specs.Refusals.{◌>>=◌, if_room, contract_of, has_contract, is_over, unit_size, IsKnown}
 use Rattle.mgn_machine.specs.Rows.{IsRoomy, Prices, Moves, row_of, row_with}
-use Rattle.mgn_machine.specs.Holding.{entered, if_room, is_short, hold_places, new_hold, with_hold, without_hold, fill_of, hold_change, release_change, fill_change}
+use Rattle.mgn_machine.specs.Holding.{entered, is_short, hold_places, new_hold, with_hold, without_hold, fill_of, hold_change, release_change, fill_change}
 use Rattle.mgn_machine.proofs.Bounded.{unit-within}
 use Rattle.mgn_machine.proofs.HoldMoves.{hold-moves, release-moves, hold-limits, release-limits, All-removed}
 use Rattle.mgn_machine.proofs.FillMoves.{fill-moves, fill-limits, All-filled}
@@ -151,17 +151,8 @@ hold-kept set' origins accounts rows closed k i a now r row order contract quant
 
 -- what is answered, once the places and the room are known
 
-asked-room : (set' : Tables) (u : ℕ) (s : State) (b : Bool) → is_short (row_of set' s.accounts u) ≡ b → if_room set' u s ≡ (refuse_if b NoRoom >>= (λ _. Ok s))
-unfolding if_room
-asked-room set' u s b is = ap (λ (t : Bool). refuse_if t NoRoom >>= (λ _. Ok s)) is
-
-passed : (s : State) → (refuse_if false NoRoom >>= (λ _. Ok s)) ≡ Ok s
-unfolding refuse_if
-passed s = refl
-
-short : (s : State) → (refuse_if true NoRoom >>= (λ _. Ok s)) ≡ Err NoRoom
-unfolding refuse_if
-short s = refl
+asked-room : (set' : Tables) (u : ℕ) (s : State) (b : Bool) → is_short (row_of set' s.accounts u) ≡ b → if_room set' u s ≡ (if b then Err NoRoom else Ok s)
+asked-room set' u s b is = ap (λ (t : Bool). if t then Err NoRoom else Ok s) is
 
 -- the state that a hold leads to
 abbrev pub state-held : State → ℕ × ℕ → ℕ → List ℕ → ℤ → ℕ → State
@@ -173,11 +164,11 @@ entered-by set' s at account order contract quantity limit places =
 
 pub entered-done : (set' : Tables) (s : State) (at : ℕ × ℕ) (account : List ℕ) (order : ℕ) (contract : List ℕ) (quantity : ℤ) (limit : ℕ) → hold_places set' s account order contract quantity limit ≡ Ok at → is_short (row_of set' (state-held s at order contract quantity limit).accounts (account_at s.accounts at.0).unit) ≡ false → entered set' s account order contract quantity limit ≡ Ok (state-held s at order contract quantity limit)
 entered-done set' s at account order contract quantity limit places room =
-    entered-by set' s at account order contract quantity limit places ∙ asked-room set' (account_at s.accounts at.0).unit (state-held s at order contract quantity limit) false room ∙ passed (state-held s at order contract quantity limit)
+    entered-by set' s at account order contract quantity limit places ∙ asked-room set' (account_at s.accounts at.0).unit (state-held s at order contract quantity limit) false room
 
 pub entered-short : (set' : Tables) (s : State) (at : ℕ × ℕ) (account : List ℕ) (order : ℕ) (contract : List ℕ) (quantity : ℤ) (limit : ℕ) → hold_places set' s account order contract quantity limit ≡ Ok at → is_short (row_of set' (state-held s at order contract quantity limit).accounts (account_at s.accounts at.0).unit) ≡ true → entered set' s account order contract quantity limit ≡ Err NoRoom
 entered-short set' s at account order contract quantity limit places room =
-    entered-by set' s at account order contract quantity limit places ∙ asked-room set' (account_at s.accounts at.0).unit (state-held s at order contract quantity limit) true room ∙ short (state-held s at order contract quantity limit)
+    entered-by set' s at account order contract quantity limit places ∙ asked-room set' (account_at s.accounts at.0).unit (state-held s at order contract quantity limit) true room
 
 -- RELEASE
 

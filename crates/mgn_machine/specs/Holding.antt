@@ -9,12 +9,12 @@ use Rattle.mgn_holds.specs.Refusals.{is_full as holds_full, meets_limit, covers}
 use Rattle.mgn_machine.specs.declared.change.Change.{Change}
 use Rattle.mgn_machine.specs.declared.change.Gain.{Gain}
 use Rattle.mgn_machine.specs.declared.reply.Refusal.{Refusal}
-use Rattle.mgn_machine.specs.declared.reply.Refusal.TheVariants.{Duplicate, NoOrder, NoRoom, Limit, Premium, Over, Closed}
+use Rattle.mgn_machine.specs.declared.reply.Refusal.TheVariants.{Duplicate, NoOrder, Limit, Premium, Over, Closed}
 use Rattle.mgn_machine.specs.declared.row.Row.{Row}
 use Rattle.mgn_machine.specs.State.{State, AccountState, account_at, put, traded_lot}
 use Rattle.mgn_machine.specs.Portfolios.{Portfolio, OnlyLots, WithBuys, WithSales, WithAll}
-use Rattle.mgn_machine.specs.Rows.{gain, room_of, least_side, row_of, side_of}
-use Rattle.mgn_machine.specs.Refusals.{◌>>=◌, refuse_if, found, place_of, contract_of, premium_fits, is_over}
+use Rattle.mgn_machine.specs.Rows.{gain, room_of, least_side, side_of}
+use Rattle.mgn_machine.specs.Refusals.{◌>>=◌, refuse_if, found, place_of, contract_of, premium_fits, is_over, if_room}
 
 -- Changes of one account.
 
@@ -70,12 +70,6 @@ lesser_room first second = if int_lt second first then second else first
 -- the least room of the portfolios of a unit is below 0
 abbrev pub is_short : Row → Bool
 is_short row = int_lt (room_of (least_side row)) (pos 0)
-
--- a state is reached only where it leaves a unit its room
-unfoldable pub if_room : Tables → ℕ → State → Result State Refusal
-if_room set u s = do
-  _ ← refuse_if (is_short (row_of set s.accounts u)) NoRoom
-  Ok s
 
 -- HOLD
 
