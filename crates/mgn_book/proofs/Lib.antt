@@ -1,5 +1,6 @@
 pub mod Busts
 pub mod Histories
+pub mod Holding
 pub mod Kept
 pub mod Opened
 pub mod Postings

@@ -14,11 +14,10 @@ use Rattle.mgn_lots.specs.Refusals.{is_full}
 use Rattle.mgn_machine.specs.declared.origin.Origin.{Origin}
 use Rattle.mgn_machine.specs.declared.row.Row.{Row}
 use Rattle.mgn_machine.specs.declared.row.Priced.{Priced}
-use Rattle.mgn_machine.specs.State.{AccountState, IsAccount, no_account, with_lot}
+use Rattle.mgn_machine.specs.State.{AccountState, IsAccount, no_account, traded_lot, with_lot}
 use Rattle.mgn_machine.specs.Portfolios.{account_size}
 use Rattle.mgn_machine.specs.Refusals.{contract_of, has_contract, is_over, unit_size, IsKnown}
 use Rattle.mgn_machine.specs.Rows.{IsRoomy, Prices, lot_change, row_with}
-use Rattle.mgn_machine.specs.Step.{traded_lot}
 use Rattle.mgn_machine.proofs.AccountMoves.{traded-moves, lot-limits}
 use Rattle.mgn_machine.proofs.Moved.{Stands}
 use Rattle.mgn_machine.proofs.Sums.{row_by-at}

@@ -1,3 +1,4 @@
 -- The state with its rows, and days of them.
 pub mod Floors
 pub mod Days
+pub mod Holding

@@ -1,10 +1,10 @@
 ghost use Rattle.std.specs.Prelude.{◌≡◌, ◌<◌, ◌≤◌, ◌-ℤ◌, pos, Ok, OnOk, OnErr, false, true, length};
 ghost use Rattle.mgn_lots.specs.Refusals.{has_number, is_full};
-ghost use Rattle.mgn_machine.specs.State.{account_at, put, with_lot, with_bust, with_amount};
+ghost use Rattle.mgn_machine.specs.State.{account_at, put, with_lot, with_bust, with_amount, traded_lot};
 ghost use Rattle.mgn_coll.specs.Posted.{IsPosted, most_of, value};
 ghost use Rattle.mgn_machine.specs.Rows.{IsRow, IsChange, IsRoomy, Prices, row_with, row_with_worth};
 ghost use Rattle.mgn_machine.specs.declared.row.Priced.{Priced};
-ghost use Rattle.mgn_machine.specs.Step.{traded, traded_lot, undone, posted, drawn};
+ghost use Rattle.mgn_machine.specs.Step.{traded, undone, posted, drawn};
 ghost use Rattle.mgn_lots.specs.Lots.{IsLot, is_live, lot_at};
 ghost use Rattle.mgn_book.specs.Floors.{IsKept, Steps};
 
@@ -17,7 +17,12 @@ use mgn_params::{ParamSet, Work};
 use std::alloc::{AllocError, Global};
 
 // A lot as it is traded.
-fn traded_lot(number: LotId, contract: ContractName, quantity: LotQuantity, premium: Premium) -> Lot
+pub(crate) fn traded_lot(
+    number: LotId,
+    contract: ContractName,
+    quantity: LotQuantity,
+    premium: Premium,
+) -> Lot
     ensures lot { result ≡ traded_lot number contract quantity premium }
     ensures limits { IsLot result }
 {

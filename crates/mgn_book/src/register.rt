@@ -54,7 +54,7 @@ pub(crate) fn refuse_if(test: bool, why: Refusal) -> Result<(), Refusal>
 
 // Where a contract stands in the set.
 #[tactic(auto, unfolding(mgn_machine::specs::Refusals::contract_of))]
-fn contract_of(set: &ParamSet, contract: ContractName) -> Result<usize, Refusal>
+pub(crate) fn contract_of(set: &ParamSet, contract: ContractName) -> Result<usize, Refusal>
     ensures place { result ≡ contract_of set.now contract }
     ensures within { IfOk result (λ i. i < length set.now.contracts) }
 {
@@ -65,7 +65,7 @@ fn contract_of(set: &ParamSet, contract: ContractName) -> Result<usize, Refusal>
 }
 
 // Where a contract stands that the set has.
-fn known_contract(set: &ParamSet, contract: ContractName) -> usize
+pub(crate) fn known_contract(set: &ParamSet, contract: ContractName) -> usize
     requires { has_contract set.now contract ≡ true }
     ensures stands { contract_of set.now contract ≡ Ok result }
     ensures within { result < length set.now.contracts }
@@ -77,7 +77,7 @@ fn known_contract(set: &ParamSet, contract: ContractName) -> usize
 }
 
 // A premium other than 0 is for options of the premium style alone.
-fn premium_fits(set: &ParamSet, contract: usize, premium: Premium) -> bool
+pub(crate) fn premium_fits(set: &ParamSet, contract: usize, premium: Premium) -> bool
     requires { contract < length set.now.contracts }
     ensures { result ≡ premium_fits set.now contract premium }
 {
@@ -132,7 +132,7 @@ impl Register {
     }
 
     // How much the live lots and holds of an account's unit come to in a contract.
-    fn unit_size(
+    pub(crate) fn unit_size(
         &self,
         set: &ParamSet,
         place: usize,
@@ -327,7 +327,7 @@ fn post_refusal(amount: Result<u64, PostFault>) -> Result<u64, Refusal>
 }
 
 // Whether a quantity more would be more than a unit may have of a contract.
-fn is_over(size: Quantity, quantity: LotQuantity) -> bool
+pub(crate) fn is_over(size: Quantity, quantity: LotQuantity) -> bool
     requires { IsNet size }
     ensures { result ≡ int_lt (pos (10 ^ 7)) (size +ℤ pos (unsigned_abs quantity)) }
 {

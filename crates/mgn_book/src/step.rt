@@ -66,6 +66,13 @@ pub fn step(
             answer_of(register.trade(alloc, set, account, lot, contract, quantity, premium))
         }
         Command::Bust(account, lot) => answer_of(register.bust(alloc, set, account, lot)),
+        Command::Hold(account, order, contract, quantity, limit) => {
+            answer_of(register.hold(alloc, set, account, order, contract, quantity, limit))
+        }
+        Command::Fill(account, order, lot, quantity, premium) => {
+            answer_of(register.fill(alloc, set, account, order, lot, quantity, premium))
+        }
+        Command::Release(account, order) => answer_of(register.release(alloc, set, account, order)),
         Command::Post(account, class, units) => answer_of(register.post(
             set, account, &class, units,
         )),

@@ -13,10 +13,9 @@ use Rattle.mgn_num.proofs.SignedLemmas.{signed_sum_by-set}
 use Rattle.std.proofs.Math.IntN.{zero-*ℤ}
 use Rattle.std.proofs.lemmas.List.{get_or_default, length-set}
 use Rattle.mgn_machine.specs.declared.change.Change.{Change}
-use Rattle.mgn_machine.specs.State.{AccountState, IsAccount, with_lot, with_bust, with_amount}
+use Rattle.mgn_machine.specs.State.{AccountState, IsAccount, with_lot, with_bust, with_amount, traded_lot}
 use Rattle.mgn_machine.specs.Portfolios.{Portfolio, OnlyLots, WithBuys, WithSales, WithAll, held_in, held_size, account_worth}
 use Rattle.mgn_machine.specs.Rows.{Moves, MovesWorth, gain_of, lot_change, bust_change}
-use Rattle.mgn_machine.specs.Step.{traded_lot}
 
 -- every portfolio gains the same
 pub record GainsAll (change : Change) (quantity worth : ℤ) : Type 0 where

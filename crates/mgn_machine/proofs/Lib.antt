@@ -2,5 +2,8 @@ pub mod Sums
 pub mod Moved
 pub mod Bounded
 pub mod AccountMoves
+pub mod HoldMoves
+pub mod FillMoves
+pub mod AtLimit
 pub mod Histories
 pub mod Short

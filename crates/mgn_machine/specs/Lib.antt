@@ -3,5 +3,6 @@ pub mod State
 pub mod Portfolios
 pub mod Rows
 pub mod Refusals
+pub mod Holding
 pub mod Step
 pub mod History

@@ -1,8 +1,9 @@
 -- What the machine is (own profile). No net, sum or requirement is in it.
-use Rattle.std.specs.Prelude.{ℕ, ◌≤◌, Bool, false, List, [], ◌∷◌, ◌++◌, length, All, slice_index_or, slice_set}
+use Rattle.std.specs.Prelude.{ℕ, ◌≤◌, Bool, false, List, [], ◌∷◌, ◌++◌, length, All, slice_index_or, slice_set, ℤ}
 use Rattle.mgn_coll.specs.Posted.{Posted, nothing, IsPosted, with_amount as posted_amount}
 use Rattle.mgn_lots.specs.declared.lot.Lot.{Lot}
 use Rattle.mgn_lots.specs.Lots.{IsLot, lot_at, busted}
+use Rattle.mgn_lots.specs.declared.lot.Mark.TheVariants.{Traded}
 use Rattle.mgn_holds.specs.declared.held.Held.{Held}
 use Rattle.mgn_holds.specs.Holds.{IsHeld}
 use Rattle.mgn_machine.specs.declared.origin.Origin.{Origin}
@@ -49,6 +50,10 @@ pub record IsAccount (a : AccountState) : Type 0 where
 -- as it is opened
 abbrev pub fresh : List ℕ → ℕ → AccountState
 fresh name unit = record { name = name; unit = unit; collateral = nothing; lots = []; holds = [] }
+
+-- a lot as it is traded
+abbrev pub traded_lot : ℕ → List ℕ → ℤ → ℕ → Lot
+traded_lot number contract quantity premium = record { number = number; contract = contract; quantity = quantity; premium = premium; mark = Traded }
 
 abbrev pub with_lot : AccountState → Lot → AccountState
 with_lot a lot = record a { lots = a.lots ++ lot ∷ [] }

@@ -1,19 +1,18 @@
 -- One step of the machine: what a command does to the state, and what it is answered (own profile).
 use Rattle.std.specs.Prelude.{ℕ, ◌+◌, true, Option, None, Some, ℤ, List, [], ◌∷◌, ◌++◌, Result, Ok, Err}
 use Rattle.mgn_params.specs.Tables.{Tables}
-use Rattle.mgn_lots.specs.declared.lot.Lot.{Lot}
-use Rattle.mgn_lots.specs.declared.lot.Mark.TheVariants.{Traded}
 use Rattle.mgn_machine.specs.declared.command.Command.{Command}
-use Rattle.mgn_machine.specs.declared.command.Command.TheVariants.{NewOrigin, NewAccount, Trade, Bust, Post, Draw, Ask, EndDay}
+use Rattle.mgn_machine.specs.declared.command.Command.TheVariants.{NewOrigin, NewAccount, Trade, Bust, Post, Draw, Ask, EndDay, Hold, Fill, Release}
 use Rattle.mgn_machine.specs.declared.command.Mode.{Mode}
 use Rattle.mgn_machine.specs.declared.command.Mode.TheVariants.{Gross, Net}
 use Rattle.mgn_machine.specs.declared.reply.Refusal.{Refusal}
 use Rattle.mgn_machine.specs.declared.reply.Refusal.TheVariants.{Closed}
 use Rattle.mgn_machine.specs.declared.reply.Reply.{Reply}
 use Rattle.mgn_machine.specs.declared.reply.Reply.TheVariants.{Done, Figures, Refused}
-use Rattle.mgn_machine.specs.State.{State, account_at, put, fresh, with_lot, with_bust, with_amount}
+use Rattle.mgn_machine.specs.State.{State, account_at, put, fresh, with_lot, with_bust, with_amount, traded_lot}
 use Rattle.mgn_machine.specs.Rows.{row_of, figures_of}
 use Rattle.mgn_machine.specs.Refusals.{◌>>=◌, refuse_if, origin_fits, open_unit, place_of, trade_places, bust_places, post_place, draw_place, if_room}
+use Rattle.mgn_machine.specs.Holding.{entered, filled, released}
 
 -- an origin more; a netted one makes its unit
 abbrev pub with_origin : State → List ℕ → Mode → State
@@ -36,9 +35,6 @@ opened s account origin = do
   Ok (with_account s account u)
 
 -- a lot more, as it is traded
-abbrev pub traded_lot : ℕ → List ℕ → ℤ → ℕ → Lot
-traded_lot number contract quantity premium = record { number = number; contract = contract; quantity = quantity; premium = premium; mark = Traded }
-
 abbrev pub traded : Tables → State → List ℕ → ℕ → List ℕ → ℤ → ℕ → Result State Refusal
 traded set s account number contract quantity premium = do
   at ← trade_places set s account number contract quantity premium
@@ -88,6 +84,9 @@ step set s (NewOrigin name mode) = answered s (originated s name mode)
 step set s (NewAccount account origin) = answered s (opened s account origin)
 step set s (Trade account lot contract quantity premium) = answered s (traded set s account lot contract quantity premium)
 step set s (Bust account lot) = answered s (undone s account lot)
+step set s (Hold account order contract quantity limit) = answered s (entered set s account order contract quantity limit)
+step set s (Fill account order lot quantity premium) = answered s (filled set s account order lot quantity premium)
+step set s (Release account order) = answered s (released s account order)
 step set s (Post account class units) = answered s (posted set s account class units)
 step set s (Draw account class units) = answered s (drawn set s account class units)
 step set s (Ask account) = (s, told (asked set s account))

@@ -20,8 +20,8 @@ pub struct Account {
     name: AccountName,
     unit: usize,
     collateral: Collateral,
-    lots: Lots,
-    holds: Holds,
+    pub(crate) lots: Lots,
+    pub(crate) holds: Holds,
 }
 
 impl Model for Account {

@@ -1,5 +1,5 @@
 use mgn_ids::{
-    AccountName, ClassName, ContractName, LotId, LotQuantity, OriginName, Premium, Units,
+    AccountName, ClassName, ContractName, LotId, LotQuantity, OrderId, OriginName, Premium, Units,
 };
 
 /// How an origin is margined.
@@ -22,6 +22,12 @@ pub enum Command {
     Trade(AccountName, LotId, ContractName, LotQuantity, Premium),
     /// `BUST`: a traded lot of an account is taken back.
     Bust(AccountName, LotId),
+    /// `HOLD`: room held for an order of an account, with the limit for each contract.
+    Hold(AccountName, OrderId, ContractName, LotQuantity, Premium),
+    /// `FILL`: a lot of a held order, with the premium for each contract.
+    Fill(AccountName, OrderId, LotId, LotQuantity, Premium),
+    /// `RELEASE`: an order is held no more.
+    Release(AccountName, OrderId),
     /// `POST`: units of a collateral class, or cents where the class is CASH.
     Post(AccountName, ClassName, Units),
     /// `DRAW`: units of a collateral class, or cents where the class is CASH, are taken off.

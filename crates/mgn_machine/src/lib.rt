@@ -5,6 +5,7 @@ pub mod account;
 pub mod change;
 pub mod command;
 pub mod entry;
+pub mod holding;
 pub mod nets;
 pub mod origin;
 pub mod reply;

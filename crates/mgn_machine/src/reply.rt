@@ -21,6 +21,8 @@ pub enum Refusal {
     NoContract,
     /// The account has no such lot, or it is busted.
     NoTrade,
+    /// The account has no hold of that order.
+    NoOrder,
     /// The class is neither CASH nor one of the current set.
     NoClass,
     /// A portfolio of the unit would have less than it requires.
@@ -29,7 +31,7 @@ pub enum Refusal {
     Limit,
     /// The premium does not fit the contract.
     Premium,
-    /// It is more than is there.
+    /// It is more than is there, or has another sign than what is there.
     Over,
     /// The lot was moved between accounts.
     Moved,

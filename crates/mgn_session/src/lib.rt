@@ -4,6 +4,8 @@
 pub mod counted;
 pub mod exec;
 pub mod fault;
+#[cfg(test)]
+mod hold_tests;
 pub mod plain;
 pub mod run;
 #[cfg(test)]

@@ -8,7 +8,7 @@ use Rattle.mgn_ids.specs.Number.{number_in}
 use Rattle.mgn_ids.specs.declared.fault.IdFault.{IdFault}
 use Rattle.mgn_ids.specs.declared.fault.IdFault.TheVariants.{Syntax, Range}
 use Rattle.mgn_machine.specs.declared.command.Command.{Command}
-use Rattle.mgn_machine.specs.declared.command.Command.TheVariants.{NewOrigin, NewAccount, Trade, Bust, Post, Draw, Ask, EndDay}
+use Rattle.mgn_machine.specs.declared.command.Command.TheVariants.{NewOrigin, NewAccount, Trade, Bust, Post, Draw, Ask, EndDay, Hold, Fill, Release}
 use Rattle.mgn_wire.specs.Word.{words_of, mode_in}
 use Rattle.mgn_wire.specs.declared.fault.LineFault.{LineFault}
 use Rattle.mgn_wire.specs.declared.fault.LineFault.TheVariants as line
@@ -66,6 +66,30 @@ trade_of account lot contract quantity premium = do
   price ← premium_in premium
   Ok (Trade name number traded size price)
 
+unfoldable pub hold_of : List ℕ → List ℕ → List ℕ → List ℕ → List ℕ → Result Command IdFault
+hold_of account order contract quantity limit = do
+  name ← name_in account
+  number ← number_in order
+  held ← name_in contract
+  size ← quantity_in quantity
+  price ← premium_in limit
+  Ok (Hold name number held size price)
+
+unfoldable pub fill_of : List ℕ → List ℕ → List ℕ → List ℕ → List ℕ → Result Command IdFault
+fill_of account order lot quantity premium = do
+  name ← name_in account
+  number ← number_in order
+  entry ← number_in lot
+  size ← quantity_in quantity
+  price ← premium_in premium
+  Ok (Fill name number entry size price)
+
+unfoldable pub release_of : List ℕ → List ℕ → Result Command IdFault
+release_of account order = do
+  name ← name_in account
+  number ← number_in order
+  Ok (Release name number)
+
 -- The first word names the command, which has as many words after it.
 
 unfoldable pub with_none : List ℕ → Result Command IdFault
@@ -79,6 +103,7 @@ with_two verb a b =
     if bytes_eq verb (codes "BUST") then bust_of a b
     else if bytes_eq verb (codes "OPEN") then open_of a b
     else if bytes_eq verb (codes "ORIGIN") then origin_of a b
+    else if bytes_eq verb (codes "RELEASE") then release_of a b
     else Err Syntax
 
 unfoldable pub with_three : List ℕ → List ℕ → List ℕ → List ℕ → Result Command IdFault
@@ -88,7 +113,11 @@ with_three verb a b c =
     else Err Syntax
 
 unfoldable pub with_five : List ℕ → List ℕ → List ℕ → List ℕ → List ℕ → List ℕ → Result Command IdFault
-with_five verb a b c d e = if bytes_eq verb (codes "TRADE") then trade_of a b c d e else Err Syntax
+with_five verb a b c d e =
+    if bytes_eq verb (codes "TRADE") then trade_of a b c d e
+    else if bytes_eq verb (codes "HOLD") then hold_of a b c d e
+    else if bytes_eq verb (codes "FILL") then fill_of a b c d e
+    else Err Syntax
 
 unfoldable pub command_of : List (List ℕ) → Result Command IdFault
 command_of (verb ∷ []) = with_none verb

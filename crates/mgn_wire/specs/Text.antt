@@ -2,7 +2,7 @@
 use Rattle.std.specs.Prelude.{ℕ, ℤ, List, [], ◌++◌, Option, Some, None, codes}
 use Rattle.std.specs.Fmt.{decimal, signed_decimal}
 use Rattle.mgn_machine.specs.declared.reply.Refusal.{Refusal}
-use Rattle.mgn_machine.specs.declared.reply.Refusal.TheVariants.{Syntax, Long, Range, NoAccount, NoOrigin, Duplicate, NoContract, NoTrade, NoClass, NoRoom, Limit, Premium, Over, Moved, Closed, Memory, Full}
+use Rattle.mgn_machine.specs.declared.reply.Refusal.TheVariants.{Syntax, Long, Range, NoAccount, NoOrigin, Duplicate, NoContract, NoTrade, NoClass, NoRoom, Limit, Premium, Over, Moved, Closed, Memory, Full, NoOrder}
 use Rattle.mgn_machine.specs.declared.reply.Figures.{Figures}
 use Rattle.mgn_machine.specs.declared.reply.Reply.{Reply}
 use Rattle.mgn_machine.specs.declared.reply.Reply.TheVariants as reply
@@ -18,6 +18,7 @@ refusal_text NoOrigin = codes "21 NOORIGIN"
 refusal_text Duplicate = codes "22 DUP"
 refusal_text NoContract = codes "23 NOCONTRACT"
 refusal_text NoTrade = codes "24 NOTRADE"
+refusal_text NoOrder = codes "25 NOORDER"
 refusal_text NoClass = codes "26 NOCLASS"
 refusal_text NoRoom = codes "30 NOROOM"
 refusal_text Limit = codes "31 LIMIT"

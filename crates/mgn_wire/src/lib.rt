@@ -2,6 +2,7 @@
 #![tactic(auto)]
 
 pub mod fault;
+mod holding;
 pub mod line;
 pub mod reply;
 mod words;

@@ -3,6 +3,7 @@ ghost use Rattle.std.specs.List.{list_all};
 ghost use Rattle.mgn_wire.specs.Line.{line_of, in_line, command_of, with_none, with_one, with_two, with_three, with_five, ask_of, bust_of, draw_of, open_of, origin_of, post_of, trade_of};
 
 use crate::fault::LineFault;
+use crate::holding::{read_fill, read_hold, read_release};
 use crate::words::{read_mode, split_words};
 use mgn_ids::{
     AccountName, ClassName, ContractName, IdFault, LotId, LotQuantity, OriginName, Premium, Units,
@@ -120,6 +121,8 @@ fn read_two(verb: &[u8], a: &[u8], b: &[u8]) -> Result<Command, IdFault>
         read_open(a, b)
     } else if verb == b"ORIGIN".as_slice() {
         read_origin(a, b)
+    } else if verb == b"RELEASE".as_slice() {
+        read_release(a, b)
     } else {
         Err(IdFault::Syntax)
     }
@@ -151,6 +154,10 @@ fn read_five(
 {
     if verb == b"TRADE".as_slice() {
         read_trade(a, b, c, d, e)
+    } else if verb == b"HOLD".as_slice() {
+        read_hold(a, b, c, d, e)
+    } else if verb == b"FILL".as_slice() {
+        read_fill(a, b, c, d, e)
     } else {
         Err(IdFault::Syntax)
     }
@@ -235,6 +242,12 @@ mod tests {
         assert!(rt; matches!(&post, Ok(Command::Post(_, _, _))));
         let bust = read_line(b"BUST A1 1");
         assert!(rt; matches!(&bust, Ok(Command::Bust(_, _))));
+        let hold = read_line(b"HOLD A1 1 AAA1 -2 50");
+        assert!(rt; matches!(&hold, Ok(Command::Hold(_, _, _, _, _))));
+        let fill = read_line(b"FILL A1 1 1 -2 50");
+        assert!(rt; matches!(&fill, Ok(Command::Fill(_, _, _, _, _))));
+        let release = read_line(b"RELEASE A1 1");
+        assert!(rt; matches!(&release, Ok(Command::Release(_, _))));
         let end = read_line(b"END");
         assert!(rt; matches!(&end, Ok(Command::EndDay)));
         let ask = read_line(b"ASK A1");

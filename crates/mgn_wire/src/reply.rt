@@ -19,6 +19,7 @@ fn refusal_text(refusal: Refusal) -> &'static str
         Refusal::Duplicate => "22 DUP",
         Refusal::NoContract => "23 NOCONTRACT",
         Refusal::NoTrade => "24 NOTRADE",
+        Refusal::NoOrder => "25 NOORDER",
         Refusal::NoClass => "26 NOCLASS",
         Refusal::NoRoom => "30 NOROOM",
         Refusal::Limit => "31 LIMIT",

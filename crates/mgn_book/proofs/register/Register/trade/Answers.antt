@@ -5,8 +5,7 @@ use Rattle.mgn_lots.specs.Refusals.{is_full}
 use Rattle.mgn_machine.specs.declared.change.Change.{Change}
 use Rattle.mgn_machine.specs.declared.row.Priced.{Priced}
 use Rattle.mgn_machine.specs.Rows.{IsRoomy, Prices, lot_change, row_with}
-use Rattle.mgn_machine.specs.State.{AccountState, no_account, account_at, with_lot}
-use Rattle.mgn_machine.specs.Step.{traded_lot}
+use Rattle.mgn_machine.specs.State.{AccountState, no_account, account_at, traded_lot, with_lot}
 use Rattle.mgn_book.specs.Floors.{Floor, IsKept, floor}
 use Rattle.mgn_book.proofs.Kept.{names-kept}
 use Rattle.mgn_book.proofs.Trades.{Trading, trade-roomy, trade-kept}

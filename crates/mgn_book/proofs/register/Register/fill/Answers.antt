@@ -1,0 +1,125 @@
+use Rattle.std.proofs.Common.{◌≡◌, ◌<◌, ap, ◌∙◌, sym, subst, rules, get_or, set, length, true, false}
+use Rattle.std.specs.Prelude.{Ok}
+use Rattle.std.proofs.lemmas.List.{get_or_default}
+use Rattle.mgn_holds.specs.declared.held.Held.{Held}
+use Rattle.mgn_holds.specs.Holds.{hold_at}
+use Rattle.mgn_holds.specs.Refusals.{covers}
+use Rattle.mgn_lots.specs.declared.lot.Lot.{Lot}
+use Rattle.mgn_lots.specs.Lots.{IsLot}
+use Rattle.mgn_lots.specs.Refusals.{is_full}
+use Rattle.mgn_machine.specs.declared.change.Change.{Change}
+use Rattle.mgn_machine.specs.declared.row.Priced.{Priced}
+use Rattle.mgn_machine.specs.Rows.{IsRoomy, Prices, row_with}
+use Rattle.mgn_machine.specs.Refusals.{contract_of}
+use Rattle.mgn_machine.specs.Holding.{with_fill, fill_change}
+use Rattle.mgn_machine.specs.State.{AccountState, no_account, account_at, traded_lot}
+use Rattle.mgn_book.specs.Floors.{Floor, IsKept, floor}
+use Rattle.mgn_book.proofs.Kept.{names-kept}
+use Rattle.mgn_book.proofs.Holding.{Reads, same-floor, fill-roomy, fill-kept}
+use Rattle.mgn_book.proofs.register.Register.fill.Goals as goal
+
+pub fill_hold-requires-clause-roomy : goal.fill_hold-requires-clause-roomy
+fill_hold-requires-clause-roomy c =
+    let r = c.self.inside in
+    let set' = c.args.set.now in
+    let f = floor r.origins.items r.accounts.items r.rows.items r.closed in
+    let at = c.in-Ok.places in
+    let a = c.index_mut-owner.result.now in
+    let account : a ≡ account_at c.args.self.now.state.accounts c.in-Ok.places.0 =
+    c.index_mut-owner.ensures.value ∙ get_or_default c.self.inside.accounts.items c.in-Ok.places.0 a no_account (search rules)
+    ∙ ap (λ (g : Floor). account_at g.state.accounts c.in-Ok.places.0) c.self.view_is
+    in
+    let stands : contract_of c.args.set.now (hold_at a.holds c.in-Ok.places.1).contract ≡ Ok c.held_contract-i.result =
+    ap (λ (x : AccountState). contract_of c.args.set.now (hold_at x.holds c.in-Ok.places.1).contract) account ∙ c.held_contract-i.ensures.stands
+    in
+    let inside : c.in-Ok.places.1 < length a.holds = subst (λ (x : AccountState). c.in-Ok.places.1 < length x.holds) (sym account) (c.in-Ok.ensures.hold) in
+    let row = c.index_mut-row.result.now in
+    let reads : Reads set' f at.0 c.held_contract-i.result a row (hold_at a.holds at.1).contract = record {
+      within = c.limits.ensures;
+      kept = search rules;
+      account = search rules;
+      was = c.index_mut-owner.ensures.value;
+      row = c.index_mut-row.ensures.value ∙ ap (λ (u : _). get_or r.rows.items u row) c.unit.ensures;
+      stands = stands;
+    } in
+    let x = hold_at a.holds at.1 in
+    let change = fill_change c.held_contract-i.result c.args.quantity x.limit c.args.premium in
+    let is : c.of_fill-change.result ≡ change = c.of_fill-change.ensures.change ∙ ap (λ (y : Held). fill_change c.held_contract-i.result c.args.quantity y.limit c.args.premium) c.hold_at-held.ensures.held in
+    let c_is : covers x c.args.quantity ≡ true = ap (λ (y : AccountState). covers (hold_at y.holds at.1) c.args.quantity) account ∙ c.in-Ok.ensures.covers in
+    subst (λ (change : Change). IsRoomy change row) (sym is) (fill-roomy set' f at.0 c.held_contract-i.result at.1 c.args.number a row c.args.quantity c.args.premium reads inside c_is)
+
+pub returns-in-Err-fill_hold-clause-kept : goal.returns-in-Err-fill_hold-clause-kept
+returns-in-Err-fill_hold-clause-kept c =
+    let r = c.self.inside in
+    let set' = c.args.set.now in
+    let f = floor r.origins.items r.accounts.items r.rows.items r.closed in
+    let at = c.in-Ok.places in
+    let a = c.index_mut-owner.result.now in
+    let account : a ≡ account_at c.args.self.now.state.accounts c.in-Ok.places.0 =
+    c.index_mut-owner.ensures.value ∙ get_or_default c.self.inside.accounts.items c.in-Ok.places.0 a no_account (search rules)
+    ∙ ap (λ (g : Floor). account_at g.state.accounts c.in-Ok.places.0) c.self.view_is
+    in
+    let stands : contract_of c.args.set.now (hold_at a.holds c.in-Ok.places.1).contract ≡ Ok c.held_contract-i.result =
+    ap (λ (x : AccountState). contract_of c.args.set.now (hold_at x.holds c.in-Ok.places.1).contract) account ∙ c.held_contract-i.ensures.stands
+    in
+    let inside : c.in-Ok.places.1 < length a.holds = subst (λ (x : AccountState). c.in-Ok.places.1 < length x.holds) (sym account) (c.in-Ok.ensures.hold) in
+    let row = c.index_mut-row.result.now in
+    let reads : Reads set' f at.0 c.held_contract-i.result a row (hold_at a.holds at.1).contract = record {
+      within = c.limits.ensures;
+      kept = search rules;
+      account = search rules;
+      was = c.index_mut-owner.ensures.value;
+      row = c.index_mut-row.ensures.value ∙ ap (λ (u : _). get_or r.rows.items u row) c.unit.ensures;
+      stands = stands;
+    } in
+    let same : c.fill_hold.new.owner ≡ a = search rules in
+    let same_row : c.fill_hold.new.row ≡ row = search rules in
+    subst (IsKept set') (sym (same-floor r.origins.items r.accounts.items r.rows.items r.closed at.0 c.unit.result a c.fill_hold.new.owner row c.fill_hold.new.row c.index_mut-owner.ensures.value c.index_mut-row.ensures.value same same_row))
+    reads.kept
+
+pub invariant_of-self-2 : goal.invariant_of-self-2
+invariant_of-self-2 c =
+    let a = c.index_mut-owner.result.now in
+    let added : c.fill_hold.new.owner ≡ with_fill a c.in-Ok.places.1 c.traded_lot-lot.result.quantity c.traded_lot-lot.result = search rules in
+    names-kept c.self.inside.names c.self.inside.accounts.items c.in-Ok.places.0 c.fill_hold.new.owner a c.self.invariant
+    (ap (λ (x : AccountState). x.name) (added ∙ ap (λ (x : AccountState). with_fill x c.in-Ok.places.1 c.traded_lot-lot.result.quantity c.traded_lot-lot.result) c.index_mut-owner.ensures.value))
+
+pub returns-clause-kept : goal.returns-clause-kept
+returns-clause-kept c =
+    let r = c.self.inside in
+    let set' = c.args.set.now in
+    let f = floor r.origins.items r.accounts.items r.rows.items r.closed in
+    let at = c.in-Ok.places in
+    let a = c.index_mut-owner.result.now in
+    let account : a ≡ account_at c.args.self.now.state.accounts c.in-Ok.places.0 =
+    c.index_mut-owner.ensures.value ∙ get_or_default c.self.inside.accounts.items c.in-Ok.places.0 a no_account (search rules)
+    ∙ ap (λ (g : Floor). account_at g.state.accounts c.in-Ok.places.0) c.self.view_is
+    in
+    let stands : contract_of c.args.set.now (hold_at a.holds c.in-Ok.places.1).contract ≡ Ok c.held_contract-i.result =
+    ap (λ (x : AccountState). contract_of c.args.set.now (hold_at x.holds c.in-Ok.places.1).contract) account ∙ c.held_contract-i.ensures.stands
+    in
+    let inside : c.in-Ok.places.1 < length a.holds = subst (λ (x : AccountState). c.in-Ok.places.1 < length x.holds) (sym account) (c.in-Ok.ensures.hold) in
+    let row = c.index_mut-row.result.now in
+    let reads : Reads set' f at.0 c.held_contract-i.result a row (hold_at a.holds at.1).contract = record {
+      within = c.limits.ensures;
+      kept = search rules;
+      account = search rules;
+      was = c.index_mut-owner.ensures.value;
+      row = c.index_mut-row.ensures.value ∙ ap (λ (u : _). get_or r.rows.items u row) c.unit.ensures;
+      stands = stands;
+    } in
+    let x = hold_at a.holds at.1 in
+    let change = fill_change c.held_contract-i.result c.args.quantity x.limit c.args.premium in
+    let is : c.of_fill-change.result ≡ change = c.of_fill-change.ensures.change ∙ ap (λ (y : Held). fill_change c.held_contract-i.result c.args.quantity y.limit c.args.premium) c.hold_at-held.ensures.held in
+    let c_is : covers x c.args.quantity ≡ true = ap (λ (y : AccountState). covers (hold_at y.holds at.1) c.args.quantity) account ∙ c.in-Ok.ensures.covers in
+    let lot = traded_lot c.args.number x.contract c.args.quantity c.args.premium in
+    let lot_is : c.traded_lot-lot.result ≡ lot = c.traded_lot-lot.ensures.lot ∙ ap (λ (y : Held). traded_lot c.args.number y.contract c.args.quantity c.args.premium) c.hold_at-held.ensures.held in
+    let said : (priced : Priced) × Prices set' c.of_fill-change.result row priced = search rules in
+    let prices : Prices set' change row said.0 = subst (λ (y : Change). Prices set' y row said.0) is said.1 in
+    let changed : c.fill_hold.new.row ≡ row_with set' c.of_fill-change.result row = search rules in
+    let filled : c.fill_hold.new.owner ≡ with_fill a at.1 c.traded_lot-lot.result.quantity c.traded_lot-lot.result = search rules in
+    let limits : IsLot lot = subst IsLot lot_is c.traded_lot-lot.ensures.limits in
+    let few : is_full a.lots ≡ false = ap (λ (y : AccountState). is_full y.lots) account ∙ c.in-Ok.ensures.few in
+    let room : IsRoomy change row = fill-roomy set' f at.0 c.held_contract-i.result at.1 c.args.number a row c.args.quantity c.args.premium reads inside c_is in
+    subst (λ (u : _). IsKept set' (floor r.origins.items (set r.accounts.items at.0 c.fill_hold.new.owner) (set r.rows.items u c.fill_hold.new.row) r.closed)) (sym c.unit.ensures)
+    (fill-kept set' r.origins.items r.accounts.items r.rows.items r.closed at.0 c.held_contract-i.result at.1 c.args.number a c.fill_hold.new.owner row c.fill_hold.new.row c.args.quantity c.args.premium said.0 reads inside c_is room prices limits few (changed ∙ ap (λ (y : Change). row_with set' y row) is) (filled ∙ ap (λ (y : Lot). with_fill a at.1 y.quantity y) lot_is))

@@ -1,0 +1,155 @@
+use Rattle.std.proofs.Common.{◌≡◌, ap, ◌∙◌, sym, subst, rules, get_or, set, false}
+use Rattle.std.specs.Prelude.{Ok, Err}
+use Rattle.mgn_holds.specs.declared.held.Held.{Held}
+use Rattle.mgn_holds.specs.Holds.{IsHeld}
+use Rattle.mgn_holds.specs.Refusals.{is_full as holds_full}
+use Rattle.mgn_machine.specs.declared.change.Change.{Change}
+use Rattle.mgn_machine.specs.declared.row.Priced.{Priced}
+use Rattle.mgn_machine.specs.Rows.{IsRoomy, Prices, row_with}
+use Rattle.mgn_machine.specs.Refusals.{is_over}
+use Rattle.mgn_machine.specs.Holding.{entered, hold_change, hold_places, new_hold, with_hold}
+use Rattle.mgn_machine.specs.State.{AccountState, account_at}
+use Rattle.mgn_book.specs.Floors.{Floor, IsKept, Steps, floor}
+use Rattle.mgn_book.specs.Holding.{AsksRoom}
+use Rattle.mgn_book.proofs.Kept.{names-kept}
+use Rattle.mgn_book.proofs.Holding.{Reads, account-read, hold-roomy, hold-kept, hold-done, hold-refused, same-floor}
+use Rattle.mgn_book.proofs.register.Register.hold.Goals as goal
+
+pub enter_hold-requires-clause-roomy : goal.enter_hold-requires-clause-roomy
+enter_hold-requires-clause-roomy c =
+    let r = c.self.inside in
+    let set' = c.args.set.now in
+    let f = floor r.origins.items r.accounts.items r.rows.items r.closed in
+    let at = c.in-Ok.places in
+    let a = c.index_mut-owner.result.now in
+    let row = c.index_mut-row.result.now in
+    let reads : Reads set' f at.0 c.in-Ok.places.1 a row c.args.contract = record {
+      within = c.limits.ensures;
+      kept = search rules;
+      account = search rules;
+      was = c.index_mut-owner.ensures.value;
+      row = c.index_mut-row.ensures.value ∙ ap (λ (u : _). get_or r.rows.items u row) c.unit.ensures;
+      stands = search rules;
+    } in
+    let over : is_over f.state at.0 c.args.contract c.args.quantity ≡ false = ap (λ (g : Floor). is_over g.state at.0 c.args.contract c.args.quantity) c.self.view_is ∙ c.in-Ok.ensures.room in
+    subst (λ (change : Change). IsRoomy change row) (sym c.of_hold-change.ensures.change)
+    (hold-roomy set' f at.0 at.1 a row c.args.order c.args.contract c.args.quantity c.args.limit reads over)
+
+pub returns-in-Err-enter_hold-clause-kept : goal.returns-in-Err-enter_hold-clause-kept
+returns-in-Err-enter_hold-clause-kept c =
+    let r = c.self.inside in
+    let set' = c.args.set.now in
+    let f = floor r.origins.items r.accounts.items r.rows.items r.closed in
+    let at = c.in-Ok.places in
+    let a = c.index_mut-owner.result.now in
+    let row = c.index_mut-row.result.now in
+    let reads : Reads set' f at.0 c.in-Ok.places.1 a row c.args.contract = record {
+      within = c.limits.ensures;
+      kept = search rules;
+      account = search rules;
+      was = c.index_mut-owner.ensures.value;
+      row = c.index_mut-row.ensures.value ∙ ap (λ (u : _). get_or r.rows.items u row) c.unit.ensures;
+      stands = search rules;
+    } in
+    let same : c.enter_hold.new.owner ≡ a = search rules in
+    let same_row : c.enter_hold.new.row ≡ row = search rules in
+    subst (IsKept set') (sym (same-floor r.origins.items r.accounts.items r.rows.items r.closed at.0 c.unit.result a c.enter_hold.new.owner row c.enter_hold.new.row c.index_mut-owner.ensures.value c.index_mut-row.ensures.value same same_row))
+    reads.kept
+
+pub returns-in-Err-enter_hold-clause-steps : goal.returns-in-Err-enter_hold-clause-steps
+returns-in-Err-enter_hold-clause-steps c =
+    let r = c.self.inside in
+    let set' = c.args.set.now in
+    let f = floor r.origins.items r.accounts.items r.rows.items r.closed in
+    let at = c.in-Ok.places in
+    let a = c.index_mut-owner.result.now in
+    let row = c.index_mut-row.result.now in
+    let reads : Reads set' f at.0 c.in-Ok.places.1 a row c.args.contract = record {
+      within = c.limits.ensures;
+      kept = search rules;
+      account = search rules;
+      was = c.index_mut-owner.ensures.value;
+      row = c.index_mut-row.ensures.value ∙ ap (λ (u : _). get_or r.rows.items u row) c.unit.ensures;
+      stands = search rules;
+    } in
+    let asks : AsksRoom {X = Unit {0}} (row_with set' (hold_change at.1 c.args.quantity c.args.limit) row) (Err c.in-Err-enter_hold.why) =
+    subst (λ (change : Change). AsksRoom {X = Unit {0}} (row_with set' change row) (Err c.in-Err-enter_hold.why)) c.of_hold-change.ensures.change (search rules)
+    in
+    let places : hold_places set' f.state c.args.account c.args.order c.args.contract c.args.quantity c.args.limit ≡ Ok at =
+    subst (λ (g : Floor). hold_places set' g.state c.args.account c.args.order c.args.contract c.args.quantity c.args.limit ≡ Ok at) (sym c.self.view_is) (sym c.in-Ok.ensures.places)
+    in
+    let same : c.enter_hold.new.owner ≡ a = search rules in
+    let same_row : c.enter_hold.new.row ≡ row = search rules in
+    let new : Floor = floor r.origins.items (set r.accounts.items at.0 c.enter_hold.new.owner) (set r.rows.items c.unit.result c.enter_hold.new.row) r.closed in
+    let stays : new ≡ f =
+    same-floor r.origins.items r.accounts.items r.rows.items r.closed at.0 c.unit.result a c.enter_hold.new.owner row c.enter_hold.new.row c.index_mut-owner.ensures.value c.index_mut-row.ensures.value same same_row
+    in
+    subst (λ (g : Floor). Steps {X = Unit {0}} (entered set' g.state c.args.account c.args.order c.args.contract c.args.quantity c.args.limit) (Err c.in-Err-enter_hold.why) g new) c.self.view_is
+    (hold-refused set' f new at a row c.args.account c.args.order c.args.contract c.args.quantity c.args.limit c.in-Err-enter_hold.why reads places asks stays)
+
+pub invariant_of-self-2 : goal.invariant_of-self-2
+invariant_of-self-2 c =
+    let a = c.index_mut-owner.result.now in
+    let added : c.enter_hold.new.owner ≡ with_hold a c.new_hold-held.result = search rules in
+    names-kept c.self.inside.names c.self.inside.accounts.items c.in-Ok.places.0 c.enter_hold.new.owner a c.self.invariant
+    (ap (λ (x : AccountState). x.name) (added ∙ ap (λ (x : AccountState). with_hold x c.new_hold-held.result) c.index_mut-owner.ensures.value))
+
+pub returns-clause-kept : goal.returns-clause-kept
+returns-clause-kept c =
+    let r = c.self.inside in
+    let set' = c.args.set.now in
+    let f = floor r.origins.items r.accounts.items r.rows.items r.closed in
+    let at = c.in-Ok.places in
+    let a = c.index_mut-owner.result.now in
+    let row = c.index_mut-row.result.now in
+    let reads : Reads set' f at.0 c.in-Ok.places.1 a row c.args.contract = record {
+      within = c.limits.ensures;
+      kept = search rules;
+      account = search rules;
+      was = c.index_mut-owner.ensures.value;
+      row = c.index_mut-row.ensures.value ∙ ap (λ (u : _). get_or r.rows.items u row) c.unit.ensures;
+      stands = search rules;
+    } in
+    let over : is_over f.state at.0 c.args.contract c.args.quantity ≡ false = ap (λ (g : Floor). is_over g.state at.0 c.args.contract c.args.quantity) c.self.view_is ∙ c.in-Ok.ensures.room in
+    let change = hold_change at.1 c.args.quantity c.args.limit in
+    let x = new_hold c.args.order c.args.contract c.args.quantity c.args.limit in
+    let said : (priced : Priced) × Prices set' c.of_hold-change.result row priced = search rules in
+    let prices : Prices set' change row said.0 = subst (λ (x : Change). Prices set' x row said.0) c.of_hold-change.ensures.change said.1 in
+    let changed : c.enter_hold.new.row ≡ row_with set' c.of_hold-change.result row = search rules in
+    let added : c.enter_hold.new.owner ≡ with_hold a c.new_hold-held.result = search rules in
+    let held : IsHeld x = subst IsHeld c.new_hold-held.ensures.held c.new_hold-held.ensures.limits in
+    let few : holds_full a.holds ≡ false =
+    ap (λ (x : AccountState). holds_full x.holds) (account-read set' f at.0 at.1 a row c.args.contract reads)
+    ∙ ap (λ (g : Floor). holds_full (account_at g.state.accounts at.0).holds) c.self.view_is ∙ c.in-Ok.ensures.few
+    in
+    let room : IsRoomy change row = hold-roomy set' f at.0 at.1 a row c.args.order c.args.contract c.args.quantity c.args.limit reads over in
+    subst (λ (u : _). IsKept set' (floor r.origins.items (set r.accounts.items at.0 c.enter_hold.new.owner) (set r.rows.items u c.enter_hold.new.row) r.closed)) (sym c.unit.ensures)
+    (hold-kept set' r.origins.items r.accounts.items r.rows.items r.closed at.0 at.1 a c.enter_hold.new.owner row c.enter_hold.new.row c.args.order c.args.contract c.args.quantity c.args.limit said.0 reads room prices held few (changed ∙ ap (λ (x : Change). row_with set' x row) c.of_hold-change.ensures.change) (added ∙ ap (λ (y : Held). with_hold a y) c.new_hold-held.ensures.held))
+
+pub returns-clause-steps : goal.returns-clause-steps
+returns-clause-steps c =
+    let r = c.self.inside in
+    let set' = c.args.set.now in
+    let f = floor r.origins.items r.accounts.items r.rows.items r.closed in
+    let at = c.in-Ok.places in
+    let a = c.index_mut-owner.result.now in
+    let row = c.index_mut-row.result.now in
+    let reads : Reads set' f at.0 c.in-Ok.places.1 a row c.args.contract = record {
+      within = c.limits.ensures;
+      kept = search rules;
+      account = search rules;
+      was = c.index_mut-owner.ensures.value;
+      row = c.index_mut-row.ensures.value ∙ ap (λ (u : _). get_or r.rows.items u row) c.unit.ensures;
+      stands = search rules;
+    } in
+    let asks : AsksRoom {X = Unit {0}} (row_with set' (hold_change at.1 c.args.quantity c.args.limit) row) (Ok tt) =
+    subst (λ (change : Change). AsksRoom {X = Unit {0}} (row_with set' change row) (Ok tt)) c.of_hold-change.ensures.change (search rules)
+    in
+    let places : hold_places set' f.state c.args.account c.args.order c.args.contract c.args.quantity c.args.limit ≡ Ok at =
+    subst (λ (g : Floor). hold_places set' g.state c.args.account c.args.order c.args.contract c.args.quantity c.args.limit ≡ Ok at) (sym c.self.view_is) (sym c.in-Ok.ensures.places)
+    in
+    let added : c.enter_hold.new.owner ≡ with_hold a c.new_hold-held.result = search rules in
+    let new : Floor = floor r.origins.items (set r.accounts.items at.0 c.enter_hold.new.owner) (set r.rows.items c.unit.result c.enter_hold.new.row) r.closed in
+    subst (λ (g : Floor). entered set' g.state c.args.account c.args.order c.args.contract c.args.quantity c.args.limit ≡ Ok new.state) c.self.view_is
+    (hold-done set' r.origins.items r.accounts.items r.rows.items r.closed at c.unit.result a c.enter_hold.new.owner row c.enter_hold.new.row c.args.account c.args.order c.args.contract c.args.quantity c.args.limit reads places asks
+    (added ∙ ap (λ (y : Held). with_hold a y) c.new_hold-held.ensures.held))

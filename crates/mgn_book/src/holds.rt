@@ -1,0 +1,335 @@
+ghost use Rattle.std.specs.Prelude.{◌≡◌, ◌<◌, ◌≤◌, ◌^◌, IfOk, IfErr, OnOk, OnErr, Ok, false, true, length};
+ghost use Rattle.mgn_params.specs.Limits.{IsWithinLimits};
+ghost use Rattle.mgn_lots.specs.Lots.{IsLot};
+ghost use Rattle.mgn_lots.specs.Refusals.{has_number, is_full};
+ghost use Rattle.mgn_holds.specs.Holds.{IsHeld, has_order, hold_at, place_of_order};
+ghost use Rattle.mgn_holds.specs.Refusals.{is_full as holds_full, covers, meets_limit};
+ghost use Rattle.mgn_machine.specs.declared.row.Priced.{Priced};
+ghost use Rattle.mgn_machine.specs.State.{account_at};
+ghost use Rattle.mgn_machine.specs.Refusals.{contract_of, is_over, found};
+ghost use Rattle.mgn_machine.specs.Rows.{IsRow, IsChange, IsRoomy, Prices, row_with};
+ghost use Rattle.mgn_machine.specs.Holding.{entered, filled, released, hold_places, fill_places, release_places, new_hold, with_hold, without_hold, with_fill, premium_fits_at};
+ghost use Rattle.mgn_book.specs.Floors.{IsKept, Steps};
+ghost use Rattle.mgn_book.specs.Holding.{AsksRoom};
+
+use crate::changes::traded_lot;
+use crate::fault::Fault;
+use crate::register::{Register, contract_of, is_over, known_contract, premium_fits, refuse_if};
+use mgn_holds::Held;
+use mgn_holds::fills::{covers, meets_limit};
+use mgn_ids::{AccountName, ContractName, LotId, LotQuantity, OrderId, Premium};
+use mgn_lots::Lot;
+use mgn_machine::{Account, Change, Refusal, Row};
+use mgn_params::{ParamSet, Work};
+use std::alloc::{AllocError, Global};
+
+// An order as it is entered.
+fn new_hold(order: OrderId, contract: ContractName, quantity: LotQuantity, limit: Premium) -> Held
+    ensures held { result ≡ new_hold order contract quantity limit }
+    ensures limits { IsHeld result }
+{
+    Held {
+        order,
+        contract,
+        quantity: quantity.quantity(),
+        limit: limit.cents(),
+    }
+}
+
+// Where the hold of an order stands.
+fn order_place(owner: &Account, order: OrderId) -> Result<usize, Refusal>
+    ensures place { result ≡ found (place_of_order owner.now.holds order) Refusal.NoOrder }
+    ensures within { IfOk result (λ j. j < length owner.now.holds) }
+{
+    match owner.order_place(order) {
+        Some(place) => Ok(place),
+        None => Err(Refusal::NoOrder),
+    }
+}
+
+// A premium other than 0 is for options of the premium style alone, by the place of their contract.
+fn premium_fits_at(set: &ParamSet, place: Result<usize, Refusal>, premium: Premium) -> bool
+    requires { IfOk place (λ i. i < length set.now.contracts) }
+    ensures { result ≡ premium_fits_at set.now place premium }
+{
+    match place {
+        Ok(i) => premium_fits(set, i, premium),
+        Err(_) => premium.cents() == 0,
+    }
+}
+
+impl Register {
+    // Where the account and the contract of a new hold stand, if it is not refused; its room is not asked here.
+    #[tactic(auto, unfolding(mgn_machine::specs::Holding::hold_places))]
+    fn hold_places(
+        &self,
+        set: &ParamSet,
+        account: AccountName,
+        order: OrderId,
+        contract: ContractName,
+        quantity: LotQuantity,
+        limit: Premium,
+    ) -> Result<(usize, usize), Refusal>
+        requires kept { IsKept set.now self.now }
+        ensures places { result ≡ hold_places set.now self.now.state account order contract quantity limit }
+        ensures account { IfOk result (λ at. at.0 < length self.now.state.accounts) }
+        ensures contract { IfOk result (λ at. at.1 < length set.now.contracts) }
+        ensures stands { IfOk result (λ at. contract_of set.now contract ≡ Ok at.1) }
+        ensures few { IfOk result (λ at. holds_full (account_at self.now.state.accounts at.0).holds ≡ false) }
+        ensures room { IfOk result (λ at. is_over self.now.state at.0 contract quantity ≡ false) }
+    {
+        refuse_if(self.closed, Refusal::Closed)?;
+        let place = self.place(account)?;
+        let owner = &self.accounts[place];
+        refuse_if(owner.has_order(order), Refusal::Duplicate)?;
+        let i = contract_of(set, contract)?;
+        refuse_if(!premium_fits(set, i, limit), Refusal::Premium)?;
+        refuse_if(owner.holds_full(), Refusal::Limit)?;
+        let size = self.unit_size(set, place, contract, i);
+        refuse_if(is_over(size, quantity), Refusal::Limit)?;
+        Ok((place, i))
+    }
+
+    // Where the account stands and the hold that is released, if that is not refused.
+    #[tactic(auto, unfolding(mgn_machine::specs::Holding::release_places))]
+    fn release_places(
+        &self,
+        account: AccountName,
+        order: OrderId,
+    ) -> Result<(usize, usize), Refusal>
+        ensures places { result ≡ release_places self.now.state account order }
+        ensures account { IfOk result (λ at. at.0 < length self.now.state.accounts) }
+        ensures hold { IfOk result (λ at. at.1 < length (account_at self.now.state.accounts at.0).holds) }
+    {
+        refuse_if(self.closed, Refusal::Closed)?;
+        let place = self.place(account)?;
+        let hold = order_place(&self.accounts[place], order)?;
+        Ok((place, hold))
+    }
+
+    // Where the contract of a hold stands in the set, which has it.
+    fn held_contract(&self, set: &ParamSet, place: usize, hold: usize) -> usize
+        requires kept { IsKept set.now self.now }
+        requires account { place < length self.now.state.accounts }
+        requires hold { hold < length (account_at self.now.state.accounts place).holds }
+        ensures stands { contract_of set.now (hold_at (account_at self.now.state.accounts place).holds hold).contract ≡ Ok result }
+        ensures within { result < length set.now.contracts }
+    {
+        known_contract(set, self.accounts[place].hold_at(hold).contract)
+    }
+
+    /// Room is held for an order.
+    pub fn hold(
+        &mut self,
+        alloc: Global,
+        set: &ParamSet,
+        account: AccountName,
+        order: OrderId,
+        contract: ContractName,
+        quantity: LotQuantity,
+        limit: Premium,
+    ) -> Result<(), Fault>
+        requires kept { IsKept set.now self.old }
+        ensures kept { IsKept set.now self.new }
+        ensures steps { Steps (entered set.now self.old.state account order contract quantity limit) result self.old self.new }
+    {
+        set.limits();
+        let (place, i) = match self.hold_places(set, account, order, contract, quantity, limit) {
+            Ok(places) => places,
+            Err(why) => return Err(Fault::Refused(why)),
+        };
+        let change = Change::of_hold(i, quantity, limit);
+        let held = new_hold(order, contract, quantity, limit);
+        let owner = &mut self.accounts[place];
+        let row = &mut self.rows[owner.unit()];
+        match enter_hold(alloc, set, owner, row, &change, &held) {
+            Ok(()) => {}
+            Err(why) => return Err(why),
+        }
+        Ok(())
+    }
+
+    // Where the account stands and the hold that is filled, if it is not refused.
+    #[tactic(auto, unfolding(mgn_machine::specs::Holding::fill_places))]
+    fn fill_places(
+        &self,
+        set: &ParamSet,
+        account: AccountName,
+        order: OrderId,
+        lot: LotId,
+        quantity: LotQuantity,
+        premium: Premium,
+    ) -> Result<(usize, usize), Refusal>
+        ensures places { result ≡ fill_places set.now self.now.state account order lot quantity premium }
+        ensures account { IfOk result (λ at. at.0 < length self.now.state.accounts) }
+        ensures hold { IfOk result (λ at. at.1 < length (account_at self.now.state.accounts at.0).holds) }
+        ensures fresh { IfOk result (λ at. has_number (account_at self.now.state.accounts at.0).lots lot ≡ false) }
+        ensures covers { IfOk result (λ at. covers (hold_at (account_at self.now.state.accounts at.0).holds at.1) quantity ≡ true) }
+        ensures few { IfOk result (λ at. is_full (account_at self.now.state.accounts at.0).lots ≡ false) }
+    {
+        refuse_if(self.closed, Refusal::Closed)?;
+        let place = self.place(account)?;
+        let owner = &self.accounts[place];
+        refuse_if(owner.has_lot(lot), Refusal::Duplicate)?;
+        let hold = order_place(owner, order)?;
+        let held = owner.hold_at(hold);
+        refuse_if(!meets_limit(held, premium.cents()), Refusal::Premium)?;
+        let i = contract_of(set, held.contract);
+        refuse_if(!premium_fits_at(set, i, premium), Refusal::Premium)?;
+        refuse_if(!covers(held, quantity.quantity()), Refusal::Over)?;
+        refuse_if(owner.is_full(), Refusal::Limit)?;
+        Ok((place, hold))
+    }
+
+    /// A held order is filled, in part or whole.
+    pub fn fill(
+        &mut self,
+        alloc: Global,
+        set: &ParamSet,
+        account: AccountName,
+        order: OrderId,
+        number: LotId,
+        quantity: LotQuantity,
+        premium: Premium,
+    ) -> Result<(), Fault>
+        requires kept { IsKept set.now self.old }
+        ensures kept { IsKept set.now self.new }
+        ensures steps { Steps (filled set.now self.old.state account order number quantity premium) result self.old self.new }
+    {
+        set.limits();
+        let (place, hold) = match self.fill_places(set, account, order, number, quantity, premium) {
+            Ok(places) => places,
+            Err(why) => return Err(Fault::Refused(why)),
+        };
+        let i = self.held_contract(set, place, hold);
+        let owner = &mut self.accounts[place];
+        let held = *owner.hold_at(hold);
+        let change = Change::of_fill(i, quantity, held.limit, premium);
+        let lot = traded_lot(number, held.contract, quantity, premium);
+        let row = &mut self.rows[owner.unit()];
+        match fill_hold(alloc, set, owner, row, &change, hold, &lot) {
+            Ok(()) => {}
+            Err(_) => return Err(Fault::Memory),
+        }
+        Ok(())
+    }
+
+    /// An order is held no more.
+    pub fn release(
+        &mut self,
+        alloc: Global,
+        set: &ParamSet,
+        account: AccountName,
+        order: OrderId,
+    ) -> Result<(), Fault>
+        requires kept { IsKept set.now self.old }
+        ensures kept { IsKept set.now self.new }
+        ensures steps { Steps (released self.old.state account order) result self.old self.new }
+    {
+        set.limits();
+        let (place, hold) = match self.release_places(account, order) {
+            Ok(places) => places,
+            Err(why) => return Err(Fault::Refused(why)),
+        };
+        let i = self.held_contract(set, place, hold);
+        let owner = &mut self.accounts[place];
+        let change = Change::of_release(i, owner.hold_at(hold));
+        let row = &mut self.rows[owner.unit()];
+        match release_hold(alloc, set, owner, row, &change, hold) {
+            Ok(()) => {}
+            Err(_) => return Err(Fault::Memory),
+        }
+        Ok(())
+    }
+}
+
+// A hold more in an account, and its change in the row of the unit, where that has room for it; at an error nothing has
+// changed in either.
+fn enter_hold(
+    alloc: Global,
+    set: &ParamSet,
+    owner: &mut Account,
+    row: &mut Row,
+    change: &Change,
+    held: &Held,
+) -> Result<(), Fault>
+    requires row { IsRow set.now row.old }
+    requires change { IsChange set.now change.now }
+    requires roomy { IsRoomy change.now row.old }
+    requires held { IsHeld held.now }
+    requires few { holds_full owner.old.holds ≡ false }
+    ensures added { OnOk result (owner.new ≡ with_hold owner.old held.now) }
+    ensures changed { OnOk result (row.new ≡ row_with set.now change.now row.old) }
+    ensures priced { OnOk result ((priced : Priced) × Prices set.now change.now row.old priced) }
+    ensures room { AsksRoom (row_with set.now change.now row.old) result }
+    ensures same_account { OnErr result (owner.new ≡ owner.old) }
+    ensures same_row { OnErr result (row.new ≡ row.old) }
+{
+    let Ok(priced) = row.priced_with(alloc, set, change, &mut Work::new()) else {
+        return Err(Fault::Memory);
+    };
+    if row.is_short_after(set, change, &priced) {
+        return Err(Fault::Refused(Refusal::NoRoom));
+    }
+    if owner.add_hold(held).is_err() {
+        return Err(Fault::Memory);
+    }
+    row.apply(set, change, &priced);
+    Ok(())
+}
+
+// A hold less in an account, and its change in the row of the unit; at an error nothing has changed in either.
+fn release_hold(
+    alloc: Global,
+    set: &ParamSet,
+    owner: &mut Account,
+    row: &mut Row,
+    change: &Change,
+    hold: usize,
+) -> Result<(), AllocError>
+    requires row { IsRow set.now row.old }
+    requires change { IsChange set.now change.now }
+    requires roomy { IsRoomy change.now row.old }
+    requires hold { hold < length owner.old.holds }
+    ensures released { OnOk result (owner.new ≡ without_hold owner.old hold) }
+    ensures changed { OnOk result (row.new ≡ row_with set.now change.now row.old) }
+    ensures priced { OnOk result ((priced : Priced) × Prices set.now change.now row.old priced) }
+    ensures same_account { OnErr result (owner.new ≡ owner.old) }
+    ensures same_row { OnErr result (row.new ≡ row.old) }
+{
+    let priced = row.priced_with(alloc, set, change, &mut Work::new())?;
+    owner.release(hold);
+    row.apply(set, change, &priced);
+    Ok(())
+}
+
+// A lot more in an account and as much off the hold that it fills, and the change of both in the row of the unit; at an
+// error nothing has changed in either.
+fn fill_hold(
+    alloc: Global,
+    set: &ParamSet,
+    owner: &mut Account,
+    row: &mut Row,
+    change: &Change,
+    hold: usize,
+    lot: &Lot,
+) -> Result<(), AllocError>
+    requires row { IsRow set.now row.old }
+    requires change { IsChange set.now change.now }
+    requires roomy { IsRoomy change.now row.old }
+    requires lot { IsLot lot.now }
+    requires fresh { has_number owner.old.lots lot.now.number ≡ false }
+    requires few { is_full owner.old.lots ≡ false }
+    requires hold { hold < length owner.old.holds }
+    requires covers { covers (hold_at owner.old.holds hold) lot.now.quantity ≡ true }
+    ensures filled { OnOk result (owner.new ≡ with_fill owner.old hold lot.now.quantity lot.now) }
+    ensures changed { OnOk result (row.new ≡ row_with set.now change.now row.old) }
+    ensures priced { OnOk result ((priced : Priced) × Prices set.now change.now row.old priced) }
+    ensures same_account { OnErr result (owner.new ≡ owner.old) }
+    ensures same_row { OnErr result (row.new ≡ row.old) }
+{
+    let priced = row.priced_with(alloc, set, change, &mut Work::new())?;
+    owner.fill(hold, lot)?;
+    row.apply(set, change, &priced);
+    Ok(())
+}
