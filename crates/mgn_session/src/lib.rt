@@ -6,6 +6,7 @@ pub mod exec;
 pub mod fault;
 pub mod plain;
 pub mod run;
+pub mod script;
 #[cfg(test)]
 mod tests;
 mod work;
@@ -15,3 +16,4 @@ pub use exec::Exec;
 pub use fault::SessionFault;
 pub use plain::Plain;
 pub use run::run_lines;
+pub use script::run_script;
