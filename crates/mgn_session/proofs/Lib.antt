@@ -2,3 +2,4 @@
 pub mod LineFacts
 pub mod RunFacts
 pub mod PlainFacts
+pub mod ScriptFacts

@@ -8,6 +8,7 @@ pub mod fault;
 mod hold_tests;
 pub mod plain;
 pub mod run;
+pub mod script;
 #[cfg(test)]
 mod tests;
 mod work;
@@ -17,3 +18,4 @@ pub use exec::Exec;
 pub use fault::SessionFault;
 pub use plain::Plain;
 pub use run::run_lines;
+pub use script::run_script;

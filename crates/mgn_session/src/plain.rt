@@ -39,7 +39,7 @@ impl Plain {
         Plain { alloc, set, book }
     }
 
-    /// How many commands the history has.
+    /// How many commands the history has. It is legal: each has the machine's reply after those before it.
     pub fn len(&self) -> usize
         ensures count { result ≡ length self.now.day.history }
         ensures all { calls 1 self.now.day.history ≡ result }
@@ -63,7 +63,16 @@ fn answer_of(outcome: Outcome) -> Answer
 }
 
 impl Exec for Plain {
+    ghost use Rattle.std.specs.Prelude.{refl};
+    ghost use Rattle.std.proofs.Common.{◌∙◌};
+
     ghost entries = { λ plain. items_of 1 plain.day.history };
+
+    ghost keeps = { λ old new. new.set ≡ old.set };
+
+    ghost keeps_none = { λ _. refl };
+
+    ghost keeps_on = { λ _ _ _ first second. second ∙ first };
 
     fn exec(&mut self, command: &Command) -> Answer {
         let number = self.book.len() as u64 + 1;

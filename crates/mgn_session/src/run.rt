@@ -81,6 +81,7 @@ fn turn<R: Read, W: Write, E: Exec>(
         IsAt old (E.entries exec.old) input text work.old.lines work.old.line.items →
         IfErr result (λ fault. fault ≡ SessionFault.Lines → HasTooMuch (R.remaining (device_of reader.old)) (R.remaining (device_of reader.new)) (W.contents (device_of writer.old)) (W.contents (device_of writer.new))
         old (E.entries exec.new) input text) }
+    ensures keeps { E.keeps exec.old exec.new }
     ensures bound { IfOk result (λ n. n ≤ length buf.old) }
     ensures lines { OnOk result (work.new.lines ≤ MAX_LINES) }
     ensures out { OnOk result (work.new.out.items ≡ []) }
@@ -130,6 +131,7 @@ pub fn run_lines<R: Read, W: Write, E: Exec>(
         (E.entries exec.old) (E.entries exec.new) [] []) }
     ensures lines { IfErr result (λ fault. fault ≡ SessionFault.Lines → HasTooMuch (R.remaining (device_of reader.old)) (R.remaining (device_of reader.new)) (W.contents (device_of writer.old)) (W.contents (device_of writer.new))
         (E.entries exec.old) (E.entries exec.new) [] []) }
+    ensures keeps { E.keeps exec.old exec.new }
     ensures read { IfErr result (λ fault. fault ≡ SessionFault.Read → failed_of reader.old < failed_of reader.new) }
     ensures write { IfErr result (λ fault. fault ≡ SessionFault.Write → failed_of writer.old < failed_of writer.new) }
 {

@@ -30,6 +30,12 @@ impl Listed {
 impl Exec for Listed {
     ghost entries = { λ listed. listed.items.items };
 
+    ghost keeps = { λ _ _. Unit {0} };
+
+    ghost keeps_none = { λ _. tt };
+
+    ghost keeps_on = { λ _ _ _ _ _. tt };
+
     fn exec(&mut self, command: &Command) -> Answer {
         let reply = match command {
             Command::Ask(_) => Reply::Refused(Refusal::NoAccount),

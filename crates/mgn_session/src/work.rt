@@ -26,7 +26,8 @@ fn refusal_of(fault: LineFault) -> Refusal
 }
 
 fn answer_line<E: Exec>(exec: &mut E, line: &[u8]) -> Answer
-    ensures { AddsRead (line_of line.now) result (E.entries exec.old) (E.entries exec.new) }
+    ensures adds { AddsRead (line_of line.now) result (E.entries exec.old) (E.entries exec.new) }
+    ensures keeps { E.keeps exec.old exec.new }
 {
     match read_line(line) {
         Ok(command) => exec.exec(&command),
@@ -60,6 +61,7 @@ fn answer_ended<E: Exec>(line: &mut Vec<u8>, exec: &mut E, last: &[u8]) -> Resul
     ensures ok { IfOk result (λ answer. AddsRead (line_of (line.old.items ++ last.now)) answer (E.entries exec.old) (E.entries exec.new)) }
     ensures err { OnErr result (E.entries exec.new ≡ E.entries exec.old) }
     ensures line { OnOk result (line.new.items ≡ []) }
+    ensures keeps { E.keeps exec.old exec.new }
 {
     if line.is_empty() {
         return Ok(answer_line(exec, last));
@@ -102,6 +104,7 @@ impl Work {
         ensures err { OnErr result (self.new.out.items ≡ self.old.out.items) }
         ensures grown { IsGrown (E.entries exec.old) (E.entries exec.new) }
         ensures count { OnOk result (self.new.lines ≡ self.old.lines + 1) }
+        ensures keeps { E.keeps exec.old exec.new }
     {
         self.make_room()?;
         let answer = answer_ended(&mut self.line, exec, last)?;
@@ -148,6 +151,7 @@ impl Work {
             IsAt old (E.entries exec.old) input (written ++ self.old.out.items) self.old.lines self.old.line.items →
             OnErr result (HasTaken old (E.entries exec.new) input (written ++ self.new.out.items) chunk.now) }
         ensures count { OnOk result (self.new.lines ≤ MAX_LINES) }
+        ensures keeps { E.keeps exec.old exec.new }
     {
         let mut at = 0;
         while at < chunk.len() {

@@ -1,7 +1,7 @@
 use crate::fault::Fault;
 use crate::options::Script;
 use crate::set;
-use mgn_session::{Counted, Plain, run_lines};
+use mgn_session::{Counted, Plain, run_script};
 use std::io;
 use std::rt::Files;
 
@@ -11,7 +11,7 @@ pub fn run<R: Files + Input + Print + AllocGlobal>(rt: &R, script: &Script) -> R
     let mut plain = Plain::new(rt.alloc(), set);
     let mut reader = Counted::new(rt.reader());
     let mut writer = Counted::new(io::writer(rt));
-    match run_lines(rt.alloc(), &mut reader, &mut writer, &mut plain) {
+    match run_script(rt.alloc(), &mut reader, &mut writer, &mut plain) {
         Ok(_) => Ok(()),
         Err(fault) => Err(Fault::Session(fault)),
     }

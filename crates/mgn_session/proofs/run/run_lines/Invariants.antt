@@ -10,6 +10,7 @@ invariant-loop-left g l = record {
   bytes : length open_now.input + l.left ≡ 268435456;
   lines : l.work.lines ≤ 1000000;
   out : l.work.out.items ≡ [];
+  kept : g.E.Exec.keeps l.fn.exec l.exec;
   clean : is_dirty l.writer ≡ false;
   reader : failed_of l.reader ≡ failed_of l.fn.reader;
   writer : failed_of l.writer ≡ failed_of l.fn.writer;

@@ -9,6 +9,7 @@ loop-at-init g c =
     record {
       within = omega arith;
       lines = omega arith;
+      kept = g.met.E.Exec.keeps_none _;
       so_far = λ old input written at. rw (append-nil input) at;
     }
 
@@ -25,6 +26,7 @@ loop-at-preserved g c =
     record {
       within = omega (arith, length-drop c.loop-at.at chunk, found.0);
       lines = omega (arith, c.in_ok-end_line-in-Some.ensures.count);
+      kept = g.met.E.Exec.keeps_on _ _ _ c.loop-at.invariant.kept c.end_line.ensures.keeps;
       so_far = λ old input written at.
           let step = c.in_ok-end_line-in-Some.ensures.ok old (input ++ take c.loop-at.at chunk) written (c.loop-at.invariant.so_far old input written at) (rw left found.2) in
           rw (take-add c.loop-at.at (c.in-Some.end + 1) chunk, found.1, ← append_assoc input (take c.loop-at.at chunk) (take c.in-Some.end (drop c.loop-at.at chunk) ++ 10 ∷ [])) (rw left at step);
