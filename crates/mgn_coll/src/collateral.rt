@@ -90,11 +90,7 @@ impl Collateral {
         ensures most { value set.now.classes (with_amount self.now class.now amount) ≤ 2 * 10 ^ 18 }
     {
         set.limits();
-        let mut worth = if is_cash(class) {
-            amount
-        } else {
-            self.cash
-        };
+        let mut worth = if is_cash(class) { amount } else { self.cash };
         for priced in set.classes() {
             worth += class_value(priced, self.units_with(&priced.name, class, amount));
         }

@@ -5,7 +5,8 @@ use mgn_wire::{read_line, reply_text};
 use std::process::Abort;
 
 // Two commodities with an intracommodity spread, an intercommodity spread and one option.
-const ONE: &[u8] = b"H,1,ONE\nG,AAA,25\nG,BBB,0\nM,AAA,1,1\nM,AAA,2,2\nM,BBB,1,1\nK,AAA1,AAA,1,F,F,10000,0,0,0,-100,-100,100,100,-200,-200,200,200,-300,-300,300,300,-210,210\nK,AAA2,AAA,2,F,F,10000,0,0,0,-90,-90,90,90,-180,-180,180,180,-270,-270,270,270,-189,189\nK,AAAC,AAA,1,C,P,5000,60,-10,12,-70,-50,40,50,-140,-120,52,58,-220,-205,57,60,-160,20\nK,BBB1,BBB,1,F,F,10000,0,0,0,-50,-50,50,50,-100,-100,100,100,-150,-150,150,150,-105,105\nS,AAA,1,10000,2,10000,40\nI,5000,AAA,A,10000,BBB,B,20000\nV,BILL,9950,300\n";
+const ONE: &[u8] =
+    b"H,1,ONE\nG,AAA,25\nG,BBB,0\nM,AAA,1,1\nM,AAA,2,2\nM,BBB,1,1\nK,AAA1,AAA,1,F,F,10000,0,0,0,-100,-100,100,100,-200,-200,200,200,-300,-300,300,300,-210,210\nK,AAA2,AAA,2,F,F,10000,0,0,0,-90,-90,90,90,-180,-180,180,180,-270,-270,270,270,-189,189\nK,AAAC,AAA,1,C,P,5000,60,-10,12,-70,-50,40,50,-140,-120,52,58,-220,-205,57,60,-160,20\nK,BBB1,BBB,1,F,F,10000,0,0,0,-50,-50,50,50,-100,-100,100,100,-150,-150,150,150,-105,105\nS,AAA,1,10000,2,10000,40\nI,5000,AAA,A,10000,BBB,B,20000\nV,BILL,9950,300\n";
 
 fn answers(rt: &(impl Abort + AllocGlobal), rows: &[(&str, &str)]) {
     let set = read_set(rt.alloc(), ONE);
