@@ -1,6 +1,6 @@
 -- What the commands on holds owe: room for their sizes, and rows that are kept.
-use Rattle.std.proofs.Common.{◌≡◌, ℕ, ◌<◌, ◌≤◌, ◌^◌, List, length, set, get_or, refl, sym, ap, ◌∙◌, subst, arith, Bool, true, false, length-set}
-use Rattle.std.specs.Prelude.{if◌then◌else◌, ℤ, pos, neg_ℤ, ◌+ℤ◌, ◌≤ℤ◌, unsigned_abs, Result, Ok, Err, int_lt, is_some, Some}
+use Rattle.std.proofs.Common.{◌≡◌, ℕ, ◌<◌, ◌≤◌, ◌^◌, List, length, set, get_or, sym, ap, ◌∙◌, subst, arith, Bool, true, false, length-set}
+use Rattle.std.specs.Prelude.{if◌then◌else◌, ℤ, pos, neg_ℤ, ◌+ℤ◌, ◌≤ℤ◌, unsigned_abs, Result, Ok, Err, int_lt}
 use Rattle.std.proofs.lemmas.Int.{ints}
 use Rattle.std.proofs.lemmas.Bool.Decides.{nat_tests}
 use Rattle.std.proofs.lemmas.List.{get_or_default, set-get_or}

@@ -16,7 +16,7 @@ use Rattle.mgn_params.specs.Positions.{IsNet}
 use Rattle.mgn_params.specs.Tables.{Tables}
 use Rattle.mgn_params.proofs.FlatLemmas.{requirement_flat_replicate}
 use Rattle.mgn_coll.specs.Posted.{class_value}
-use Rattle.mgn_lots.proofs.Shares.{signed_sum_by-push}
+use Rattle.mgn_num.proofs.SignedEdits.{signed_sum_by-push}
 use Rattle.mgn_machine.specs.declared.origin.Origin.{Origin}
 use Rattle.mgn_machine.specs.declared.row.Row.{Row}
 use Rattle.mgn_machine.specs.State.{AccountState, IsAccount, fresh}

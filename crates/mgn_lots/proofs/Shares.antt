@@ -1,27 +1,17 @@
 -- What single lots count for, and what a change of one of them does to the net and the gross of a contract.
 use Rattle.std.proofs.Common.{◌≡◌, ℕ, zero, suc, ◌+◌, ◌*◌, ◌≤◌, ◌<◌, ◌^◌, List, [], ◌∷◌, ◌++◌, length, set, get_or, refl, ap, ◌∙◌, arith, true, false, Bool, All}
-use Rattle.std.specs.Prelude.{ℤ, pos, ◌+ℤ◌, unsigned_abs}
+use Rattle.std.specs.Prelude.{pos, ◌+ℤ◌, unsigned_abs}
 use Rattle.std.specs.Str.{bytes_eq}
 use Rattle.std.specs.List.{sum_by}
 use Rattle.std.proofs.lemmas.Int.{ints}
-use Rattle.std.proofs.lemmas.List.Sums.{fold-append, sum_by-cons, sum_by_push, sum_by-set, sum_by-le}
+use Rattle.std.proofs.lemmas.List.Sums.{sum_by-cons, sum_by_push, sum_by-set, sum_by-le}
 use Rattle.std.proofs.lemmas.Slice.Eq.{bytes_eq-Decides}
-use Rattle.mgn_num.specs.Signed.{signed_sum_by}
-use Rattle.mgn_num.proofs.SignedLemmas.{signed_sum_by-cons, signed_sum_by-set}
+use Rattle.mgn_num.proofs.SignedLemmas.{signed_sum_by-set}
+use Rattle.mgn_num.proofs.SignedEdits.{signed_sum_by-push, size-signed_sum_by}
 use Rattle.mgn_lots.specs.declared.lot.Lot.{Lot}
 use Rattle.mgn_lots.specs.Lots.{IsLot, is_live, live_quantity, lot_share, net, gross, busted}
 
 -- sums
-
--- one item more
-pub signed_sum_by-push : {X : Type 0} (f : X → ℤ) → (xs : List X) (y : X) → signed_sum_by f (xs ++ y ∷ []) ≡ signed_sum_by f xs +ℤ f y
-signed_sum_by-push f xs y = fold-append (λ total x. total +ℤ f x) (pos 0) xs (y ∷ [])
-
--- a sum is no larger than the sum of the sizes
-pub size-signed_sum_by : {X : Type 0} (f : X → ℤ) → (xs : List X) → unsigned_abs (signed_sum_by f xs) ≤ sum_by (λ x. unsigned_abs (f x)) xs
-size-signed_sum_by f [] = omega arith
-size-signed_sum_by f (x ∷ xs) =
-    omega (arith, ints, signed_sum_by-cons f x xs, sum_by-cons (λ x. unsigned_abs (f x)) x xs, size-signed_sum_by f xs)
 
 -- an item is no larger than the sum of all
 pub item-le-sum_by : {X : Type 0} (f : X → ℕ) → (xs : List X) (i : ℕ) (d : X) → i < length xs → f (get_or xs i d) ≤ sum_by f xs

@@ -8,7 +8,8 @@ use Rattle.mgn_params.specs.Tables.{Tables}
 use Rattle.mgn_coll.specs.Posted.{IsPosted, value}
 use Rattle.mgn_lots.specs.declared.lot.Lot.{Lot}
 use Rattle.mgn_lots.specs.Lots.{net, gross, cost, no_lot, lot_at, busted, IsLot, is_live, lot_share, lot_cost}
-use Rattle.mgn_lots.proofs.Shares.{net-push, gross-push, net-busted, gross-busted, signed_sum_by-push}
+use Rattle.mgn_num.proofs.SignedEdits.{signed_sum_by-push}
+use Rattle.mgn_lots.proofs.Shares.{net-push, gross-push, net-busted, gross-busted}
 use Rattle.mgn_num.proofs.SignedLemmas.{signed_sum_by-set}
 use Rattle.std.proofs.Math.IntN.{zero-*ℤ}
 use Rattle.std.proofs.lemmas.List.{get_or_default, length-set}

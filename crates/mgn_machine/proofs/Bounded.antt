@@ -16,7 +16,8 @@ use Rattle.mgn_params.specs.Limits.{IsWithinLimits, IsClass}
 use Rattle.mgn_coll.specs.Posted.{Posted, IsPosted, value, class_value, units_of}
 use Rattle.mgn_lots.specs.declared.lot.Lot.{Lot}
 use Rattle.mgn_lots.specs.Lots.{IsLot, lot_cost, live_quantity, cost}
-use Rattle.mgn_lots.proofs.Shares.{net-le-gross, live_quantity-le, size-signed_sum_by}
+use Rattle.mgn_num.proofs.SignedEdits.{size-signed_sum_by}
+use Rattle.mgn_lots.proofs.Shares.{net-le-gross, live_quantity-le}
 use Rattle.mgn_holds.specs.declared.held.Held.{Held}
 use Rattle.mgn_holds.specs.declared.side.Side.{Side}
 use Rattle.mgn_holds.specs.declared.side.Side.TheVariants.{Buys, Sales}
