@@ -64,15 +64,15 @@ bust-roomy set' f k at i a r busting =
     less : IsNet (get_or r.sizes i (pos 0) +ℤ neg_ℤ (pos (unsigned_abs x.quantity)))
     less = omega (arith, ints, size, small, limits.most, size-positive f.state.accounts a.unit x.contract)
 
-pub bust-kept : (set' : Tables) (origins : List Origin) (accounts : List AccountState) (rows : List Row) (closed : Bool) (k at i : ℕ) (a b : AccountState) (r row : Row) (priced : Priced) → Busting set' (floor origins accounts rows closed) k at i a r → Prices set' (bust_change i (lot_at a.lots at)) r priced → row ≡ row_with set' (bust_change i (lot_at a.lots at)) r → b ≡ with_bust a at → IsKept set' (floor origins (set accounts k b) (set rows a.unit row) closed)
-bust-kept set' origins accounts rows closed k at i a b r row priced busting prices is done =
-    subst (λ (x : Row × AccountState). IsKept set' (floor origins (set accounts k x.1) (set rows a.unit x.0) closed)) (λ j. (sym is j, sym done j))
-    (kept-moved set' origins accounts rows closed k a (with_bust a at) x.contract (bust_change i x) r priced busting.within busting.kept busting.account busting.was busting.row
+pub bust-kept : (set' : Tables) (origins : List Origin) (accounts : List AccountState) (rows : List Row) (closed : Bool) (version : ℕ) (k at i : ℕ) (a b : AccountState) (r row : Row) (priced : Priced) → Busting set' (floor origins accounts rows closed version) k at i a r → Prices set' (bust_change i (lot_at a.lots at)) r priced → row ≡ row_with set' (bust_change i (lot_at a.lots at)) r → b ≡ with_bust a at → IsKept set' (floor origins (set accounts k b) (set rows a.unit row) closed version)
+bust-kept set' origins accounts rows closed version k at i a b r row priced busting prices is done =
+    subst (λ (x : Row × AccountState). IsKept set' (floor origins (set accounts k x.1) (set rows a.unit x.0) closed version)) (λ j. (sym is j, sym done j))
+    (kept-moved set' origins accounts rows closed version k a (with_bust a at) x.contract (bust_change i x) r priced busting.within busting.kept busting.account busting.was busting.row
     (bust-limits a at (account-limits set' f k a busting.kept busting.account busting.was) busting.lot) known
     (contract-stands set' x.contract i busting.within busting.stands) (bust-moves set' a i at busting.lot busting.live) (bust-roomy set' f k at i a r busting) prices)
   where
     f : Floor
-    f = floor origins accounts rows closed
+    f = floor origins accounts rows closed version
 
     x : Lot
     x = lot_at a.lots at

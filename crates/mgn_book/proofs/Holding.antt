@@ -91,18 +91,18 @@ changed-row set' f k a b r contract change reads moves =
     ∙ sym (row-moved set' f.state.accounts k a.unit b contract change (stands set' f k change.contract a r contract reads) record { inside = reads.account; was = ap (λ (x : AccountState). x.unit) (sym there); now = moves.unit }
     (subst (λ (x : AccountState). Moves set' contract change x b) there moves))
 
-changed-kept : (set' : Tables) (origins : List Origin) (accounts : List AccountState) (rows : List Row) (closed : Bool) (k : ℕ) (a b now : AccountState) (r row : Row) (contract : List ℕ) (change : Change) (priced : Priced) → Reads set' (floor origins accounts rows closed) k change.contract a r contract → Moves set' contract change a b → IsRoomy change r → Prices set' change r priced → IsAccount b → IsKnown set' b → row ≡ row_with set' change r → now ≡ b → IsKept set' (floor origins (set accounts k now) (set rows a.unit row) closed)
-changed-kept set' origins accounts rows closed k a b now r row contract change priced reads moves room prices limits known is added =
-    subst (λ (x : Row × AccountState). IsKept set' (floor origins (set accounts k x.1) (set rows a.unit x.0) closed)) (λ j. (sym is j, sym added j))
-    (kept-changed set' origins accounts rows closed k a b (row_with set' change r) record {
+changed-kept : (set' : Tables) (origins : List Origin) (accounts : List AccountState) (rows : List Row) (closed : Bool) (version : ℕ) (k : ℕ) (a b now : AccountState) (r row : Row) (contract : List ℕ) (change : Change) (priced : Priced) → Reads set' (floor origins accounts rows closed version) k change.contract a r contract → Moves set' contract change a b → IsRoomy change r → Prices set' change r priced → IsAccount b → IsKnown set' b → row ≡ row_with set' change r → now ≡ b → IsKept set' (floor origins (set accounts k now) (set rows a.unit row) closed version)
+changed-kept set' origins accounts rows closed version k a b now r row contract change priced reads moves room prices limits known is added =
+    subst (λ (x : Row × AccountState). IsKept set' (floor origins (set accounts k x.1) (set rows a.unit x.0) closed version)) (λ j. (sym is j, sym added j))
+    (kept-changed set' origins accounts rows closed version k a b (row_with set' change r) record {
       kept = reads.kept;
       account = reads.account;
       was = reads.was;
       unit = moves.unit;
       limits = limits;
       known = known;
-      own = own-moved set' (floor origins accounts rows closed) k a b contract change r priced reads.within reads.kept reads.account reads.was reads.row limits
-          (stands set' (floor origins accounts rows closed) k change.contract a r contract reads) moves room prices;
+      own = own-moved set' (floor origins accounts rows closed version) k a b contract change r priced reads.within reads.kept reads.account reads.was reads.row limits
+          (stands set' (floor origins accounts rows closed version) k change.contract a r contract reads) moves room prices;
     })
 
 was-limits : (set' : Tables) (f : Floor) (k i : ℕ) (a : AccountState) (r : Row) (contract : List ℕ) → Reads set' f k i a r contract → IsAccount a
@@ -128,14 +128,14 @@ pub hold-row : (set' : Tables) (f : Floor) (k i : ℕ) (a : AccountState) (r : R
 hold-row set' f k i a r order contract quantity limit reads =
     changed-row set' f k a (with_hold a (new_hold order contract quantity limit)) r contract (hold_change i quantity limit) reads (hold-moves set' a order contract i quantity limit)
 
-pub hold-kept : (set' : Tables) (origins : List Origin) (accounts : List AccountState) (rows : List Row) (closed : Bool) (k i : ℕ) (a now : AccountState) (r row : Row) (order : ℕ) (contract : List ℕ) (quantity : ℤ) (limit : ℕ) (priced : Priced) → Reads set' (floor origins accounts rows closed) k i a r contract → IsRoomy (hold_change i quantity limit) r → Prices set' (hold_change i quantity limit) r priced → IsHeld (new_hold order contract quantity limit) → holds_full a.holds ≡ false → row ≡ row_with set' (hold_change i quantity limit) r → now ≡ with_hold a (new_hold order contract quantity limit) → IsKept set' (floor origins (set accounts k now) (set rows a.unit row) closed)
-hold-kept set' origins accounts rows closed k i a now r row order contract quantity limit priced reads room prices held few is added =
-    changed-kept set' origins accounts rows closed k a (with_hold a x) now r row contract (hold_change i quantity limit) priced reads (hold-moves set' a order contract i quantity limit) room prices
+pub hold-kept : (set' : Tables) (origins : List Origin) (accounts : List AccountState) (rows : List Row) (closed : Bool) (version : ℕ) (k i : ℕ) (a now : AccountState) (r row : Row) (order : ℕ) (contract : List ℕ) (quantity : ℤ) (limit : ℕ) (priced : Priced) → Reads set' (floor origins accounts rows closed version) k i a r contract → IsRoomy (hold_change i quantity limit) r → Prices set' (hold_change i quantity limit) r priced → IsHeld (new_hold order contract quantity limit) → holds_full a.holds ≡ false → row ≡ row_with set' (hold_change i quantity limit) r → now ≡ with_hold a (new_hold order contract quantity limit) → IsKept set' (floor origins (set accounts k now) (set rows a.unit row) closed version)
+hold-kept set' origins accounts rows closed version k i a now r row order contract quantity limit priced reads room prices held few is added =
+    changed-kept set' origins accounts rows closed version k a (with_hold a x) now r row contract (hold_change i quantity limit) priced reads (hold-moves set' a order contract i quantity limit) room prices
     (hold-limits a x (was-limits set' f k i a r contract reads) held (grind (arith, nat_tests, few)))
     known is added
   where
     f : Floor
-    f = floor origins accounts rows closed
+    f = floor origins accounts rows closed version
 
     x : Held
     x = new_hold order contract quantity limit
@@ -187,14 +187,14 @@ release-roomy set' f k i j a r reads inside =
     x : Held
     x = hold_at a.holds j
 
-pub release-kept : (set' : Tables) (origins : List Origin) (accounts : List AccountState) (rows : List Row) (closed : Bool) (k i j : ℕ) (a now : AccountState) (r row : Row) (priced : Priced) → Reads set' (floor origins accounts rows closed) k i a r (hold_at a.holds j).contract → j < length a.holds → IsRoomy (release_change i (hold_at a.holds j).quantity (hold_at a.holds j).limit) r → Prices set' (release_change i (hold_at a.holds j).quantity (hold_at a.holds j).limit) r priced → row ≡ row_with set' (release_change i (hold_at a.holds j).quantity (hold_at a.holds j).limit) r → now ≡ without_hold a j → IsKept set' (floor origins (set accounts k now) (set rows a.unit row) closed)
-release-kept set' origins accounts rows closed k i j a now r row priced reads inside room prices is released =
-    changed-kept set' origins accounts rows closed k a (without_hold a j) now r row x.contract (release_change i x.quantity x.limit) priced reads (release-moves set' a i j x inside (there a j inside)) room prices
+pub release-kept : (set' : Tables) (origins : List Origin) (accounts : List AccountState) (rows : List Row) (closed : Bool) (version : ℕ) (k i j : ℕ) (a now : AccountState) (r row : Row) (priced : Priced) → Reads set' (floor origins accounts rows closed version) k i a r (hold_at a.holds j).contract → j < length a.holds → IsRoomy (release_change i (hold_at a.holds j).quantity (hold_at a.holds j).limit) r → Prices set' (release_change i (hold_at a.holds j).quantity (hold_at a.holds j).limit) r priced → row ≡ row_with set' (release_change i (hold_at a.holds j).quantity (hold_at a.holds j).limit) r → now ≡ without_hold a j → IsKept set' (floor origins (set accounts k now) (set rows a.unit row) closed version)
+release-kept set' origins accounts rows closed version k i j a now r row priced reads inside room prices is released =
+    changed-kept set' origins accounts rows closed version k a (without_hold a j) now r row x.contract (release_change i x.quantity x.limit) priced reads (release-moves set' a i j x inside (there a j inside)) room prices
     (release-limits a j (was-limits set' f k i a r x.contract reads) inside)
     record { lots = before.lots; holds = All-removed (λ (y : Held). has_contract set' y.contract ≡ true) a.holds j before.holds } is released
   where
     f : Floor
-    f = floor origins accounts rows closed
+    f = floor origins accounts rows closed version
 
     x : Held
     x = hold_at a.holds j
@@ -209,14 +209,14 @@ fill-roomy set' f k i j lot a r quantity premium reads inside c =
     changed-roomy set' f k a (fill_of a j lot quantity premium) r (hold_at a.holds j).contract (fill_change i quantity (hold_at a.holds j).limit premium) reads (fill-moves set' a i j lot quantity premium inside c)
     (not_moved (get_or r.sizes i (pos 0)) (row-small set' f k i a r (hold_at a.holds j).contract reads))
 
-pub fill-kept : (set' : Tables) (origins : List Origin) (accounts : List AccountState) (rows : List Row) (closed : Bool) (k i j lot : ℕ) (a now : AccountState) (r row : Row) (quantity : ℤ) (premium : ℕ) (priced : Priced) → Reads set' (floor origins accounts rows closed) k i a r (hold_at a.holds j).contract → j < length a.holds → covers (hold_at a.holds j) quantity ≡ true → IsRoomy (fill_change i quantity (hold_at a.holds j).limit premium) r → Prices set' (fill_change i quantity (hold_at a.holds j).limit premium) r priced → IsLot (traded_lot lot (hold_at a.holds j).contract quantity premium) → is_full a.lots ≡ false → row ≡ row_with set' (fill_change i quantity (hold_at a.holds j).limit premium) r → now ≡ fill_of a j lot quantity premium → IsKept set' (floor origins (set accounts k now) (set rows a.unit row) closed)
-fill-kept set' origins accounts rows closed k i j lot a now r row quantity premium priced reads inside c room prices is_lot few is filled =
-    changed-kept set' origins accounts rows closed k a (fill_of a j lot quantity premium) now r row x.contract (fill_change i quantity x.limit premium) priced reads (fill-moves set' a i j lot quantity premium inside c) room prices
+pub fill-kept : (set' : Tables) (origins : List Origin) (accounts : List AccountState) (rows : List Row) (closed : Bool) (version : ℕ) (k i j lot : ℕ) (a now : AccountState) (r row : Row) (quantity : ℤ) (premium : ℕ) (priced : Priced) → Reads set' (floor origins accounts rows closed version) k i a r (hold_at a.holds j).contract → j < length a.holds → covers (hold_at a.holds j) quantity ≡ true → IsRoomy (fill_change i quantity (hold_at a.holds j).limit premium) r → Prices set' (fill_change i quantity (hold_at a.holds j).limit premium) r priced → IsLot (traded_lot lot (hold_at a.holds j).contract quantity premium) → is_full a.lots ≡ false → row ≡ row_with set' (fill_change i quantity (hold_at a.holds j).limit premium) r → now ≡ fill_of a j lot quantity premium → IsKept set' (floor origins (set accounts k now) (set rows a.unit row) closed version)
+fill-kept set' origins accounts rows closed version k i j lot a now r row quantity premium priced reads inside c room prices is_lot few is filled =
+    changed-kept set' origins accounts rows closed version k a (fill_of a j lot quantity premium) now r row x.contract (fill_change i quantity x.limit premium) priced reads (fill-moves set' a i j lot quantity premium inside c) room prices
     (fill-limits a j lot quantity premium (was-limits set' f k i a r x.contract reads) inside c is_lot (grind (arith, nat_tests, few)))
     known is filled
   where
     f : Floor
-    f = floor origins accounts rows closed
+    f = floor origins accounts rows closed version
 
     x : Held
     x = hold_at a.holds j
@@ -232,11 +232,11 @@ fill-kept set' origins accounts rows closed k i j lot a now r row quantity premi
 
 -- Where nothing has changed.
 
-pub same-floor : (origins : List Origin) (accounts : List AccountState) (rows : List Row) (closed : Bool) (k u : ℕ) (a now : AccountState) (r row : Row) → a ≡ get_or accounts k a → r ≡ get_or rows u r → now ≡ a → row ≡ r → floor origins (set accounts k now) (set rows u row) closed ≡ floor origins accounts rows closed
-same-floor origins accounts rows closed k u a now r row was is same same_row =
+pub same-floor : (origins : List Origin) (accounts : List AccountState) (rows : List Row) (closed : Bool) (version : ℕ) (k u : ℕ) (a now : AccountState) (r row : Row) → a ≡ get_or accounts k a → r ≡ get_or rows u r → now ≡ a → row ≡ r → floor origins (set accounts k now) (set rows u row) closed version ≡ floor origins accounts rows closed version
+same-floor origins accounts rows closed version k u a now r row was is same same_row =
     let one : set accounts k now ≡ accounts = ap (λ (x : AccountState). set accounts k x) (same ∙ was) ∙ set-get_or accounts k a in
     let other : set rows u row ≡ rows = ap (λ (x : Row). set rows u x) (same_row ∙ is) ∙ set-get_or rows u r in
-    λ i. floor origins (one i) (other i) closed
+    λ i. floor origins (one i) (other i) closed version
 
 -- The set has the contract of a hold.
 
@@ -246,21 +246,21 @@ held-known set' f k j kept inside held =
 
 -- What a hold is answered.
 
-new-state : (origins : List Origin) (accounts : List AccountState) (rows : List Row) (closed : Bool) (k u : ℕ) (row : Row) (b now : AccountState) → b ≡ now → put (floor origins accounts rows closed).state k b ≡ (floor origins (set accounts k now) (set rows u row) closed).state
-new-state origins accounts rows closed k u row b now is =
-    λ i. record { origins = origins; accounts = set accounts k (is i); units = sym (length-set rows u row) i; closed = closed }
+new-state : (origins : List Origin) (accounts : List AccountState) (rows : List Row) (closed : Bool) (version : ℕ) (k u : ℕ) (row : Row) (b now : AccountState) → b ≡ now → put (floor origins accounts rows closed version).state k b ≡ (floor origins (set accounts k now) (set rows u row) closed version).state
+new-state origins accounts rows closed version k u row b now is =
+    λ i. record { origins = origins; accounts = set accounts k (is i); units = sym (length-set rows u row) i; closed = closed; version = version }
 
 held-short : (set' : Tables) (f : Floor) (at : ℕ × ℕ) (a : AccountState) (r : Row) (order : ℕ) (contract : List ℕ) (quantity : ℤ) (limit : ℕ) (b : Bool) → Reads set' f at.0 at.1 a r contract → is_short (row_with set' (hold_change at.1 quantity limit) r) ≡ b → is_short (row_of set' (state-held f.state at order contract quantity limit).accounts (account_at f.state.accounts at.0).unit) ≡ b
 held-short set' f at a r order contract quantity limit b reads is =
     subst (λ (x : AccountState). is_short (row_of set' (set f.state.accounts at.0 (with_hold x (new_hold order contract quantity limit))) x.unit) ≡ b) (account-read set' f at.0 at.1 a r contract reads)
     (ap is_short (sym (hold-row set' f at.0 at.1 a r order contract quantity limit reads)) ∙ is)
 
-pub hold-done : (set' : Tables) (origins : List Origin) (accounts : List AccountState) (rows : List Row) (closed : Bool) (at : ℕ × ℕ) (u : ℕ) (a now : AccountState) (r row : Row) (account : List ℕ) (order : ℕ) (contract : List ℕ) (quantity : ℤ) (limit : ℕ) → Reads set' (floor origins accounts rows closed) at.0 at.1 a r contract → hold_places set' (floor origins accounts rows closed).state account order contract quantity limit ≡ Ok at → is_short (row_with set' (hold_change at.1 quantity limit) r) ≡ false → now ≡ with_hold a (new_hold order contract quantity limit) → entered set' (floor origins accounts rows closed).state account order contract quantity limit ≡ Ok (floor origins (set accounts at.0 now) (set rows u row) closed).state
-hold-done set' origins accounts rows closed at u a now r row account order contract quantity limit reads places room added =
-    let f = floor origins accounts rows closed in
+pub hold-done : (set' : Tables) (origins : List Origin) (accounts : List AccountState) (rows : List Row) (closed : Bool) (version : ℕ) (at : ℕ × ℕ) (u : ℕ) (a now : AccountState) (r row : Row) (account : List ℕ) (order : ℕ) (contract : List ℕ) (quantity : ℤ) (limit : ℕ) → Reads set' (floor origins accounts rows closed version) at.0 at.1 a r contract → hold_places set' (floor origins accounts rows closed version).state account order contract quantity limit ≡ Ok at → is_short (row_with set' (hold_change at.1 quantity limit) r) ≡ false → now ≡ with_hold a (new_hold order contract quantity limit) → entered set' (floor origins accounts rows closed version).state account order contract quantity limit ≡ Ok (floor origins (set accounts at.0 now) (set rows u row) closed version).state
+hold-done set' origins accounts rows closed version at u a now r row account order contract quantity limit reads places room added =
+    let f = floor origins accounts rows closed version in
     let x = new_hold order contract quantity limit in
     entered-done set' f.state at account order contract quantity limit places (held-short set' f at a r order contract quantity limit false reads room)
-    ∙ ap (λ (s : State). Ok s) (new-state origins accounts rows closed at.0 u row (with_hold (account_at accounts at.0) x) now (ap (λ (y : AccountState). with_hold y x) (sym (account-read set' f at.0 at.1 a r contract reads)) ∙ sym added))
+    ∙ ap (λ (s : State). Ok s) (new-state origins accounts rows closed version at.0 u row (with_hold (account_at accounts at.0) x) now (ap (λ (y : AccountState). with_hold y x) (sym (account-read set' f at.0 at.1 a r contract reads)) ∙ sym added))
 
 pub hold-refused : (set' : Tables) (f new : Floor) (at : ℕ × ℕ) (a : AccountState) (r : Row) (account : List ℕ) (order : ℕ) (contract : List ℕ) (quantity : ℤ) (limit : ℕ) (why : Fault) → Reads set' f at.0 at.1 a r contract → hold_places set' f.state account order contract quantity limit ≡ Ok at → AsksRoom {X = Unit {0}} (row_with set' (hold_change at.1 quantity limit) r) (Err why) → new ≡ f → Steps {X = Unit {0}} (entered set' f.state account order contract quantity limit) (Err why) f new
 hold-refused set' f new at a r account order contract quantity limit (Refused why) reads places asks same =

@@ -91,8 +91,8 @@ pub record Changes (set' : Tables) (f : Floor) (k : ℕ) (a b : AccountState) (r
 there : (set' : Tables) (f : Floor) (k : ℕ) (a b : AccountState) (row : Row) → Changes set' f k a b row → a ≡ get_or f.state.accounts k no_account
 there set' f k a b row changes = changes.was ∙ get_or_default f.state.accounts k a no_account changes.account
 
-pub kept-changed : (set' : Tables) (origins : List Origin) (accounts : List AccountState) (rows : List Row) (closed : Bool) (k : ℕ) (a b : AccountState) (row : Row) → Changes set' (floor origins accounts rows closed) k a b row → IsKept set' (floor origins (set accounts k b) (set rows a.unit row) closed)
-kept-changed set' origins accounts rows closed k a b row changes = record {
+pub kept-changed : (set' : Tables) (origins : List Origin) (accounts : List AccountState) (rows : List Row) (closed : Bool) (version : ℕ) (k : ℕ) (a b : AccountState) (row : Row) → Changes set' (floor origins accounts rows closed version) k a b row → IsKept set' (floor origins (set accounts k b) (set rows a.unit row) closed version)
+kept-changed set' origins accounts rows closed version k a b row changes = record {
   units = refl;
   few_units = omega (arith, long, kept.few_units);
   few_accounts = omega (arith, length-set accounts k b, kept.few_accounts);
@@ -105,7 +105,7 @@ kept-changed set' origins accounts rows closed k a b row changes = record {
 }
   where
     f : Floor
-    f = floor origins accounts rows closed
+    f = floor origins accounts rows closed version
 
     kept : IsKept set' f
     kept = changes.kept
@@ -162,16 +162,16 @@ own-moved set' f k a b contract change r priced within kept h was is limits stan
     worth p side e = subst (λ (x : Side). unsigned_abs x.worth ≤ 10 ^ 24) (sym (ap side same ∙ e)) (side-worth-le set' (set accounts k b) a.unit p within all few)
 
 -- both together: an account and the row of its unit after a change in one contract
-pub kept-moved : (set' : Tables) (origins : List Origin) (accounts : List AccountState) (rows : List Row) (closed : Bool) (k : ℕ) (a b : AccountState) (contract : List ℕ) (change : Change) (r : Row) (priced : Priced) → IsWithinLimits set' → IsKept set' (floor origins accounts rows closed) → k < length accounts → a ≡ get_or accounts k a → r ≡ get_or rows a.unit r → IsAccount b → IsKnown set' b → Stands set' contract change.contract → Moves set' contract change a b → IsRoomy change r → Prices set' change r priced → IsKept set' (floor origins (set accounts k b) (set rows a.unit (row_with set' change r)) closed)
-kept-moved set' origins accounts rows closed k a b contract change r priced within kept h was is limits known stands moves room prices =
-    kept-changed set' origins accounts rows closed k a b (row_with set' change r) record {
+pub kept-moved : (set' : Tables) (origins : List Origin) (accounts : List AccountState) (rows : List Row) (closed : Bool) (version : ℕ) (k : ℕ) (a b : AccountState) (contract : List ℕ) (change : Change) (r : Row) (priced : Priced) → IsWithinLimits set' → IsKept set' (floor origins accounts rows closed version) → k < length accounts → a ≡ get_or accounts k a → r ≡ get_or rows a.unit r → IsAccount b → IsKnown set' b → Stands set' contract change.contract → Moves set' contract change a b → IsRoomy change r → Prices set' change r priced → IsKept set' (floor origins (set accounts k b) (set rows a.unit (row_with set' change r)) closed version)
+kept-moved set' origins accounts rows closed version k a b contract change r priced within kept h was is limits known stands moves room prices =
+    kept-changed set' origins accounts rows closed version k a b (row_with set' change r) record {
       kept = kept;
       account = h;
       was = was;
       unit = moves.unit;
       limits = limits;
       known = known;
-      own = own-moved set' (floor origins accounts rows closed) k a b contract change r priced within kept h was is limits stands moves room prices;
+      own = own-moved set' (floor origins accounts rows closed version) k a b contract change r priced within kept h was is limits stands moves room prices;
     }
 
 -- Where a change of one contract leaves the row within the limits: the sizes tell.
@@ -255,7 +255,7 @@ pub stands-known : (set' : Tables) (contract : List ℕ) (i : ℕ) → Stands se
 stands-known set' contract i stands = ap is_some stands.here
 
 -- The end of the day.
-pub kept-closed : (set' : Tables) (f : Floor) → IsKept set' f → IsKept set' (floor f.state.origins f.state.accounts f.rows true)
+pub kept-closed : (set' : Tables) (f : Floor) → IsKept set' f → IsKept set' (floor f.state.origins f.state.accounts f.rows true f.state.version)
 kept-closed set' f kept = record {
   units = refl;
   few_units = kept.few_units;
@@ -268,9 +268,9 @@ kept-closed set' f kept = record {
 }
 
 -- What was written is what was there.
-pub kept-same : (set' : Tables) (origins : List Origin) (accounts : List AccountState) (rows : List Row) (closed : Bool) (k u : ℕ) (a b : AccountState) (r row : Row) → IsKept set' (floor origins accounts rows closed) → a ≡ get_or accounts k a → b ≡ a → r ≡ get_or rows u r → row ≡ r → IsKept set' (floor origins (set accounts k b) (set rows u row) closed)
-kept-same set' origins accounts rows closed k u a b r row kept was same is unchanged =
-    subst (λ (x : List AccountState × List Row). IsKept set' (floor origins x.0 x.1 closed)) (λ j. (sym accounts_are j, sym rows_are j)) kept
+pub kept-same : (set' : Tables) (origins : List Origin) (accounts : List AccountState) (rows : List Row) (closed : Bool) (version : ℕ) (k u : ℕ) (a b : AccountState) (r row : Row) → IsKept set' (floor origins accounts rows closed version) → a ≡ get_or accounts k a → b ≡ a → r ≡ get_or rows u r → row ≡ r → IsKept set' (floor origins (set accounts k b) (set rows u row) closed version)
+kept-same set' origins accounts rows closed version k u a b r row kept was same is unchanged =
+    subst (λ (x : List AccountState × List Row). IsKept set' (floor origins x.0 x.1 closed version)) (λ j. (sym accounts_are j, sym rows_are j)) kept
   where
     accounts_are : set accounts k b ≡ accounts
     accounts_are = ap (λ (x : AccountState). set accounts k x) (same ∙ was) ∙ set-get_or accounts k a

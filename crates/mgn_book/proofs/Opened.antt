@@ -133,8 +133,8 @@ fresh-limits name unit = record {
 -- Floors.
 
 -- an account more in a unit that is there
-pub kept-open : (set' : Tables) (origins : List Origin) (accounts : List AccountState) (rows : List Row) (closed : Bool) (name : List ℕ) (unit : ℕ) → IsKept set' (floor origins accounts rows closed) → length accounts < 1024 → unit < length rows → IsKept set' (floor origins (accounts ++ fresh name unit ∷ []) rows closed)
-kept-open set' origins accounts rows closed name unit kept few inside = record {
+pub kept-open : (set' : Tables) (origins : List Origin) (accounts : List AccountState) (rows : List Row) (closed : Bool) (version : ℕ) (name : List ℕ) (unit : ℕ) → IsKept set' (floor origins accounts rows closed version) → length accounts < 1024 → unit < length rows → IsKept set' (floor origins (accounts ++ fresh name unit ∷ []) rows closed version)
+kept-open set' origins accounts rows closed version name unit kept few inside = record {
   units = refl;
   few_units = kept.few_units;
   few_accounts = omega (arith, length-append accounts (fresh name unit ∷ []));
@@ -146,8 +146,8 @@ kept-open set' origins accounts rows closed name unit kept few inside = record {
 }
 
 -- a unit more, which no account has yet
-pub kept-unit : (set' : Tables) (origins : List Origin) (accounts : List AccountState) (rows : List Row) (closed : Bool) → IsKept set' (floor origins accounts rows closed) → length rows < 1024 → IsKept set' (floor origins accounts (rows ++ no_row set' ∷ []) closed)
-kept-unit set' origins accounts rows closed kept few = record {
+pub kept-unit : (set' : Tables) (origins : List Origin) (accounts : List AccountState) (rows : List Row) (closed : Bool) (version : ℕ) → IsKept set' (floor origins accounts rows closed version) → length rows < 1024 → IsKept set' (floor origins accounts (rows ++ no_row set' ∷ []) closed version)
+kept-unit set' origins accounts rows closed version kept few = record {
   units = refl;
   few_units = omega (arith, long);
   few_accounts = kept.few_accounts;
@@ -175,8 +175,8 @@ kept-unit set' origins accounts rows closed kept few = record {
         (subst (λ (r : Row). IsUnitRow set' accounts (length rows) r) (sym (get_or-append_seam rows (no_row set') [] d)) record { is = none-row_of set' accounts (length rows) kept.within; limits = flat-row set' })
 
 -- an origin more, whose unit is there if it has one
-pub kept-origin : (set' : Tables) (origins : List Origin) (accounts : List AccountState) (rows : List Row) (closed : Bool) (o : Origin) → IsKept set' (floor origins accounts rows closed) → IfSome o.unit (λ u. u < length rows) → IsKept set' (floor (origins ++ o ∷ []) accounts rows closed)
-kept-origin set' origins accounts rows closed o kept inside = record {
+pub kept-origin : (set' : Tables) (origins : List Origin) (accounts : List AccountState) (rows : List Row) (closed : Bool) (version : ℕ) (o : Origin) → IsKept set' (floor origins accounts rows closed version) → IfSome o.unit (λ u. u < length rows) → IsKept set' (floor (origins ++ o ∷ []) accounts rows closed version)
+kept-origin set' origins accounts rows closed version o kept inside = record {
   units = refl;
   few_units = kept.few_units;
   few_accounts = kept.few_accounts;

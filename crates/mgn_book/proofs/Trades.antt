@@ -59,10 +59,10 @@ trade-roomy set' f k i a r number contract quantity premium trading =
     room : int_lt (pos (10 ^ 7)) (unit_size f.state a.unit contract +ℤ pos (unsigned_abs quantity)) ≡ false
     room = ap (λ (x : AccountState). int_lt (pos (10 ^ 7)) (unit_size f.state x.unit contract +ℤ pos (unsigned_abs quantity))) (trading.was ∙ get_or_default f.state.accounts k a no_account trading.account) ∙ trading.room
 
-pub trade-kept : (set' : Tables) (origins : List Origin) (accounts : List AccountState) (rows : List Row) (closed : Bool) (k i : ℕ) (a b : AccountState) (r row : Row) (number : ℕ) (contract : List ℕ) (quantity : ℤ) (premium : ℕ) (priced : Priced) → Trading set' (floor origins accounts rows closed) k i a r number contract quantity premium → Prices set' (lot_change i quantity premium) r priced → row ≡ row_with set' (lot_change i quantity premium) r → b ≡ with_lot a (traded_lot number contract quantity premium) → IsLot (traded_lot number contract quantity premium) → is_full a.lots ≡ false → IsKept set' (floor origins (set accounts k b) (set rows a.unit row) closed)
-trade-kept set' origins accounts rows closed k i a b r row number contract quantity premium priced trading prices is added lot few =
-    subst (λ (x : Row × AccountState). IsKept set' (floor origins (set accounts k x.1) (set rows a.unit x.0) closed)) (λ j. (sym is j, sym added j))
-    (kept-changed set' origins accounts rows closed k a (with_lot a (traded_lot number contract quantity premium)) (row_with set' (lot_change i quantity premium) r) record {
+pub trade-kept : (set' : Tables) (origins : List Origin) (accounts : List AccountState) (rows : List Row) (closed : Bool) (version : ℕ) (k i : ℕ) (a b : AccountState) (r row : Row) (number : ℕ) (contract : List ℕ) (quantity : ℤ) (premium : ℕ) (priced : Priced) → Trading set' (floor origins accounts rows closed version) k i a r number contract quantity premium → Prices set' (lot_change i quantity premium) r priced → row ≡ row_with set' (lot_change i quantity premium) r → b ≡ with_lot a (traded_lot number contract quantity premium) → IsLot (traded_lot number contract quantity premium) → is_full a.lots ≡ false → IsKept set' (floor origins (set accounts k b) (set rows a.unit row) closed version)
+trade-kept set' origins accounts rows closed version k i a b r row number contract quantity premium priced trading prices is added lot few =
+    subst (λ (x : Row × AccountState). IsKept set' (floor origins (set accounts k x.1) (set rows a.unit x.0) closed version)) (λ j. (sym is j, sym added j))
+    (kept-changed set' origins accounts rows closed version k a (with_lot a (traded_lot number contract quantity premium)) (row_with set' (lot_change i quantity premium) r) record {
       kept = trading.kept;
       account = trading.account;
       was = trading.was;
@@ -74,7 +74,7 @@ trade-kept set' origins accounts rows closed k i a b r row number contract quant
     })
   where
     f : Floor
-    f = floor origins accounts rows closed
+    f = floor origins accounts rows closed version
 
     lot_is : Lot
     lot_is = traded_lot number contract quantity premium

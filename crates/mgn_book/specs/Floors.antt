@@ -16,8 +16,8 @@ pub record Floor : Type 0 where
   pub state : State
   pub rows : List Row
 
-abbrev pub floor : List Origin → List AccountState → List Row → Bool → Floor
-floor origins accounts rows closed = record { state = record { origins = origins; accounts = accounts; units = length rows; closed = closed }; rows = rows }
+abbrev pub floor : List Origin → List AccountState → List Row → Bool → ℕ → Floor
+floor origins accounts rows closed version = record { state = record { origins = origins; accounts = accounts; units = length rows; closed = closed; version = version }; rows = rows }
 
 -- a row is that of the unit, worked out from lots, holds and collateral, and within the limits
 pub record IsUnitRow (set : Tables) (accounts : List AccountState) (u : ℕ) (row : Row) : Type 0 where

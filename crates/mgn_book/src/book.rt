@@ -1,4 +1,5 @@
-ghost use Rattle.std.specs.Prelude.{◌≡◌, ◌+◌, ◌<◌, ◌++◌, ◌∷◌, [], length};
+ghost use Rattle.std.specs.Prelude.{◌≡◌, ◌+◌, ◌<◌, ◌≤◌, ◌++◌, ◌∷◌, [], length, List};
+ghost use Rattle.mgn_params.specs.Tables.{Tables};
 ghost use Rattle.mgn_machine.specs.History.{calls, entry};
 ghost use Rattle.mgn_book.specs.Days.{Stands, Committed, opening};
 ghost use Rattle.mgn_book.specs.declared.book.Outcome.TheVariants.{Done};
@@ -7,7 +8,7 @@ use crate::register::Register;
 use crate::step::step;
 use mgn_ids::SessionNo;
 use mgn_machine::{Command, Entry, Reply};
-use mgn_params::ParamSet;
+use mgn_params::Shelf;
 use std::alloc::Global;
 use std::marker::Model;
 
@@ -26,54 +27,74 @@ pub enum Outcome {
 }
 
 /// The state of the machine, a row for each margin unit, and the history. Contracts see the day: the floor of state and
-/// rows, and the list of the entries.
+/// rows, and the list of the entries. The type says that the day stands: its history is legal, and leads to this state
+/// with these rows. Under which sets, each call says of the shelf that it is given.
 #[derive(Drop)]
 pub struct Book {
     register: Register,
     history: Vec<Entry>,
+    counts: [u64; 16],
 }
 
 impl Model for Book {
-    ghost use Rattle.mgn_book.specs.Days.{Day};
+    ghost use Rattle.mgn_book.specs.Days.{Day, IsBook};
 
     ghost Value = { Day };
 
     ghost view = { λ b. record { floor = b.register; history = b.history.items } };
+
+    ghost invariant = { λ b. IsBook record { floor = b.register; history = b.history.items } b.counts };
 }
 
 impl Book {
-    /// The book before its first command. Takes no memory.
-    pub fn new(alloc: Global, set: &ParamSet) -> Book
+    /// The book before its first command, under the first set of a shelf. Takes no memory.
+    pub fn new<S: Shelf>(alloc: Global, shelf: &S) -> Book
         ensures opening { result ≡ opening }
-        ensures stands { Stands set.now result }
+        ensures stands { Stands (S.sets shelf.now) result }
     {
         Book {
-            register: Register::new(alloc, set),
+            register: Register::new(alloc, shelf.first()),
             history: Vec::new(alloc),
+            counts: [0; 16],
         }
     }
 
-    /// How many entries the history has.
+    /// How many entries the history has. It takes no memory.
     pub fn len(&self) -> usize
         ensures { result ≡ length self.now.history }
     {
         self.history.len()
     }
 
+    /// How many entries of the history are a session's. It takes no memory, and is a look at a count.
+    pub fn calls(&self, session: SessionNo) -> u64
+        ensures count { result ≡ calls session self.now.history }
+        ensures few { result ≤ 1000000 }
+    {
+        self.counts[session.number() as usize - 1]
+    }
+
+    /// What every book meets: no work, a fact for callers.
+    pub fn legal(&self)
+        ensures { (sets : List Tables) × Stands sets self.now }
+    {
+        let _ = &self.history;
+    }
+
     /// One step of the machine and its entry in the history. `Full` where the history has 1,000,000 entries, `Memory`
     /// where memory is refused; then nothing has changed.
-    pub fn commit_plain(
+    pub fn commit_plain<S: Shelf>(
         &mut self,
         alloc: Global,
-        set: &ParamSet,
         session: SessionNo,
         number: u64,
         command: &Command,
+        shelf: &S,
     ) -> Outcome
-        requires stands { Stands set.now self.old }
+        requires stands { Stands (S.sets shelf.now) self.old }
         requires number { number ≡ calls session self.old.history + 1 }
-        ensures stands { Stands set.now self.new }
-        ensures committed { Committed set.now self.old session number command.now result self.new }
+        ensures stands { Stands (S.sets shelf.now) self.new }
+        ensures committed { Committed (S.sets shelf.now) self.old session number command.now result self.new }
     {
         if self.history.len() >= MOST_ENTRIES {
             return Outcome::Full;
@@ -81,10 +102,14 @@ impl Book {
         if self.history.reserve(1).is_err() {
             return Outcome::Memory;
         }
+        let Some(set) = shelf.get(self.register.version()) else {
+            unreachable!();
+        };
         let reply = match step(&mut self.register, alloc, set, command) {
             Ok(reply) => reply,
             Err(_) => return Outcome::Memory,
         };
+        self.counts[session.number() as usize - 1] = number;
         write(&mut self.history, session, number, command, &reply)
     }
 }

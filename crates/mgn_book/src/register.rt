@@ -14,7 +14,7 @@ use mgn_ids::{AccountName, ClassName, ContractName, LotId, LotQuantity, Places, 
 use mgn_lots::{Mark, RemoveFault};
 use mgn_machine::{Account, Origin, Refusal, Row};
 use mgn_num::Quantity;
-use mgn_params::{ParamSet, Style};
+use mgn_params::{ParamSet, Style, Version};
 use std::alloc::Global;
 use std::marker::Model;
 
@@ -29,6 +29,7 @@ pub struct Register {
     pub(crate) accounts: Vec<Account>,
     pub(crate) rows: Vec<Row>,
     pub(crate) closed: bool,
+    pub(crate) version: Version,
 }
 
 impl Model for Register {
@@ -38,7 +39,7 @@ impl Model for Register {
 
     ghost Value = { Floor };
 
-    ghost view = { λ r. floor r.origins.items r.accounts.items r.rows.items r.closed };
+    ghost view = { λ r. floor r.origins.items r.accounts.items r.rows.items r.closed r.version };
 
     ghost invariant = { λ r. r.names ≡ account_names r.accounts.items };
 }
@@ -94,10 +95,9 @@ fn is_premium(style: Style) -> bool
 }
 
 impl Register {
-    /// The machine before its first command. Takes no memory.
-    pub fn new(alloc: Global, set: &ParamSet) -> Register
-        ensures empty { result ≡ floor [] [] [] false }
-        ensures kept { IsKept set.now result }
+    /// The machine before its first command, under a version. Takes no memory.
+    pub fn new(alloc: Global, version: Version) -> Register
+        ensures empty { result ≡ floor [] [] [] false version }
     {
         Register {
             origins: Vec::new(alloc),
@@ -105,7 +105,15 @@ impl Register {
             accounts: Vec::new(alloc),
             rows: Vec::new(alloc),
             closed: false,
+            version,
         }
+    }
+
+    /// The version of the set in force.
+    pub fn version(&self) -> Version
+        ensures { result ≡ self.now.state.version }
+    {
+        self.version
     }
 
     // Where an account stands.

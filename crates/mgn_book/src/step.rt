@@ -1,5 +1,5 @@
 ghost use Rattle.std.specs.Prelude.{◌≡◌};
-ghost use Rattle.mgn_machine.specs.Step.{step, told, asked, ended};
+ghost use Rattle.mgn_machine.specs.Step.{step_under, told, asked, ended};
 ghost use Rattle.mgn_book.specs.Floors.{IsKept, Steps, Replies, answer_of};
 
 use crate::fault::Fault;
@@ -47,7 +47,7 @@ fn answer_of(done: Result<(), Fault>) -> Result<Reply, Fault>
     }
 }
 
-/// One step of the machine; at want of memory nothing has changed.
+/// One step of the machine under a set; at want of memory nothing has changed.
 #[tactic(auto, using(crate::proofs::Steps::answered_by))]
 pub fn step(
     register: &mut Register,
@@ -57,7 +57,7 @@ pub fn step(
 ) -> Result<Reply, Fault>
     requires kept { IsKept set.now register.old }
     ensures kept { IsKept set.now register.new }
-    ensures replies { Replies (step set.now register.old.state command.now) result register.old register.new }
+    ensures replies { Replies (step_under set.now register.old.state command.now) result register.old register.new }
 {
     match *command {
         Command::NewOrigin(name, mode) => answer_of(register.originate(alloc, set, name, mode)),

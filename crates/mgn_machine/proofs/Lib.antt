@@ -7,3 +7,4 @@ pub mod FillMoves
 pub mod AtLimit
 pub mod Histories
 pub mod Short
+pub mod Versions

@@ -16,16 +16,18 @@ pub record AccountState : Type 0 where
   pub lots : List Lot
   pub holds : List Held
 
--- origins, accounts in order of opening, how many margin units were made, and whether the day is over
+-- origins, accounts in order of opening, how many margin units were made, whether the day is over, and the version of the
+-- set in force
 pub record State : Type 0 where
   pub origins : List Origin
   pub accounts : List AccountState
   pub units : ℕ
   pub closed : Bool
+  pub version : ℕ
 
 -- before the first command
 abbrev pub start : State
-start = record { origins = []; accounts = []; units = 0; closed = false }
+start = record { origins = []; accounts = []; units = 0; closed = false; version = 0 }
 
 abbrev pub no_account : AccountState
 no_account = record { name = []; unit = 0; collateral = nothing; lots = []; holds = [] }

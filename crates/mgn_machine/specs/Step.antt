@@ -1,5 +1,6 @@
 -- One step of the machine: what a command does to the state, and what it is answered (own profile).
 use Rattle.std.specs.Prelude.{ℕ, ◌+◌, true, Option, None, Some, ℤ, List, [], ◌∷◌, ◌++◌, Result, Ok, Err}
+use Rattle.mgn_params.specs.Shelves.{set_at}
 use Rattle.mgn_params.specs.Tables.{Tables}
 use Rattle.mgn_machine.specs.declared.command.Command.{Command}
 use Rattle.mgn_machine.specs.declared.command.Command.TheVariants.{NewOrigin, NewAccount, Trade, Bust, Post, Draw, Ask, EndDay, Hold, Fill, Release}
@@ -79,15 +80,20 @@ abbrev pub told : Result Reply Refusal → Reply
 told (Ok reply) = reply
 told (Err why) = Refused why
 
-abbrev pub step : Tables → State → Command → State × Reply
-step set s (NewOrigin name mode) = answered s (originated s name mode)
-step set s (NewAccount account origin) = answered s (opened s account origin)
-step set s (Trade account lot contract quantity premium) = answered s (traded set s account lot contract quantity premium)
-step set s (Bust account lot) = answered s (undone s account lot)
-step set s (Hold account order contract quantity limit) = answered s (entered set s account order contract quantity limit)
-step set s (Fill account order lot quantity premium) = answered s (filled set s account order lot quantity premium)
-step set s (Release account order) = answered s (released s account order)
-step set s (Post account class units) = answered s (posted set s account class units)
-step set s (Draw account class units) = answered s (drawn set s account class units)
-step set s (Ask account) = (s, told (asked set s account))
-step set s EndDay = answered s (ended s)
+-- a command under the set in force
+abbrev pub step_under : Tables → State → Command → State × Reply
+step_under set s (NewOrigin name mode) = answered s (originated s name mode)
+step_under set s (NewAccount account origin) = answered s (opened s account origin)
+step_under set s (Trade account lot contract quantity premium) = answered s (traded set s account lot contract quantity premium)
+step_under set s (Bust account lot) = answered s (undone s account lot)
+step_under set s (Hold account order contract quantity limit) = answered s (entered set s account order contract quantity limit)
+step_under set s (Fill account order lot quantity premium) = answered s (filled set s account order lot quantity premium)
+step_under set s (Release account order) = answered s (released s account order)
+step_under set s (Post account class units) = answered s (posted set s account class units)
+step_under set s (Draw account class units) = answered s (drawn set s account class units)
+step_under set s (Ask account) = (s, told (asked set s account))
+step_under set s EndDay = answered s (ended s)
+
+-- one step, where these are the sets by version
+abbrev pub step : List Tables → State → Command → State × Reply
+step sets s command = step_under (set_at sets s.version) s command

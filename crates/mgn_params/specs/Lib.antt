@@ -15,3 +15,4 @@ pub mod Records
 pub mod Lines
 pub mod File
 pub mod Laws
+pub mod Shelves

@@ -11,6 +11,7 @@ mod laws;
 mod line;
 mod records;
 mod set;
+mod shelf;
 mod spreads;
 mod tables;
 #[cfg(test)]
@@ -23,6 +24,7 @@ pub use laws::{
     activates_lowest_largest, flat_owes_nothing, owes_at_least_nothing, scans_within_worst_cases,
 };
 pub use set::ParamSet;
+pub use shelf::{PutFault, SetList, Shelf, Version};
 pub use tables::{
     Class, Commodity, Contract, CreditSpread, Kind, Leg, Month, Side, SpotCharge, Spread, Stage,
     Style,

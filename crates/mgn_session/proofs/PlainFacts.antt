@@ -39,27 +39,27 @@ calls_more [] number command reply = refl
 calls_more (e ∷ es) number command reply = counted_by (e.session == 1) _ _ (calls_more es number command reply)
 
 -- what a commit adds to the items
-pub adds : (set : Tables) (old new : Day) (number : ℕ) (command : Command) (outcome : Outcome)
-    → Committed set old 1 number command outcome new → Adds command (answer_of outcome) (items_of 1 old.history) (items_of 1 new.history)
-adds set old new number command (Done place reply) done =
+pub adds : (sets : List Tables) (old new : Day) (number : ℕ) (command : Command) (outcome : Outcome)
+    → Committed sets old 1 number command outcome new → Adds command (answer_of outcome) (items_of 1 old.history) (items_of 1 new.history)
+adds sets old new number command (Done place reply) done =
     let size : length new.history ≡ 1 + length old.history = ap length done.2 ∙ omega (arith, length-append old.history (entry 1 number command reply ∷ [])) in
     let more = ap (items_of 1) done.2 ∙ items_more 1 old.history number command reply in
     (item place command reply ∷ [], more ∙ ap (λ (n : ℕ). items_of 1 old.history ++ item n command reply ∷ []) (sym (done.0 ∙ size)), refl)
-adds set old new number command Full none =
+adds sets old new number command Full none =
     ([], ap (λ (day : Day). items_of 1 day.history) none.0 ∙ sym (append-nil (items_of 1 old.history)), (refl, inr refl))
-adds set old new number command Memory none =
+adds sets old new number command Memory none =
     ([], ap (λ (day : Day). items_of 1 day.history) none ∙ sym (append-nil (items_of 1 old.history)), (refl, inl refl))
 
-all_ours : (set : Tables) (old new : Day) (number : ℕ) (command : Command) (outcome : Outcome)
-    → calls 1 old.history ≡ length old.history → Committed set old 1 number command outcome new → calls 1 new.history ≡ length new.history
-all_ours set old new number command (Done place reply) all done =
+all_ours : (sets : List Tables) (old new : Day) (number : ℕ) (command : Command) (outcome : Outcome)
+    → calls 1 old.history ≡ length old.history → Committed sets old 1 number command outcome new → calls 1 new.history ≡ length new.history
+all_ours sets old new number command (Done place reply) all done =
     let counted = ap (calls 1) done.2 ∙ calls_more old.history number command reply in
     omega (arith, counted, all, ap length done.2, length-append old.history (entry 1 number command reply ∷ []))
-all_ours set old new number command Full all none = rw none.0 all
-all_ours set old new number command Memory all none = rw none all
+all_ours sets old new number command Full all none = rw none.0 all
+all_ours sets old new number command Memory all none = rw none all
 
 -- the session's numbers go on
-pub still : (set : Tables) (old new : Day) (number : ℕ) (command : Command) (outcome : Outcome)
-    → IsDesk set old → Committed set old 1 number command outcome new → Stands set new → IsDesk set new
-still set old new number command outcome desk committed stands =
-    record { stands = stands; all = all_ours set old new number command outcome desk.all committed }
+pub still : (sets : List Tables) (old new : Day) (number : ℕ) (command : Command) (outcome : Outcome)
+    → IsDesk sets old → Committed sets old 1 number command outcome new → Stands sets new → IsDesk sets new
+still sets old new number command outcome desk committed stands =
+    record { stands = stands; all = all_ours sets old new number command outcome desk.all committed }

@@ -1,5 +1,5 @@
--- A book of one session under one set.
-use Rattle.std.specs.Prelude.{◌≡◌, length, Some, None}
+-- A book of one session, with the sets of its shelf by version.
+use Rattle.std.specs.Prelude.{◌≡◌, List, length, Some, None}
 use Rattle.mgn_params.specs.Tables.{Tables}
 use Rattle.mgn_machine.specs.History.{calls}
 use Rattle.mgn_machine.specs.declared.reply.Answer.{Answer}
@@ -10,12 +10,12 @@ use Rattle.mgn_book.specs.declared.book.Outcome.{Outcome}
 use Rattle.mgn_book.specs.declared.book.Outcome.TheVariants as outcome
 
 pub record Desk : Type 0 where
-  pub set : Tables
+  pub sets : List Tables
   pub day : Day
 
--- the book stands under the set, and all its commands came from session 1
-pub record IsDesk (set : Tables) (day : Day) : Type 0 where
-  pub stands : Stands set day
+-- the book stands under the sets, and all its commands came from session 1
+pub record IsDesk (sets : List Tables) (day : Day) : Type 0 where
+  pub stands : Stands sets day
   pub all : calls 1 day.history ≡ length day.history
 
 -- what a commit is answered

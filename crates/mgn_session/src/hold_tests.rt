@@ -14,7 +14,11 @@ fn answers(rt: &(impl Abort + AllocGlobal), rows: &[(&str, &str)]) {
     let Ok(set) = set else {
         return;
     };
-    let mut plain = Plain::new(rt.alloc(), set);
+    let plain = Plain::new(rt.alloc(), set);
+    assert!(rt; plain.is_ok());
+    let Ok(mut plain) = plain else {
+        return;
+    };
     for (line, reply) in rows {
         let command = read_line(line.as_bytes());
         assert!(rt; command.is_ok(), "for {line}");

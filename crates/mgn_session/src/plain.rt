@@ -1,4 +1,4 @@
-ghost use Rattle.std.specs.Prelude.{◌≡◌, ◌+◌, [], length};
+ghost use Rattle.std.specs.Prelude.{◌≡◌, ◌+◌, ◌∷◌, [], length, IfOk};
 ghost use Rattle.mgn_machine.specs.History.{Legal, calls, items_of};
 ghost use Rattle.mgn_book.specs.Days.{opening};
 ghost use Rattle.mgn_session.specs.Plain.{answer_of};
@@ -7,15 +7,16 @@ use crate::exec::Exec;
 use mgn_book::{Book, Outcome};
 use mgn_ids::SessionNo;
 use mgn_machine::{Answer, Command, Refusal};
-use mgn_params::ParamSet;
-use std::alloc::Global;
+use mgn_params::{ParamSet, SetList};
+use std::alloc::{AllocError, Global};
 use std::marker::Model;
 
-/// A book under one set, all of whose commands come from session 1. Contracts see the set and the book's day.
+/// A book over a shelf of one thread, all of whose commands come from session 1. Contracts see the sets of the shelf, by
+/// version, and the book's day.
 #[derive(Drop)]
 pub struct Plain {
     alloc: Global,
-    set: ParamSet,
+    shelf: SetList,
     book: Book,
 }
 
@@ -24,26 +25,27 @@ impl Model for Plain {
 
     ghost Value = { Desk };
 
-    ghost view = { λ p. record { set = p.set; day = p.book } };
+    ghost view = { λ p. record { sets = p.shelf; day = p.book } };
 
-    ghost invariant = { λ p. IsDesk p.set p.book };
+    ghost invariant = { λ p. IsDesk p.shelf p.book };
 }
 
 impl Plain {
-    /// A book before its first command. Takes no memory.
-    pub fn new(alloc: Global, set: ParamSet) -> Plain
-        ensures set { result.set ≡ set }
-        ensures day { result.day ≡ opening }
+    /// A book before its first command, under its first set.
+    pub fn new(alloc: Global, set: ParamSet) -> Result<Plain, AllocError>
+        ensures sets { IfOk result (λ plain. plain.sets ≡ set ∷ []) }
+        ensures day { IfOk result (λ plain. plain.day ≡ opening) }
     {
-        let book = Book::new(alloc, &set);
-        Plain { alloc, set, book }
+        let shelf = SetList::new(alloc, set)?;
+        let book = Book::new(alloc, &shelf);
+        Ok(Plain { alloc, shelf, book })
     }
 
     /// How many commands the history has. It is legal: each has the machine's reply after those before it.
     pub fn len(&self) -> usize
         ensures count { result ≡ length self.now.day.history }
         ensures all { calls 1 self.now.day.history ≡ result }
-        ensures legal { Legal self.now.set self.now.day.history }
+        ensures legal { Legal self.now.sets self.now.day.history }
     {
         self.book.len()
     }
@@ -68,18 +70,18 @@ impl Exec for Plain {
 
     ghost entries = { λ plain. items_of 1 plain.day.history };
 
-    ghost keeps = { λ old new. new.set ≡ old.set };
+    ghost keeps = { λ old new. new.sets ≡ old.sets };
 
     ghost keeps_none = { λ _. refl };
 
     ghost keeps_on = { λ _ _ _ first second. second ∙ first };
 
     fn exec(&mut self, command: &Command) -> Answer {
-        let number = self.book.len() as u64 + 1;
         let session = SessionNo::new(1);
+        let number = self.book.calls(session) + 1;
         let outcome = self
             .book
-            .commit_plain(self.alloc, &self.set, session, number, command);
+            .commit_plain(self.alloc, session, number, command, &self.shelf);
         answer_of(outcome)
     }
 }

@@ -24,8 +24,8 @@ pub fn run_script<R: Read, W: Write>(
     requires clean { is_dirty writer.old ≡ false }
     requires fresh { plain.old.day ≡ opening }
     ensures ended { OnOk result (has_ended reader.new ≡ true) }
-    ensures ok { IfOk result (λ n. HasReplied (R.remaining (device_of reader.old)) (R.remaining (device_of reader.new)) (W.contents (device_of writer.old)) (W.contents (device_of writer.new)) plain.old.set n) }
-    ensures prefix { OnErr result (HasBroken (R.remaining (device_of reader.old)) (R.remaining (device_of reader.new)) (W.contents (device_of writer.old)) (W.contents (device_of writer.new)) plain.old.set) }
+    ensures ok { IfOk result (λ n. HasReplied (R.remaining (device_of reader.old)) (R.remaining (device_of reader.new)) (W.contents (device_of writer.old)) (W.contents (device_of writer.new)) plain.old.sets n) }
+    ensures prefix { OnErr result (HasBroken (R.remaining (device_of reader.old)) (R.remaining (device_of reader.new)) (W.contents (device_of writer.old)) (W.contents (device_of writer.new)) plain.old.sets) }
     ensures read { IfErr result (λ fault. fault ≡ SessionFault.Read → failed_of reader.old < failed_of reader.new) }
     ensures write { IfErr result (λ fault. fault ≡ SessionFault.Write → failed_of writer.old < failed_of writer.new) }
 {

@@ -8,7 +8,7 @@ use std::rt::Files;
 /// Answers standard input on standard output, to the end of the input.
 pub fn run<R: Files + Input + Print + AllocGlobal>(rt: &R, script: &Script) -> Result<(), Fault> {
     let set = set::read(rt, script.dir.as_str(), script.set.as_str())?;
-    let mut plain = Plain::new(rt.alloc(), set);
+    let mut plain = Plain::new(rt.alloc(), set)?;
     let mut reader = Counted::new(rt.reader());
     let mut writer = Counted::new(io::writer(rt));
     match run_script(rt.alloc(), &mut reader, &mut writer, &mut plain) {

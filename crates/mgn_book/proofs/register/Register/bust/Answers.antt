@@ -17,7 +17,7 @@ pub bust_lot-requires-clause-roomy : goal.bust_lot-requires-clause-roomy
 bust_lot-requires-clause-roomy c =
     let r = c.self.inside in
     let set = c.args.set.now in
-    let f = floor r.origins.items r.accounts.items r.rows.items r.closed in
+    let f = floor r.origins.items r.accounts.items r.rows.items r.closed r.version in
     let a = c.index_mut-owner.result.now in
     let row = c.index_mut-row.result.now in
     let k = c.in-Ok.found.0 in
@@ -45,10 +45,10 @@ pub returns-in-Err-bust_lot-clause-kept : goal.returns-in-Err-bust_lot-clause-ke
 returns-in-Err-bust_lot-clause-kept c =
     let r = c.self.inside in
     let a = c.index_mut-owner.result.now in
-    let kept : IsKept c.args.set.now (floor r.origins.items r.accounts.items r.rows.items r.closed) = search rules in
+    let kept : IsKept c.args.set.now (floor r.origins.items r.accounts.items r.rows.items r.closed r.version) = search rules in
     let same : c.bust_lot.new.owner ≡ a = search rules in
     let row : c.bust_lot.new.row ≡ c.index_mut-row.result.now = search rules in
-    kept-same c.args.set.now r.origins.items r.accounts.items r.rows.items r.closed c.in-Ok.found.0 c.unit.result a c.bust_lot.new.owner c.index_mut-row.result.now c.bust_lot.new.row kept c.index_mut-owner.ensures.value same c.index_mut-row.ensures.value row
+    kept-same c.args.set.now r.origins.items r.accounts.items r.rows.items r.closed r.version c.in-Ok.found.0 c.unit.result a c.bust_lot.new.owner c.index_mut-row.result.now c.bust_lot.new.row kept c.index_mut-owner.ensures.value same c.index_mut-row.ensures.value row
 
 pub invariant_of-self-2 : goal.invariant_of-self-2
 invariant_of-self-2 c =
@@ -61,7 +61,7 @@ pub returns-clause-kept : goal.returns-clause-kept
 returns-clause-kept c =
     let r = c.self.inside in
     let set = c.args.set.now in
-    let f = floor r.origins.items r.accounts.items r.rows.items r.closed in
+    let f = floor r.origins.items r.accounts.items r.rows.items r.closed r.version in
     let a = c.index_mut-owner.result.now in
     let row = c.index_mut-row.result.now in
     let k = c.in-Ok.found.0 in
@@ -86,7 +86,7 @@ returns-clause-kept c =
     let said : (priced : Priced) × Prices set c.of_bust-change.result row priced = search rules in
     let changed : c.bust_lot.new.row ≡ row_with set c.of_bust-change.result row = search rules in
     let done : c.bust_lot.new.owner ≡ with_bust a at = search rules in
-    let kept = bust-kept set r.origins.items r.accounts.items r.rows.items r.closed k at c.contract_of_lot-contract.result a c.bust_lot.new.owner row c.bust_lot.new.row said.0 busting
+    let kept = bust-kept set r.origins.items r.accounts.items r.rows.items r.closed r.version k at c.contract_of_lot-contract.result a c.bust_lot.new.owner row c.bust_lot.new.row said.0 busting
     (subst (λ (x : Change). Prices set x row said.0) change_is said.1) (changed ∙ ap (λ (x : Change). row_with set x row) change_is) done
     in
-    subst (λ (u : _). IsKept set (floor r.origins.items (set' r.accounts.items k c.bust_lot.new.owner) (set' r.rows.items u c.bust_lot.new.row) r.closed)) (sym c.unit.ensures) kept
+    subst (λ (u : _). IsKept set (floor r.origins.items (set' r.accounts.items k c.bust_lot.new.owner) (set' r.rows.items u c.bust_lot.new.row) r.closed r.version)) (sym c.unit.ensures) kept

@@ -11,7 +11,7 @@ use Rattle.mgn_book.proofs.register.Register.contract_of_lot.Goals as goal
 pub known_contract-requires : goal.known_contract-requires
 known_contract-requires c =
     let r = c.self.inside in
-    let f = floor r.origins.items r.accounts.items r.rows.items r.closed in
+    let f = floor r.origins.items r.accounts.items r.rows.items r.closed r.version in
     let a = c.index.result.now in
     let k = c.args.place in
     let kept : IsKept c.args.set.now f = search rules in

@@ -6,5 +6,5 @@ use Rattle.mgn_book.proofs.register.Register.end.Goals as goal
 pub returns-clause-kept : goal.returns-clause-kept
 returns-clause-kept c =
     let r = c.self.inside in
-    let kept : IsKept c.args.set.now (floor r.origins.items r.accounts.items r.rows.items r.closed) = search rules in
-    kept-closed c.args.set.now (floor r.origins.items r.accounts.items r.rows.items r.closed) kept
+    let kept : IsKept c.args.set.now (floor r.origins.items r.accounts.items r.rows.items r.closed r.version) = search rules in
+    kept-closed c.args.set.now (floor r.origins.items r.accounts.items r.rows.items r.closed r.version) kept

@@ -22,7 +22,7 @@ pub fill_hold-requires-clause-roomy : goal.fill_hold-requires-clause-roomy
 fill_hold-requires-clause-roomy c =
     let r = c.self.inside in
     let set' = c.args.set.now in
-    let f = floor r.origins.items r.accounts.items r.rows.items r.closed in
+    let f = floor r.origins.items r.accounts.items r.rows.items r.closed r.version in
     let at = c.in-Ok.places in
     let a = c.index_mut-owner.result.now in
     let account : a ≡ account_at c.args.self.now.state.accounts c.in-Ok.places.0 =
@@ -52,7 +52,7 @@ pub returns-in-Err-fill_hold-clause-kept : goal.returns-in-Err-fill_hold-clause-
 returns-in-Err-fill_hold-clause-kept c =
     let r = c.self.inside in
     let set' = c.args.set.now in
-    let f = floor r.origins.items r.accounts.items r.rows.items r.closed in
+    let f = floor r.origins.items r.accounts.items r.rows.items r.closed r.version in
     let at = c.in-Ok.places in
     let a = c.index_mut-owner.result.now in
     let account : a ≡ account_at c.args.self.now.state.accounts c.in-Ok.places.0 =
@@ -74,7 +74,7 @@ returns-in-Err-fill_hold-clause-kept c =
     } in
     let same : c.fill_hold.new.owner ≡ a = search rules in
     let same_row : c.fill_hold.new.row ≡ row = search rules in
-    subst (IsKept set') (sym (same-floor r.origins.items r.accounts.items r.rows.items r.closed at.0 c.unit.result a c.fill_hold.new.owner row c.fill_hold.new.row c.index_mut-owner.ensures.value c.index_mut-row.ensures.value same same_row))
+    subst (IsKept set') (sym (same-floor r.origins.items r.accounts.items r.rows.items r.closed r.version at.0 c.unit.result a c.fill_hold.new.owner row c.fill_hold.new.row c.index_mut-owner.ensures.value c.index_mut-row.ensures.value same same_row))
     reads.kept
 
 pub invariant_of-self-2 : goal.invariant_of-self-2
@@ -88,7 +88,7 @@ pub returns-clause-kept : goal.returns-clause-kept
 returns-clause-kept c =
     let r = c.self.inside in
     let set' = c.args.set.now in
-    let f = floor r.origins.items r.accounts.items r.rows.items r.closed in
+    let f = floor r.origins.items r.accounts.items r.rows.items r.closed r.version in
     let at = c.in-Ok.places in
     let a = c.index_mut-owner.result.now in
     let account : a ≡ account_at c.args.self.now.state.accounts c.in-Ok.places.0 =
@@ -121,5 +121,5 @@ returns-clause-kept c =
     let limits : IsLot lot = subst IsLot lot_is c.traded_lot-lot.ensures.limits in
     let few : is_full a.lots ≡ false = ap (λ (y : AccountState). is_full y.lots) account ∙ c.in-Ok.ensures.few in
     let room : IsRoomy change row = fill-roomy set' f at.0 c.held_contract-i.result at.1 c.args.number a row c.args.quantity c.args.premium reads inside c_is in
-    subst (λ (u : _). IsKept set' (floor r.origins.items (set r.accounts.items at.0 c.fill_hold.new.owner) (set r.rows.items u c.fill_hold.new.row) r.closed)) (sym c.unit.ensures)
-    (fill-kept set' r.origins.items r.accounts.items r.rows.items r.closed at.0 c.held_contract-i.result at.1 c.args.number a c.fill_hold.new.owner row c.fill_hold.new.row c.args.quantity c.args.premium said.0 reads inside c_is room prices limits few (changed ∙ ap (λ (y : Change). row_with set' y row) is) (filled ∙ ap (λ (y : Lot). with_fill a at.1 y.quantity y) lot_is))
+    subst (λ (u : _). IsKept set' (floor r.origins.items (set r.accounts.items at.0 c.fill_hold.new.owner) (set r.rows.items u c.fill_hold.new.row) r.closed r.version)) (sym c.unit.ensures)
+    (fill-kept set' r.origins.items r.accounts.items r.rows.items r.closed r.version at.0 c.held_contract-i.result at.1 c.args.number a c.fill_hold.new.owner row c.fill_hold.new.row c.args.quantity c.args.premium said.0 reads inside c_is room prices limits few (changed ∙ ap (λ (y : Change). row_with set' y row) is) (filled ∙ ap (λ (y : Lot). with_fill a at.1 y.quantity y) lot_is))

@@ -19,7 +19,7 @@ pub enter_hold-requires-clause-roomy : goal.enter_hold-requires-clause-roomy
 enter_hold-requires-clause-roomy c =
     let r = c.self.inside in
     let set' = c.args.set.now in
-    let f = floor r.origins.items r.accounts.items r.rows.items r.closed in
+    let f = floor r.origins.items r.accounts.items r.rows.items r.closed r.version in
     let at = c.in-Ok.places in
     let a = c.index_mut-owner.result.now in
     let row = c.index_mut-row.result.now in
@@ -39,7 +39,7 @@ pub returns-in-Err-enter_hold-clause-kept : goal.returns-in-Err-enter_hold-claus
 returns-in-Err-enter_hold-clause-kept c =
     let r = c.self.inside in
     let set' = c.args.set.now in
-    let f = floor r.origins.items r.accounts.items r.rows.items r.closed in
+    let f = floor r.origins.items r.accounts.items r.rows.items r.closed r.version in
     let at = c.in-Ok.places in
     let a = c.index_mut-owner.result.now in
     let row = c.index_mut-row.result.now in
@@ -53,14 +53,14 @@ returns-in-Err-enter_hold-clause-kept c =
     } in
     let same : c.enter_hold.new.owner ≡ a = search rules in
     let same_row : c.enter_hold.new.row ≡ row = search rules in
-    subst (IsKept set') (sym (same-floor r.origins.items r.accounts.items r.rows.items r.closed at.0 c.unit.result a c.enter_hold.new.owner row c.enter_hold.new.row c.index_mut-owner.ensures.value c.index_mut-row.ensures.value same same_row))
+    subst (IsKept set') (sym (same-floor r.origins.items r.accounts.items r.rows.items r.closed r.version at.0 c.unit.result a c.enter_hold.new.owner row c.enter_hold.new.row c.index_mut-owner.ensures.value c.index_mut-row.ensures.value same same_row))
     reads.kept
 
 pub returns-in-Err-enter_hold-clause-steps : goal.returns-in-Err-enter_hold-clause-steps
 returns-in-Err-enter_hold-clause-steps c =
     let r = c.self.inside in
     let set' = c.args.set.now in
-    let f = floor r.origins.items r.accounts.items r.rows.items r.closed in
+    let f = floor r.origins.items r.accounts.items r.rows.items r.closed r.version in
     let at = c.in-Ok.places in
     let a = c.index_mut-owner.result.now in
     let row = c.index_mut-row.result.now in
@@ -80,9 +80,9 @@ returns-in-Err-enter_hold-clause-steps c =
     in
     let same : c.enter_hold.new.owner ≡ a = search rules in
     let same_row : c.enter_hold.new.row ≡ row = search rules in
-    let new : Floor = floor r.origins.items (set r.accounts.items at.0 c.enter_hold.new.owner) (set r.rows.items c.unit.result c.enter_hold.new.row) r.closed in
+    let new : Floor = floor r.origins.items (set r.accounts.items at.0 c.enter_hold.new.owner) (set r.rows.items c.unit.result c.enter_hold.new.row) r.closed r.version in
     let stays : new ≡ f =
-    same-floor r.origins.items r.accounts.items r.rows.items r.closed at.0 c.unit.result a c.enter_hold.new.owner row c.enter_hold.new.row c.index_mut-owner.ensures.value c.index_mut-row.ensures.value same same_row
+    same-floor r.origins.items r.accounts.items r.rows.items r.closed r.version at.0 c.unit.result a c.enter_hold.new.owner row c.enter_hold.new.row c.index_mut-owner.ensures.value c.index_mut-row.ensures.value same same_row
     in
     subst (λ (g : Floor). Steps {X = Unit {0}} (entered set' g.state c.args.account c.args.order c.args.contract c.args.quantity c.args.limit) (Err c.in-Err-enter_hold.why) g new) c.self.view_is
     (hold-refused set' f new at a row c.args.account c.args.order c.args.contract c.args.quantity c.args.limit c.in-Err-enter_hold.why reads places asks stays)
@@ -98,7 +98,7 @@ pub returns-clause-kept : goal.returns-clause-kept
 returns-clause-kept c =
     let r = c.self.inside in
     let set' = c.args.set.now in
-    let f = floor r.origins.items r.accounts.items r.rows.items r.closed in
+    let f = floor r.origins.items r.accounts.items r.rows.items r.closed r.version in
     let at = c.in-Ok.places in
     let a = c.index_mut-owner.result.now in
     let row = c.index_mut-row.result.now in
@@ -123,14 +123,14 @@ returns-clause-kept c =
     ∙ ap (λ (g : Floor). holds_full (account_at g.state.accounts at.0).holds) c.self.view_is ∙ c.in-Ok.ensures.few
     in
     let room : IsRoomy change row = hold-roomy set' f at.0 at.1 a row c.args.order c.args.contract c.args.quantity c.args.limit reads over in
-    subst (λ (u : _). IsKept set' (floor r.origins.items (set r.accounts.items at.0 c.enter_hold.new.owner) (set r.rows.items u c.enter_hold.new.row) r.closed)) (sym c.unit.ensures)
-    (hold-kept set' r.origins.items r.accounts.items r.rows.items r.closed at.0 at.1 a c.enter_hold.new.owner row c.enter_hold.new.row c.args.order c.args.contract c.args.quantity c.args.limit said.0 reads room prices held few (changed ∙ ap (λ (x : Change). row_with set' x row) c.of_hold-change.ensures.change) (added ∙ ap (λ (y : Held). with_hold a y) c.new_hold-held.ensures.held))
+    subst (λ (u : _). IsKept set' (floor r.origins.items (set r.accounts.items at.0 c.enter_hold.new.owner) (set r.rows.items u c.enter_hold.new.row) r.closed r.version)) (sym c.unit.ensures)
+    (hold-kept set' r.origins.items r.accounts.items r.rows.items r.closed r.version at.0 at.1 a c.enter_hold.new.owner row c.enter_hold.new.row c.args.order c.args.contract c.args.quantity c.args.limit said.0 reads room prices held few (changed ∙ ap (λ (x : Change). row_with set' x row) c.of_hold-change.ensures.change) (added ∙ ap (λ (y : Held). with_hold a y) c.new_hold-held.ensures.held))
 
 pub returns-clause-steps : goal.returns-clause-steps
 returns-clause-steps c =
     let r = c.self.inside in
     let set' = c.args.set.now in
-    let f = floor r.origins.items r.accounts.items r.rows.items r.closed in
+    let f = floor r.origins.items r.accounts.items r.rows.items r.closed r.version in
     let at = c.in-Ok.places in
     let a = c.index_mut-owner.result.now in
     let row = c.index_mut-row.result.now in
@@ -149,7 +149,7 @@ returns-clause-steps c =
     subst (λ (g : Floor). hold_places set' g.state c.args.account c.args.order c.args.contract c.args.quantity c.args.limit ≡ Ok at) (sym c.self.view_is) (sym c.in-Ok.ensures.places)
     in
     let added : c.enter_hold.new.owner ≡ with_hold a c.new_hold-held.result = search rules in
-    let new : Floor = floor r.origins.items (set r.accounts.items at.0 c.enter_hold.new.owner) (set r.rows.items c.unit.result c.enter_hold.new.row) r.closed in
+    let new : Floor = floor r.origins.items (set r.accounts.items at.0 c.enter_hold.new.owner) (set r.rows.items c.unit.result c.enter_hold.new.row) r.closed r.version in
     subst (λ (g : Floor). entered set' g.state c.args.account c.args.order c.args.contract c.args.quantity c.args.limit ≡ Ok new.state) c.self.view_is
-    (hold-done set' r.origins.items r.accounts.items r.rows.items r.closed at c.unit.result a c.enter_hold.new.owner row c.enter_hold.new.row c.args.account c.args.order c.args.contract c.args.quantity c.args.limit reads places asks
+    (hold-done set' r.origins.items r.accounts.items r.rows.items r.closed r.version at c.unit.result a c.enter_hold.new.owner row c.enter_hold.new.row c.args.account c.args.order c.args.contract c.args.quantity c.args.limit reads places asks
     (added ∙ ap (λ (y : Held). with_hold a y) c.new_hold-held.ensures.held))

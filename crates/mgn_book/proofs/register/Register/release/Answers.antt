@@ -18,7 +18,7 @@ pub release_hold-requires-clause-roomy : goal.release_hold-requires-clause-roomy
 release_hold-requires-clause-roomy c =
     let r = c.self.inside in
     let set' = c.args.set.now in
-    let f = floor r.origins.items r.accounts.items r.rows.items r.closed in
+    let f = floor r.origins.items r.accounts.items r.rows.items r.closed r.version in
     let at = c.in-Ok.places in
     let a = c.index_mut-owner.result.now in
     let account : a ≡ account_at c.args.self.now.state.accounts c.in-Ok.places.0 =
@@ -47,7 +47,7 @@ pub returns-in-Err-release_hold-clause-kept : goal.returns-in-Err-release_hold-c
 returns-in-Err-release_hold-clause-kept c =
     let r = c.self.inside in
     let set' = c.args.set.now in
-    let f = floor r.origins.items r.accounts.items r.rows.items r.closed in
+    let f = floor r.origins.items r.accounts.items r.rows.items r.closed r.version in
     let at = c.in-Ok.places in
     let a = c.index_mut-owner.result.now in
     let account : a ≡ account_at c.args.self.now.state.accounts c.in-Ok.places.0 =
@@ -69,7 +69,7 @@ returns-in-Err-release_hold-clause-kept c =
     } in
     let same : c.release_hold.new.owner ≡ a = search rules in
     let same_row : c.release_hold.new.row ≡ row = search rules in
-    subst (IsKept set') (sym (same-floor r.origins.items r.accounts.items r.rows.items r.closed at.0 c.unit.result a c.release_hold.new.owner row c.release_hold.new.row c.index_mut-owner.ensures.value c.index_mut-row.ensures.value same same_row))
+    subst (IsKept set') (sym (same-floor r.origins.items r.accounts.items r.rows.items r.closed r.version at.0 c.unit.result a c.release_hold.new.owner row c.release_hold.new.row c.index_mut-owner.ensures.value c.index_mut-row.ensures.value same same_row))
     reads.kept
 
 pub invariant_of-self-2 : goal.invariant_of-self-2
@@ -83,7 +83,7 @@ pub returns-clause-kept : goal.returns-clause-kept
 returns-clause-kept c =
     let r = c.self.inside in
     let set' = c.args.set.now in
-    let f = floor r.origins.items r.accounts.items r.rows.items r.closed in
+    let f = floor r.origins.items r.accounts.items r.rows.items r.closed r.version in
     let at = c.in-Ok.places in
     let a = c.index_mut-owner.result.now in
     let account : a ≡ account_at c.args.self.now.state.accounts c.in-Ok.places.0 =
@@ -111,5 +111,5 @@ returns-clause-kept c =
     let changed : c.release_hold.new.row ≡ row_with set' c.of_release-change.result row = search rules in
     let released : c.release_hold.new.owner ≡ without_hold a at.1 = search rules in
     let room : IsRoomy change row = release-roomy set' f at.0 c.held_contract-i.result at.1 a row reads inside in
-    subst (λ (u : _). IsKept set' (floor r.origins.items (set r.accounts.items at.0 c.release_hold.new.owner) (set r.rows.items u c.release_hold.new.row) r.closed)) (sym c.unit.ensures)
-    (release-kept set' r.origins.items r.accounts.items r.rows.items r.closed at.0 c.held_contract-i.result at.1 a c.release_hold.new.owner row c.release_hold.new.row said.0 reads inside room prices (changed ∙ ap (λ (y : Change). row_with set' y row) is) released)
+    subst (λ (u : _). IsKept set' (floor r.origins.items (set r.accounts.items at.0 c.release_hold.new.owner) (set r.rows.items u c.release_hold.new.row) r.closed r.version)) (sym c.unit.ensures)
+    (release-kept set' r.origins.items r.accounts.items r.rows.items r.closed r.version at.0 c.held_contract-i.result at.1 a c.release_hold.new.owner row c.release_hold.new.row said.0 reads inside room prices (changed ∙ ap (λ (y : Change). row_with set' y row) is) released)

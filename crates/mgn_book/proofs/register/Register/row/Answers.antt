@@ -10,7 +10,7 @@ use Rattle.mgn_book.proofs.register.Register.row.Goals as goal
 there : (c : goal.After-index-2) → IsUnitRow c.args.set.now c.args.self.now.state.accounts c.index.result.now.unit c.index-2.result.now
 there c =
     let r = c.self.inside in
-    let f = floor r.origins.items r.accounts.items r.rows.items r.closed in
+    let f = floor r.origins.items r.accounts.items r.rows.items r.closed r.version in
     let kept : IsKept c.args.set.now f = search rules in
     let within : c.args.place < length r.accounts.items = search rules in
     subst (λ (g : Floor). IsUnitRow c.args.set.now g.state.accounts c.index.result.now.unit c.index-2.result.now) c.self.view_is

@@ -1,0 +1,62 @@
+-- A command leaves the set in force.
+use Rattle.std.proofs.Common.{◌≡◌, ℕ, Bool, true, false, refl, Result, Ok, Err, Option, None, Some, List, cond}
+use Rattle.std.specs.Prelude.{pos, int_lt}
+use Rattle.mgn_params.specs.Tables.{Tables}
+use Rattle.mgn_machine.specs.declared.command.Command.{Command}
+use Rattle.mgn_machine.specs.declared.command.Command.TheVariants.{NewOrigin, NewAccount, Trade, Bust, Post, Draw, Ask, EndDay, Hold, Fill, Release}
+use Rattle.mgn_machine.specs.declared.command.Mode.{Mode}
+use Rattle.mgn_machine.specs.declared.command.Mode.TheVariants.{Gross, Net}
+use Rattle.mgn_machine.specs.declared.reply.Refusal.{Refusal}
+use Rattle.mgn_machine.specs.declared.reply.Refusal.TheVariants.{NoRoom}
+use Rattle.mgn_machine.specs.State.{State}
+use Rattle.mgn_machine.specs.Refusals.{◌>>=◌, if_room}
+use Rattle.mgn_machine.specs.Rows.{row_of, room_of, least_side}
+use Rattle.mgn_machine.specs.Holding.{entered, filled, released}
+use Rattle.mgn_machine.specs.Step.{answered, step_under, with_origin, with_account, originated, opened, traded, undone, posted, drawn, ended}
+
+-- what a change leads to, if it is done, is of the version
+abbrev Leads : ℕ → Result State Refusal → Type 0
+Leads version (Ok now) = now.version ≡ version
+Leads version (Err why) = Unit {0}
+
+record IsOf (version : ℕ) (r : Result State Refusal) : Type 0 where
+  leads : Leads version r
+
+of_answer : (s : State) (r : Result State Refusal) → IsOf s.version r → (answered s r).0.version ≡ s.version
+of_answer s (Ok now) same = same.leads
+of_answer s (Err why) none = refl
+
+of_done : (version : ℕ) (now : State) → now.version ≡ version → IsOf version (Ok now)
+of_done version now same = record { leads = same }
+
+of_chain : {X : Type 0} (version : ℕ) (r : Result X Refusal) (f : X → Result State Refusal) → ((x : X) → IsOf version (f x)) → IsOf version (r >>= f)
+of_chain version (Ok x) f each = each x
+of_chain version (Err why) f each = record { leads = tt }
+
+of_origin : (s : State) (name : List ℕ) (mode : Mode) → IsOf s.version (Ok (with_origin s name mode))
+of_origin s name Gross = of_done s.version _ refl
+of_origin s name Net = of_done s.version _ refl
+
+of_account : (s : State) (name : List ℕ) (unit : Option ℕ) → IsOf s.version (Ok (with_account s name unit))
+of_account s name None = of_done s.version _ refl
+of_account s name (Some u) = of_done s.version _ refl
+
+of_test : (b : Bool) (version : ℕ) (now : State) → now.version ≡ version → IsOf version (cond b (Err NoRoom) (Ok now))
+of_test true version now same = record { leads = tt }
+of_test false version now same = of_done version now same
+
+of_room : (set' : Tables) (u version : ℕ) (now : State) → now.version ≡ version → IsOf version (if_room set' u now)
+of_room set' u version now same = of_test (int_lt (room_of (least_side (row_of set' now.accounts u))) (pos 0)) version now same
+
+pub keeps_version : (set' : Tables) (s : State) (command : Command) → (step_under set' s command).0.version ≡ s.version
+keeps_version set' s (NewOrigin name mode) = of_answer s (originated s name mode) (of_chain s.version _ _ (λ _. of_origin s name mode))
+keeps_version set' s (NewAccount account origin) = of_answer s (opened s account origin) (of_chain s.version _ _ (λ u. of_account s account u))
+keeps_version set' s (Trade account lot contract quantity premium) = of_answer s (traded set' s account lot contract quantity premium) (of_chain s.version _ _ (λ _. of_done s.version _ refl))
+keeps_version set' s (Bust account lot) = of_answer s (undone s account lot) (of_chain s.version _ _ (λ _. of_done s.version _ refl))
+keeps_version set' s (Hold account order contract quantity limit) = of_answer s (entered set' s account order contract quantity limit) (of_chain s.version _ _ (λ at. of_room set' _ s.version _ refl))
+keeps_version set' s (Fill account order lot quantity premium) = of_answer s (filled set' s account order lot quantity premium) (of_chain s.version _ _ (λ _. of_done s.version _ refl))
+keeps_version set' s (Release account order) = of_answer s (released s account order) (of_chain s.version _ _ (λ _. of_done s.version _ refl))
+keeps_version set' s (Post account class units) = of_answer s (posted set' s account class units) (of_chain s.version _ _ (λ _. of_done s.version _ refl))
+keeps_version set' s (Draw account class units) = of_answer s (drawn set' s account class units) (of_chain s.version _ _ (λ at. of_room set' _ s.version _ refl))
+keeps_version set' s (Ask account) = refl
+keeps_version set' s EndDay = of_answer s (ended s) (of_chain s.version _ _ (λ _. of_done s.version _ refl))

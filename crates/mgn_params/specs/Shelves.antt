@@ -1,0 +1,15 @@
+-- The sets of a book by version (own profile): 0 for the first, then one more with each that is put.
+use Rattle.std.specs.Prelude.{ℕ, ◌<◌, ◌≤◌, List, [], length, slice_index_or}
+use Rattle.mgn_params.specs.Tables.{Tables, no_tables}
+
+-- the first set and at most 64 more
+pub record IsShelf (sets : List Tables) : Type 0 where
+  pub first : 0 < length sets
+  pub few : length sets ≤ 65
+
+abbrev pub IsVersion : ℕ → Type 0
+IsVersion number = number ≤ 64
+
+-- the set that a version shows
+abbrev pub set_at : List Tables → ℕ → Tables
+set_at sets version = slice_index_or sets version (no_tables [])
