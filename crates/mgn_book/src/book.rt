@@ -71,7 +71,8 @@ impl Book {
         ensures count { result ≡ calls session self.now.history }
         ensures few { result ≤ 1000000 }
     {
-        self.counts[session.number() as usize - 1]
+        let place = session.number() as usize - 1;
+        self.counts[place]
     }
 
     /// What every book meets: no work, a fact for callers.

@@ -7,6 +7,8 @@ pub mod fraction;
 pub mod quantity;
 pub mod reading;
 pub mod tenk;
+#[cfg(test)]
+mod tests;
 
 pub use cents::Cents;
 pub use fraction::{mul_div_ceil, mul_div_floor};
