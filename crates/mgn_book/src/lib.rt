@@ -8,6 +8,8 @@ pub mod holds;
 pub mod origins;
 pub mod register;
 pub mod step;
+#[cfg(test)]
+mod tests;
 
 pub use book::{Book, Outcome};
 pub use fault::Fault;
