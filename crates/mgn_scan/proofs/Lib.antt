@@ -1,0 +1,2 @@
+-- The totals after a change of one net.
+pub mod TotalsLemmas
