@@ -115,6 +115,13 @@ impl OptionSums {
         net_at(&self.nets, contract)
     }
 
+    /// The nets, one for each contract of the set in file order.
+    pub fn nets(&self) -> &[Quantity]
+        ensures { result.now ≡ self.now.nets }
+    {
+        self.nets.as_slice()
+    }
+
     /// The short option minimum of a commodity in cents, 0 to 256 * 10^16: its charge for each option sold and not
     /// bought back, puts and calls added (CME SPAN).
     pub fn minimum(&self, commodity: usize) -> Cents

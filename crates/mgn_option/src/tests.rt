@@ -12,8 +12,15 @@ use std::test::Fail;
 
 // A future of AAA, a call on it that is paid for at once, a put that is margined like the future, and a put on BBB that
 // is paid for at once.
-const OPTIONS: &str =
-    "H,1,OPT\nG,AAA,25\nG,BBB,7\nM,AAA,1,1\nM,BBB,1,1\nK,AAA1,AAA,1,F,F,10000,0,0,0,-100,-100,100,100,-200,-200,200,200,-300,-300,300,300,-210,210\nK,AAAC,AAA,1,C,P,5000,60,-10,12,-70,-50,40,50,-140,-120,52,58,-220,-205,57,60,-160,20\nK,AAAP,AAA,1,P,F,-5000,0,0,0,50,50,-50,-50,100,100,-100,-100,150,150,-150,-150,105,-105\nK,BBBP,BBB,1,P,P,-5000,11,0,0,5,5,-5,-5,10,10,-9,-9,15,15,-10,-10,11,-11\n";
+const OPTIONS: &str = "H,1,OPT\n\
+G,AAA,25\n\
+G,BBB,7\n\
+M,AAA,1,1\n\
+M,BBB,1,1\n\
+K,AAA1,AAA,1,F,F,10000,0,0,0,-100,-100,100,100,-200,-200,200,200,-300,-300,300,300,-210,210\n\
+K,AAAC,AAA,1,C,P,5000,60,-10,12,-70,-50,40,50,-140,-120,52,58,-220,-205,57,60,-160,20\n\
+K,AAAP,AAA,1,P,F,-5000,0,0,0,50,50,-50,-50,100,100,-100,-100,150,150,-150,-150,105,-105\n\
+K,BBBP,BBB,1,P,P,-5000,11,0,0,5,5,-5,-5,10,10,-9,-9,15,15,-10,-10,11,-11\n";
 
 // A change of the net of a contract, and the minimums of AAA and BBB and the net option value after it.
 #[derive(Drop)]

@@ -13,12 +13,25 @@ use std::process::Abort;
 use std::test::Fail;
 
 // Two futures and an option of AAA, and a future of BBB.
-const ONE: &str =
-    "H,1,ONE\nG,AAA,25\nG,BBB,0\nM,AAA,1,1\nM,AAA,2,2\nM,BBB,1,1\nK,AAA1,AAA,1,F,F,10000,0,0,0,-100,-100,100,100,-200,-200,200,200,-300,-300,300,300,-210,210\nK,AAA2,AAA,2,F,F,10000,0,0,0,-90,-90,90,90,-180,-180,180,180,-270,-270,270,270,-189,189\nK,AAAC,AAA,1,C,P,5000,60,-10,12,-70,-50,40,50,-140,-120,52,58,-220,-205,57,60,-160,20\nK,BBB1,BBB,1,F,F,10000,0,0,0,-50,-50,50,50,-100,-100,100,100,-150,-150,150,150,-105,105\n";
+const ONE: &str = "H,1,ONE\n\
+G,AAA,25\n\
+G,BBB,0\n\
+M,AAA,1,1\n\
+M,AAA,2,2\n\
+M,BBB,1,1\n\
+K,AAA1,AAA,1,F,F,10000,0,0,0,-100,-100,100,100,-200,-200,200,200,-300,-300,300,300,-210,210\n\
+K,AAA2,AAA,2,F,F,10000,0,0,0,-90,-90,90,90,-180,-180,180,180,-270,-270,270,270,-189,189\n\
+K,AAAC,AAA,1,C,P,5000,60,-10,12,-70,-50,40,50,-140,-120,52,58,-220,-205,57,60,-160,20\n\
+K,BBB1,BBB,1,F,F,10000,0,0,0,-50,-50,50,50,-100,-100,100,100,-150,-150,150,150,-105,105\n";
 
 // A future that gains in every scenario, and one that does not move.
-const WIN: &str =
-    "H,1,WIN\nG,AAA,25\nG,BBB,0\nM,AAA,1,1\nM,BBB,1,1\nK,AAA1,AAA,1,F,F,10000,0,-5,-5,-5,-5,-5,-5,-5,-5,-5,-5,-5,-5,-5,-5,-5,-5\nK,BBB1,BBB,1,F,F,10000,0,0,0,0,0,0,0,0,0,0,0,0,0,0,0,0,0\n";
+const WIN: &str = "H,1,WIN\n\
+G,AAA,25\n\
+G,BBB,0\n\
+M,AAA,1,1\n\
+M,BBB,1,1\n\
+K,AAA1,AAA,1,F,F,10000,0,-5,-5,-5,-5,-5,-5,-5,-5,-5,-5,-5,-5,-5,-5,-5,-5\n\
+K,BBB1,BBB,1,F,F,10000,0,0,0,0,0,0,0,0,0,0,0,0,0,0,0,0,0\n";
 
 // Scan risk, place of the active scenario and doubled price risk.
 type Scanned = (i128, usize, i128);
