@@ -2,6 +2,7 @@
 //! calculation worked out anew costs on the same nets. Does nothing without the word `measure`.
 #![tactic(auto)]
 
+mod files;
 mod option_run;
 mod parts;
 mod plain_run;
@@ -9,19 +10,18 @@ mod scan_run;
 mod side;
 #[cfg(test)]
 mod tests;
-mod texts;
 
 ghost use Rattle.std.specs.Prelude.{◌≡◌, ◌≤◌, pos, replicate, IfOk};
 
 use anyhow::{Result, bail};
+use files::set_file;
 use mgn_num::Quantity;
 use mgn_option::OptionSums;
 use mgn_params::{ParamSet, read_set};
 use mgn_scan::ScanTotals;
-use std::alloc::{AllocError, Global};
+use std::alloc::Global;
 use std::env;
 use std::rt::{Clock, Env};
-use texts::set_text;
 
 /// As many changes are measured in each set.
 const CHANGES: usize = 1_048_576;
@@ -38,7 +38,7 @@ fn is_asked(rt: &(impl Env + Alloc)) -> Result<bool> {
     Ok(false)
 }
 
-fn flat_nets(alloc: Global, count: usize) -> std::result::Result<Vec<Quantity>, AllocError>
+fn flat_nets(alloc: Global, count: usize) -> Result<Vec<Quantity>>
     ensures { IfOk result (λ nets. nets.items ≡ replicate count (pos 0)) }
 {
     let mut nets = Vec::new(alloc);
@@ -46,46 +46,70 @@ fn flat_nets(alloc: Global, count: usize) -> std::result::Result<Vec<Quantity>, 
     Ok(nets)
 }
 
-// What a call took, in picoseconds.
+// The file of a set of so many commodities, with so many contracts each, read.
+fn set_of(alloc: Global, commodities: usize, contracts: usize) -> Result<ParamSet>
+    requires commodities { commodities ≤ 256 }
+    requires contracts { contracts ≤ 256 }
+{
+    let file = set_file(alloc, commodities, contracts)?;
+    let Ok(set) = read_set(alloc, &file) else {
+        bail!("the set is not read");
+    };
+    Ok(set)
+}
+
+// Nanoseconds that the calls of each kind took, and what their answers come to.
+#[derive(Clone, Copy)]
+struct Costs {
+    totals: u128,
+    sums: u128,
+    questions: u128,
+    anew: u128,
+    answers: i128,
+}
+
+// An odd number of rounds leaves each net at one contract, so the requirement anew reads each array.
+fn measure(clock: &impl Clock, alloc: Global, set: &ParamSet) -> Result<Costs> {
+    let rounds = CHANGES / set.contract_count().max(1) + 1;
+    let mut nets = flat_nets(alloc, set.contract_count())?;
+    let mut totals = ScanTotals::new(alloc, set)?;
+    let mut sums = OptionSums::new(alloc, set)?;
+    let followed = scan_run::measure(clock, set, &mut nets, &mut totals, rounds)?;
+    let summed = option_run::measure(clock, set, &mut sums, rounds)?;
+    let commodities = set.commodity_count();
+    let (asked, first) = scan_run::measure_questions(clock, &totals, commodities, rounds)?;
+    let (anew, second) = plain_run::measure(clock, alloc, set, &nets, ANEW)?;
+    Ok(Costs {
+        totals: followed,
+        sums: summed,
+        questions: asked,
+        anew,
+        answers: first.wrapping_add(second),
+    })
+}
+
+// What one of so many calls took, in picoseconds.
 fn each(nanoseconds: u128, calls: usize) -> u128 {
     nanoseconds.saturating_mul(1_000) / calls.max(1) as u128
 }
 
-// A line of costs for a set of so many commodities with so many contracts each.
-fn report(
-    rt: &(impl Clock + Print),
-    alloc: Global,
-    commodities: usize,
-    contracts: usize,
-) -> Result<()>
-    requires commodities { commodities ≤ 256 }
-    requires contracts { contracts ≤ 256 }
-{
-    let text = set_text(alloc, commodities, contracts)?;
-    let Ok(set) = read_set(alloc, text.as_bytes()) else {
-        bail!("the set is not read");
-    };
-    let mut nets = flat_nets(alloc, set.contract_count())?;
-    let mut totals = ScanTotals::new(alloc, &set)?;
-    let mut sums = OptionSums::new(alloc, &set)?;
+// A line of costs.
+fn report(rt: &impl Print, set: &ParamSet, costs: Costs) -> Result<()> {
     let count = set.contract_count().max(1);
-    let rounds = CHANGES / count + 1;
-    let scan = scan_run::measure(rt, &set, &mut nets, &mut totals, rounds)?;
-    let option = option_run::measure(rt, &set, &mut sums, rounds)?;
-    let asked = CHANGES / set.commodity_count().max(1);
-    let (questions, first) = scan_run::measure_questions(
-        rt,
-        &totals,
-        set.commodity_count(),
-        asked,
-    )?;
-    let (anew, second) = plain_run::measure(rt, alloc, &set, &nets, ANEW)?;
+    let calls = (CHANGES / count + 1).saturating_mul(count);
+    let questions = (CHANGES / count + 1).saturating_mul(set.commodity_count());
     println!(rt;
-        "{commodities} of {contracts}: {} {} {} {} (sums {first} {second})",
-        each(scan, rounds.saturating_mul(count)),
-        each(option, rounds.saturating_mul(count)),
-        each(questions, CHANGES),
-        each(anew, ANEW)
+        "{} commodities, {} contracts:",
+        set.commodity_count(),
+        count
+    )?;
+    println!(rt;
+        "  {} {} {} {} (answers {})",
+        each(costs.totals, calls),
+        each(costs.sums, calls),
+        each(costs.questions, questions),
+        each(costs.anew, ANEW),
+        costs.answers
     )?;
     Ok(())
 }
@@ -98,7 +122,9 @@ fn main(rt: HostRuntime) -> Result<()> {
         "picoseconds for a change of the totals, one of the option sums, the scan questions of a commodity, and the requirement anew:"
     )?;
     for (commodities, contracts) in [(1, 1), (1, 16), (1, 256), (16, 1), (256, 1), (256, 16)] {
-        report(&rt, rt.alloc(), commodities, contracts)?;
+        let set = set_of(rt.alloc(), commodities, contracts)?;
+        let costs = measure(&rt, rt.alloc(), &set)?;
+        report(&rt, &set, costs)?;
     }
     Ok(())
 }

@@ -77,25 +77,22 @@ pub fn measure(
     Ok(start.elapsed(clock)?.as_nanos())
 }
 
-/// The nanoseconds of asking so often for the scan risk, the active scenario and the doubled price risk of each
-/// commodity, and a sum of the answers.
+/// The nanoseconds of so many rounds, each of which asks for the scan risk and the doubled price risk of each commodity,
+/// and what the answers come to.
 pub fn measure_questions(
     clock: &impl Clock,
     totals: &ScanTotals,
     commodities: usize,
     rounds: usize,
 ) -> io::Result<(u128, i128)>
-    requires { commodities ≡ length totals.now }
+    requires { commodities ≤ length totals.now }
 {
     let mut sum: i128 = 0;
     let start = Instant::now(clock)?;
     for _ in 0..rounds {
         for g in 0..commodities {
-            let asked = totals
-                .scan(g)
-                .amount()
-                .wrapping_add(totals.price_risk2(g).amount());
-            sum = sum.wrapping_add(asked);
+            sum = sum.wrapping_add(totals.scan(g).amount());
+            sum = sum.wrapping_add(totals.price_risk2(g).amount());
         }
     }
     Ok((start.elapsed(clock)?.as_nanos(), sum))

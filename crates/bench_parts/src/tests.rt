@@ -6,8 +6,8 @@ mod sets;
 ghost use Rattle.std.specs.Prelude.{◌≡◌, ◌*◌, ◌<◌, ◌≤◌, ◌^◌, length, unsigned_abs};
 ghost use Rattle.bench_parts.specs.Parts.{AreParts};
 
+use crate::files::set_file;
 use crate::parts::Parts;
-use crate::texts::set_text;
 use mgn_num::Quantity;
 use mgn_params::{ParamSet, Work, read_set};
 use mgn_plain::figures;
@@ -17,17 +17,17 @@ use std::process::Abort;
 use std::test::Fail;
 
 // The sets; proofs need not know their bytes.
-fn set_text_of(number: usize) -> &'static str {
+fn set_file_of(number: usize) -> &'static [u8] {
     match number {
-        0 => ONE,
-        1 => FUT,
-        2 => TWO,
-        3 => ODD,
-        4 => FLAT,
-        5 => NEG,
-        6 => WIN,
-        7 => SPOT,
-        _ => SPODD,
+        0 => ONE.as_bytes(),
+        1 => FUT.as_bytes(),
+        2 => TWO.as_bytes(),
+        3 => ODD.as_bytes(),
+        4 => FLAT.as_bytes(),
+        5 => NEG.as_bytes(),
+        6 => WIN.as_bytes(),
+        7 => SPOT.as_bytes(),
+        _ => SPODD.as_bytes(),
     }
 }
 
@@ -105,23 +105,21 @@ fn agree_after_all(rt: &impl Abort, alloc: Global, set: &ParamSet) -> Result<(),
     Ok(())
 }
 
-fn check(rt: &impl Abort, alloc: Global, text: &str) -> Result<(), Fail> {
-    let set = read_set(alloc, text.as_bytes())
-        .ok()
-        .ok_or("the set is not read")?;
+fn check(rt: &impl Abort, alloc: Global, file: &[u8]) -> Result<(), Fail> {
+    let set = read_set(alloc, file).ok().ok_or("the set is not read")?;
     agree_after_all(rt, alloc, &set)
 }
 
 #[test]
 fn follows_the_calculation(rt: HostRuntime) -> Result<(), Fail> {
     for number in 0..9 {
-        check(&rt, rt.alloc(), set_text_of(number))?;
+        check(&rt, rt.alloc(), set_file_of(number))?;
     }
     Ok(())
 }
 
 #[test]
 fn follows_the_calculation_of_many_contracts(rt: HostRuntime) -> Result<(), Fail> {
-    let text = set_text(rt.alloc(), 3, 5)?;
-    check(&rt, rt.alloc(), text.as_str())
+    let file = set_file(rt.alloc(), 3, 5)?;
+    check(&rt, rt.alloc(), &file)
 }
