@@ -23,6 +23,17 @@ impl Model for Total {
     ghost inverse = { λ z. record { cents = z } };
 }
 
+// A quantity of a contract at an array's value.
+#[tactic(auto, using(crate::proofs::ProductLemmas::product_small))]
+fn product(quantity: Quantity, value: &i64) -> i64
+    requires quantity { unsigned_abs quantity ≤ 2 * 10 ^ 7 }
+    requires value { unsigned_abs value.now ≤ 10 ^ 8 }
+    ensures product { result ≡ quantity *ℤ value.now }
+    ensures small { unsigned_abs result ≤ 2 * 10 ^ 15 }
+{
+    quantity.contracts() * *value
+}
+
 impl Total {
     ghost use Rattle.mgn_scan.specs.Totals.{IsTotal};
 
@@ -36,7 +47,7 @@ impl Total {
         ensures { result ≡ self +ℤ quantity *ℤ value.now }
     {
         Total {
-            cents: self.cents + quantity.contracts() * *value,
+            cents: self.cents + product(quantity, value),
         }
     }
 
