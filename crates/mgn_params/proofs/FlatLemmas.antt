@@ -183,6 +183,26 @@ requirement_flat set nets h =
     let risks = zero_signed_below (risk set (positions set.contracts nets)) (risk_flat set (positions set.contracts nets) held) (length set.commodities) in
     rw (risks, value_flat (positions set.contracts nets) held) refl
 
+pub AreFlat-replicate : (n : ℕ) → AreFlat (replicate n (pos 0))
+AreFlat-replicate n = All-replicate (λ (z : ℤ). z ≡ pos 0) n (pos 0) refl
+
 pub requirement_flat_replicate : (set : Tables) (n : ℕ) → requirement set (replicate n (pos 0)) ≡ pos 0
 requirement_flat_replicate set n =
-    requirement_flat set (replicate n (pos 0)) (All-replicate (λ (z : ℤ). z ≡ pos 0) n (pos 0) refl)
+    requirement_flat set (replicate n (pos 0)) (AreFlat-replicate n)
+
+-- and its totals, minimums and net option value are 0
+
+held_flat : (cs : List Contract) (ns : List ℤ) → AreFlat ns → IsFlat (positions cs ns)
+held_flat cs ns h =
+    flat_positions cs ns (recursion_from_All (λ (n : ℤ). n ≡ pos 0) ns h)
+
+pub scenario_total_flat : (cs : List Contract) (ns : List ℤ) (g s : ℕ) → AreFlat ns → scenario_total g (positions cs ns) s ≡ pos 0
+scenario_total_flat cs ns g s h =
+    total_flat (positions cs ns) (held_flat cs ns h) g s
+
+pub short_option_minimum_flat : (cs : List Contract) (ns : List ℤ) (g charge : ℕ) → AreFlat ns → short_option_minimum (positions cs ns) g charge ≡ 0
+short_option_minimum_flat cs ns g charge h =
+    minimum_flat (positions cs ns) (held_flat cs ns h) g charge
+
+pub net_option_value_flat : (cs : List Contract) (ns : List ℤ) → AreFlat ns → net_option_value (positions cs ns) ≡ pos 0
+net_option_value_flat cs ns h = value_flat (positions cs ns) (held_flat cs ns h)

@@ -3,7 +3,9 @@ pub mod Rows
 pub mod LimitsLemmas
 pub mod FlatLemmas
 pub mod PositionLemmas
+pub mod ShareLemmas
 pub mod ActiveLemmas
+pub mod ScanLemmas
 pub mod StageLemmas
 pub mod NameLemmas
 pub mod RecordLemmas

@@ -5,7 +5,7 @@ use Rattle.std.specs.List.{sum_by}
 use Rattle.std.proofs.lemmas.Bool.{cases_lt}
 use Rattle.std.proofs.lemmas.Int.{ints}
 use Rattle.std.proofs.lemmas.List.{get_or_past}
-use Rattle.std.proofs.lemmas.List.Sums.{fold_more}
+use Rattle.std.proofs.lemmas.List.Sums.{fold_more, get_or-le-sum_by, sum_by-set}
 use Rattle.std.proofs.lemmas.Slice.Zip.{get_or-zip, length-zip}
 use Rattle.mgn_num.proofs.SignedLemmas.{signed_sum_by-set}
 use Rattle.mgn_num.specs.Signed.{signed_sum_by}
@@ -59,6 +59,23 @@ position_sum-set f cs ns i n h e =
     let moved = signed_sum_by-set f (positions cs ns) i (contract_at cs i, n) (no_contract, pos 0) within in
     let was = ap f (position_at cs ns i h e) in
     omega (arith, ints, written, moved, was)
+
+-- the same for what is counted without a sign
+pub position_count-set : (f : Position → ℕ) (cs : List Contract) (ns : List ℤ) (i : ℕ) (n : ℤ) → i < length cs → length ns ≡ length cs → sum_by f (positions cs (set ns i n)) + f (contract_at cs i, value_at ns i) ≡ sum_by f (positions cs ns) + f (contract_at cs i, n)
+position_count-set f cs ns i n h e =
+    let within : i < length (positions cs ns) = omega (arith, length_positions cs ns e) in
+    let written = ap (λ (ps : List Position). sum_by f ps) (positions-set cs ns i n e) in
+    let moved = sum_by-set f (positions cs ns) i (contract_at cs i, n) (no_contract, pos 0) within in
+    let was = ap f (position_at cs ns i h e) in
+    omega (arith, written, moved, was)
+
+-- what one position counts for is no more than what all do
+pub position_count-le : (f : Position → ℕ) (cs : List Contract) (ns : List ℤ) (i : ℕ) → i < length cs → length ns ≡ length cs → f (contract_at cs i, value_at ns i) ≤ sum_by f (positions cs ns)
+position_count-le f cs ns i h e =
+    let within : i < length (positions cs ns) = omega (arith, length_positions cs ns e) in
+    let one = get_or-le-sum_by f (positions cs ns) i (no_contract, pos 0) within in
+    let was = ap f (position_at cs ns i h e) in
+    omega (arith, one, was)
 
 -- each value of an array of small numbers is small
 pub value_at_small : (array : List ℤ) (most s : ℕ) → All (λ a. unsigned_abs a ≤ most) array → unsigned_abs (value_at array s) ≤ most

@@ -17,7 +17,7 @@ use Rattle.mgn_params.specs.Tables.{Tables, contract_at, no_contract, month_at}
 use Rattle.mgn_plain.specs.Kept.{start_share, month_start, month_net, month_net_share, leg_of, legs_row}
 use Rattle.mgn_plain.specs.Parts.{AreDeltas, AreNets}
 use Rattle.mgn_params.proofs.PositionLemmas.{position_sum_more}
-use Rattle.mgn_plain.proofs.PositionLemmas.{share_sum_by_count, month_share_small}
+use Rattle.mgn_params.proofs.ShareLemmas.{share_sum_by_count, month_share_small}
 use Rattle.mgn_plain.proofs.SumLemmas.{sum_below_same, signed_sum_below_same, sum_below_le, sum_below_none, signed_sum_below_none, sum_below_grown, signed_sum_below_grown, sum_below_one, signed_sum_below_one, sum_below_if}
 
 -- a month counts for at most its delta's size

@@ -23,14 +23,14 @@ use Rattle.mgn_plain.specs.Kept.{leg_of, legs_row, total_of, totals_of}
 use Rattle.mgn_plain.specs.Parts.{AreCharges, AreChargesFrom, AreCredits, AreCreditsFrom, AreDeltas, AreNetDeltas, AreFigureRows, AreRisks, AreStarts, AreTotals}
 use Rattle.mgn_plain.specs.Rests.{AreCreditNumbers}
 use Rattle.mgn_plain.proofs.DeltaLemmas.{net_is, net_small, start_is, start_small, starts_are}
-use Rattle.mgn_plain.proofs.PositionLemmas.{scenario_total_small}
-use Rattle.mgn_plain.proofs.ScanLemmas.{active_same, scan_risk_same, price_risk2_same, price_risk2_small}
+use Rattle.mgn_params.proofs.ShareLemmas.{scenario_total_small}
+use Rattle.mgn_params.proofs.ScanLemmas.{active_same, scan_risk_same, price_risk2_same, price_risk2_small}
 use Rattle.mgn_plain.proofs.StageLemmas.{charges_of-small, kept_charge_is, stages_of-are, stages_of-few}
 
 -- no kept total is large
 pub total_small : (t : Tables) (nets : List ℤ) (rows : List (List ℤ)) (g s : ℕ) → IsWithinLimits t → AreTotals t nets rows → g < length t.commodities → s < 16 → unsigned_abs (total_of rows g s) ≤ 256 * 10 ^ 15
 total_small t nets rows g s limits are h k =
-    omega (arith, ints, are.each g s h k, scenario_total_small t nets g s limits are.of_nets)
+    omega (arith, ints, are.each g s h k, scenario_total_small t nets g s limits are.of_nets.one_each are.of_nets.small)
 
 -- no kept start is large
 pub kept_start_small : (t : Tables) (nets deltas : List ℤ) (starts : List (List ℕ)) (g leg : ℕ) → IsWithinLimits t → AreDeltas t nets deltas → AreStarts t deltas starts → g < length t.commodities → leg < 16 → leg_of starts g leg ≤ 10 ^ 16

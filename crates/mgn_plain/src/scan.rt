@@ -77,7 +77,7 @@ fn add_position(
     }
 }
 
-#[tactic(auto, using(mgn_params::proofs::PositionLemmas::position_sum_more, mgn_params::proofs::PositionLemmas::position_sum_all, crate::proofs::PositionLemmas::scenario_share_small))]
+#[tactic(auto, using(mgn_params::proofs::PositionLemmas::position_sum_more, mgn_params::proofs::PositionLemmas::position_sum_all, mgn_params::proofs::ShareLemmas::scenario_share_small))]
 // Adds up the totals of the 16 scenarios of each commodity, one net for each contract of the set.
 pub(crate) fn add_positions(
     totals: &mut [[Cents; 16]],

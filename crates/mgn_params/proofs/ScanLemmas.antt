@@ -1,4 +1,4 @@
--- Scan figures of totals that agree in the 16 scenarios.
+-- Scan figures of totals that agree in the 16 scenarios, and their size.
 use Rattle.std.proofs.Common.{◌≡◌, ℕ, zero, suc, ◌*◌, ◌<◌, ◌≤◌, ap, ◌∙◌, arith, refl, pos, ℤ, unsigned_abs}
 use Rattle.std.specs.Int.{int_max}
 use Rattle.std.proofs.lemmas.Int.{ints}

@@ -1,0 +1,2 @@
+-- The running parts of one list of nets.
+pub mod Parts

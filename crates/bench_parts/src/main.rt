@@ -1,0 +1,130 @@
+//! Measures what a change of one net costs in the parts that follow it, in sets of different sizes, and what the whole
+//! calculation worked out anew costs on the same nets. Does nothing without the word `measure`.
+#![tactic(auto)]
+
+mod files;
+mod option_run;
+mod parts;
+mod plain_run;
+mod scan_run;
+mod side;
+#[cfg(test)]
+mod tests;
+
+ghost use Rattle.std.specs.Prelude.{◌≡◌, ◌≤◌, pos, replicate, IfOk};
+
+use anyhow::{Result, bail};
+use files::set_file;
+use mgn_num::Quantity;
+use mgn_option::OptionSums;
+use mgn_params::{ParamSet, read_set};
+use mgn_scan::ScanTotals;
+use std::alloc::Global;
+use std::env;
+use std::rt::{Clock, Env};
+
+/// As many changes are measured in each set.
+const CHANGES: usize = 1_048_576;
+
+/// As many requirements are worked out anew.
+const ANEW: usize = 100;
+
+fn is_asked(rt: &(impl Env + Alloc)) -> Result<bool> {
+    for word in env::args(rt)? {
+        if word.as_str() == "measure" {
+            return Ok(true);
+        }
+    }
+    Ok(false)
+}
+
+fn flat_nets(alloc: Global, count: usize) -> Result<Vec<Quantity>>
+    ensures { IfOk result (λ nets. nets.items ≡ replicate count (pos 0)) }
+{
+    let mut nets = Vec::new(alloc);
+    nets.resize(count, Quantity::ZERO)?;
+    Ok(nets)
+}
+
+// The file of a set of so many commodities, with so many contracts each, read.
+fn set_of(alloc: Global, commodities: usize, contracts: usize) -> Result<ParamSet>
+    requires commodities { commodities ≤ 256 }
+    requires contracts { contracts ≤ 256 }
+{
+    let file = set_file(alloc, commodities, contracts)?;
+    let Ok(set) = read_set(alloc, &file) else {
+        bail!("the set is not read");
+    };
+    Ok(set)
+}
+
+// Nanoseconds that the calls of each kind took, and what their answers come to.
+#[derive(Clone, Copy)]
+struct Costs {
+    totals: u128,
+    sums: u128,
+    questions: u128,
+    anew: u128,
+    answers: i128,
+}
+
+// An odd number of rounds leaves each net at one contract, so the requirement anew reads each array.
+fn measure(clock: &impl Clock, alloc: Global, set: &ParamSet) -> Result<Costs> {
+    let rounds = CHANGES / set.contract_count().max(1) + 1;
+    let mut nets = flat_nets(alloc, set.contract_count())?;
+    let mut totals = ScanTotals::new(alloc, set)?;
+    let mut sums = OptionSums::new(alloc, set)?;
+    let followed = scan_run::measure(clock, set, &mut nets, &mut totals, rounds)?;
+    let summed = option_run::measure(clock, set, &mut sums, rounds)?;
+    let commodities = set.commodity_count();
+    let (asked, first) = scan_run::measure_questions(clock, &totals, commodities, rounds)?;
+    let (anew, second) = plain_run::measure(clock, alloc, set, &nets, ANEW)?;
+    Ok(Costs {
+        totals: followed,
+        sums: summed,
+        questions: asked,
+        anew,
+        answers: first.wrapping_add(second),
+    })
+}
+
+// What one of so many calls took, in picoseconds.
+fn each(nanoseconds: u128, calls: usize) -> u128 {
+    nanoseconds.saturating_mul(1_000) / calls.max(1) as u128
+}
+
+// A line of costs.
+fn report(rt: &impl Print, set: &ParamSet, costs: Costs) -> Result<()> {
+    let count = set.contract_count().max(1);
+    let calls = (CHANGES / count + 1).saturating_mul(count);
+    let questions = (CHANGES / count + 1).saturating_mul(set.commodity_count());
+    println!(rt;
+        "{} commodities, {} contracts:",
+        set.commodity_count(),
+        count
+    )?;
+    println!(rt;
+        "  {} {} {} {} (answers {})",
+        each(costs.totals, calls),
+        each(costs.sums, calls),
+        each(costs.questions, questions),
+        each(costs.anew, ANEW),
+        costs.answers
+    )?;
+    Ok(())
+}
+
+fn main(rt: HostRuntime) -> Result<()> {
+    if !is_asked(&rt)? {
+        return Ok(());
+    }
+    println!(rt;
+        "picoseconds for a change of the totals, one of the option sums, the scan questions of a commodity, and the requirement anew:"
+    )?;
+    for (commodities, contracts) in [(1, 1), (1, 16), (1, 256), (16, 1), (256, 1), (256, 16)] {
+        let set = set_of(rt.alloc(), commodities, contracts)?;
+        let costs = measure(&rt, rt.alloc(), &set)?;
+        report(&rt, &set, costs)?;
+    }
+    Ok(())
+}

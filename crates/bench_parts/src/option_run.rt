@@ -1,0 +1,49 @@
+ghost use Rattle.std.specs.Prelude.{◌*◌, ◌<◌, ◌≤◌, ◌^◌, length, unsigned_abs};
+ghost use Rattle.mgn_option.specs.Sums.{AreSums};
+
+use crate::side::one_contract;
+use mgn_num::Quantity;
+use mgn_option::OptionSums;
+use mgn_params::ParamSet;
+use std::io;
+use std::rt::Clock;
+use std::time::Instant;
+
+/// Changes a net and its sums. A change that would take the net past its limit is not made.
+pub fn follow(set: &ParamSet, sums: &mut OptionSums, i: usize, quantity: Quantity)
+    requires sums { AreSums set.now sums.old }
+    requires contract { i < length set.now.contracts }
+    requires quantity { unsigned_abs quantity ≤ 2 * 10 ^ 7 }
+    ensures { AreSums set.now sums.new }
+{
+    if sums.net(i).plus(quantity).size() <= 10_000_000 {
+        sums.add(set, i, quantity);
+    }
+}
+
+// A contract more, or less, of each.
+fn follow_all(set: &ParamSet, sums: &mut OptionSums, quantity: Quantity)
+    requires sums { AreSums set.now sums.old }
+    requires quantity { unsigned_abs quantity ≤ 2 * 10 ^ 7 }
+    ensures { AreSums set.now sums.new }
+{
+    for i in 0..set.contract_count() {
+        follow(set, sums, i, quantity);
+    }
+}
+
+/// The nanoseconds of so many rounds, each of which sells or buys back a contract of each.
+pub fn measure(
+    clock: &impl Clock,
+    set: &ParamSet,
+    sums: &mut OptionSums,
+    rounds: usize,
+) -> io::Result<u128>
+    requires { AreSums set.now sums.old }
+{
+    let start = Instant::now(clock)?;
+    for round in 0..rounds {
+        follow_all(set, sums, one_contract(round % 2 == 1));
+    }
+    Ok(start.elapsed(clock)?.as_nanos())
+}

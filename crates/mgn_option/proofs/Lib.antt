@@ -1,0 +1,2 @@
+-- The sums after a change of one net.
+pub mod SumsLemmas

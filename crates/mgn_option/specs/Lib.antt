@@ -1,0 +1,2 @@
+-- The nets that are kept with their option sums.
+pub mod Sums

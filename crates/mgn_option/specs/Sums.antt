@@ -1,0 +1,28 @@
+-- Nets with their short option minimums, one for each commodity of a set in file order, and their net option value.
+use Rattle.std.specs.Prelude.{ℕ, ◌*◌, ◌≡◌, ◌<◌, ◌≤◌, ◌^◌, ℤ, unsigned_abs, List, length, slice_index, All}
+use Rattle.mgn_params.specs.Options.{net_option_value}
+use Rattle.mgn_params.specs.Positions.{IsNet, positions}
+use Rattle.mgn_params.specs.Requirement.{minimum}
+use Rattle.mgn_params.specs.Tables.{Tables}
+
+-- at most 256 * 10^16: 256 contracts sold 10^7 times each, at a charge of at most 10^9 (own profile)
+abbrev pub IsMinimum : ℕ → Type 0
+IsMinimum cents = cents ≤ 256 * 10 ^ 16
+
+-- at most 4,096 * 10^15 in size: 4,096 contracts at 10^7 each, with values of at most 10^8 (own profile)
+abbrev pub IsOptionValue : ℤ → Type 0
+IsOptionValue value = unsigned_abs value ≤ 4096 * 10 ^ 15
+
+pub record Sums : Type 0 where
+  pub nets : List ℤ
+  pub minimums : List ℕ
+  pub value : ℤ
+
+-- the minimums and the value are those of the nets under this set (CME SPAN), one net for each contract and within its
+-- limit
+pub record AreSums (set : Tables) (sums : Sums) : Type 0 where
+  pub one_each : length sums.nets ≡ length set.contracts
+  pub small : All IsNet sums.nets
+  pub one_minimum_each : length sums.minimums ≡ length set.commodities
+  pub each : (g : ℕ) → g < length set.commodities → slice_index sums.minimums g ≡ minimum set (positions set.contracts sums.nets) g
+  pub value_is : sums.value ≡ net_option_value (positions set.contracts sums.nets)

@@ -1,0 +1,3 @@
+-- The totals after a change of one net.
+pub mod ProductLemmas
+pub mod TotalsLemmas

@@ -1,0 +1,2 @@
+-- The totals of the scenarios that are kept, and whose they are.
+pub mod Totals

@@ -1,0 +1,30 @@
+-- Rows of totals: one for each commodity of a set in file order, and in it one for each of the 16 scenarios.
+use Rattle.std.specs.Prelude.{ℕ, ◌*◌, ◌≡◌, ◌<◌, ◌≤◌, ◌^◌, ℤ, ◌+ℤ◌, unsigned_abs, List, [], length, slice_index_or, All}
+use Rattle.mgn_params.specs.Positions.{IsNet, positions}
+use Rattle.mgn_params.specs.Scan.{scenario_total, value_at}
+use Rattle.mgn_params.specs.Tables.{Tables}
+
+-- at most 256 * 10^15 in size: 256 contracts at 10^7 each, with arrays of at most 10^8 (own profile)
+abbrev pub IsTotal : ℤ → Type 0
+IsTotal total = unsigned_abs total ≤ 256 * 10 ^ 15
+
+-- the row of a commodity
+abbrev pub totals_of : List (List ℤ) → ℕ → List ℤ
+totals_of rows commodity = slice_index_or rows commodity []
+
+-- the total of a scenario
+abbrev pub total_of : List (List ℤ) → ℕ → ℕ → ℤ
+total_of rows commodity scenario = value_at (totals_of rows commodity) scenario
+
+-- each is the total of these nets under this set (CME SPAN), one net for each contract and within its limit
+pub record AreTotals (set : Tables) (nets : List ℤ) (rows : List (List ℤ)) : Type 0 where
+  pub one_each : length nets ≡ length set.contracts
+  pub small : All IsNet nets
+  pub one_row_each : length rows ≡ length set.commodities
+  pub each : (g s : ℕ) → g < length set.commodities → s < 16 → total_of rows g s ≡ scenario_total g (positions set.contracts nets) s
+
+-- the totals are those of these nets, and the net of the contract stays within its limit with a quantity more
+pub record CanChange (set : Tables) (nets : List ℤ) (rows : List (List ℤ)) (i : ℕ) (quantity : ℤ) : Type 0 where
+  pub totals : AreTotals set nets rows
+  pub contract : i < length set.contracts
+  pub net : IsNet (value_at nets i +ℤ quantity)

@@ -1,0 +1,11 @@
+//! The scan figures of the commodities of a set, kept up to date while nets change.
+#![tactic(auto)]
+
+mod figures;
+mod total;
+mod totals;
+
+pub use totals::ScanTotals;
+
+#[cfg(test)]
+mod tests;

@@ -1,0 +1,106 @@
+ghost use Rattle.std.specs.Prelude.{◌≡◌, ◌+◌, ◌-◌, ◌*◌, ◌<◌, ◌≤◌, ◌^◌, ℤ, pos, ◌+ℤ◌, ◌≤ℤ◌, unsigned_abs, List, length, min, replicate, slice_set, IfOk};
+ghost use Rattle.mgn_params.specs.Positions.{positions};
+ghost use Rattle.mgn_params.specs.Requirement.{scan_of};
+ghost use Rattle.mgn_params.specs.Scan.{active, price_risk2, scenario_total, value_at};
+ghost use Rattle.mgn_params.specs.Tables.{Tables};
+ghost use Rattle.mgn_scan.specs.Totals.{AreTotals, CanChange, totals_of};
+
+use crate::figures::{active_scenario, add_scaled, doubled_risk, largest_total};
+use crate::total::Total;
+use mgn_num::{Cents, Quantity};
+use mgn_params::{ParamSet, Work};
+use std::alloc::{AllocError, Global};
+use std::marker::Model;
+
+/// The totals of the 16 scenarios of each commodity of a set, kept while the nets of its contracts change.
+///
+/// Contracts see the rows of totals, one for each commodity in file order. They keep neither the set nor the nets:
+/// `AreTotals set nets totals` says whose totals they are, and each change carries that over to the changed nets.
+#[derive(Drop)]
+pub struct ScanTotals {
+    rows: Vec<[Total; 16]>,
+}
+
+impl Model for ScanTotals {
+    ghost use Rattle.std.specs.Prelude.{ℤ, List};
+
+    ghost Value = { List (List ℤ) };
+
+    ghost view = { λ t. t.rows.items };
+}
+
+// Rows of totals of 0.
+fn flat_rows(alloc: Global, count: usize) -> Result<Vec<[Total; 16]>, AllocError>
+    ensures { IfOk result (λ rows. rows.items ≡ replicate count (replicate 16 (pos 0))) }
+{
+    let mut rows = Vec::new(alloc);
+    rows.resize(count, [Total::ZERO; 16])?;
+    Ok(rows)
+}
+
+impl ScanTotals {
+    /// The totals of nets of 0 under a set. An error says that memory was refused; no later call takes any.
+    pub fn new(alloc: Global, set: &ParamSet) -> Result<Self, AllocError>
+        ensures { IfOk result (AreTotals set.now (replicate (length set.now.contracts) (pos 0))) }
+    {
+        let rows = flat_rows(alloc, set.commodity_count())?;
+        Ok(ScanTotals { rows })
+    }
+
+    /// Follows a change of one net: a quantity more of the contract at `i`, bought above 0 and sold below.
+    ///
+    /// The totals must be those of some nets under this set, and the changed net at most 10,000,000 in size. They are
+    /// then those of the changed nets. One array is read, whatever the number of contracts.
+    pub fn add(&mut self, set: &ParamSet, i: usize, quantity: Quantity, work: &mut Work)
+        requires { (nets : List ℤ) × CanChange set.now nets self.old i quantity }
+        ensures totals { (nets : List ℤ) → CanChange set.now nets self.old i quantity →
+            AreTotals set.now (slice_set nets i (value_at nets i +ℤ quantity)) self.new }
+        ensures counted { work.new ≡ min (work.old + 1) (2 ^ 64 - 1) }
+    {
+        set.limits();
+        let row = &mut self.rows[set.contract_at(i).commodity];
+        add_scaled(row, set.array(i, work), quantity);
+    }
+
+    // The totals of a commodity.
+    fn row(&self, commodity: usize) -> &[Total; 16]
+        requires { commodity < length self.now }
+        ensures { result.now ≡ totals_of self.now commodity }
+    {
+        &self.rows[commodity]
+    }
+
+    /// The scan risk of a commodity in cents, 0 to 256 * 10^15: the largest total, or 0 where none is above it (CME
+    /// SPAN).
+    pub fn scan(&self, commodity: usize) -> Cents
+        requires { commodity < length self.now }
+        ensures scan { (set : Tables) (nets : List ℤ) → AreTotals set nets self.now →
+            result ≡ scan_of (positions set.contracts nets) commodity }
+        ensures not_negative { pos 0 ≤ℤ result }
+        ensures small { unsigned_abs result ≤ 256 * 10 ^ 15 }
+    {
+        largest_total(self.row(commodity))
+    }
+
+    /// The place of the active scenario of a commodity, 0 to 15: its number less 1. It is the lowest-numbered of those
+    /// with the largest total (CME SPAN; the lowest of ties is of this profile).
+    pub fn active(&self, commodity: usize) -> usize
+        requires { commodity < length self.now }
+        ensures active { (set : Tables) (nets : List ℤ) → AreTotals set nets self.now →
+            result ≡ active (scenario_total commodity (positions set.contracts nets)) }
+        ensures scenario { result < 16 }
+    {
+        active_scenario(self.row(commodity))
+    }
+
+    /// Twice the price risk of a commodity in cents, 0 to 1.1 * 10^18 (own profile, after SPAN).
+    pub fn price_risk2(&self, commodity: usize) -> Cents
+        requires { commodity < length self.now }
+        ensures price_risk2 { (set : Tables) (nets : List ℤ) → AreTotals set nets self.now →
+            result ≡ price_risk2 (scenario_total commodity (positions set.contracts nets)) }
+        ensures not_negative { pos 0 ≤ℤ result }
+        ensures small { unsigned_abs result ≤ 11 * 10 ^ 17 }
+    {
+        doubled_risk(self.row(commodity))
+    }
+}
