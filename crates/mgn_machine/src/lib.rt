@@ -11,6 +11,8 @@ pub mod origin;
 pub mod reply;
 pub mod row;
 pub mod rows;
+#[cfg(test)]
+mod tests;
 
 pub use account::Account;
 pub use change::{Change, Gain};
