@@ -10,4 +10,3 @@ pub mod RecordLemmas
 pub mod LineLemmas
 pub mod FileLemmas
 pub mod LegLemmas
-pub mod LawLemmas

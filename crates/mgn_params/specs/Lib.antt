@@ -14,4 +14,3 @@ pub mod Fields
 pub mod Records
 pub mod Lines
 pub mod File
-pub mod Laws

@@ -1,0 +1,3 @@
+-- Lemmas of the laws.
+pub mod RequirementLemmas
+pub mod StageLemmas

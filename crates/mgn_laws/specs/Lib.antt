@@ -1,0 +1,3 @@
+-- Words of the laws.
+pub mod Worst
+pub mod Turns

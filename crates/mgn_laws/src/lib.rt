@@ -1,0 +1,11 @@
+//! Laws of the margin calculation in the words of its subject. No function here does any work: each is there for its
+//! contract, which says what follows from the definitions of `mgn_params`.
+#![tactic(auto)]
+
+mod requirements;
+mod scenarios;
+mod stages;
+
+pub use requirements::{flat_owes_nothing, owes_at_least_nothing};
+pub use scenarios::{activates_lowest_largest, scans_within_worst_cases};
+pub use stages::{charges_stage_by_stage, leaves_start_less_earlier_uses, uses_within_deltas};

@@ -1,0 +1,19 @@
+//! Scenario totals, scan risk and the active scenario.
+
+ghost use Rattle.std.specs.Prelude.{◌≤ℤ◌};
+ghost use Rattle.mgn_laws.specs.Worst.{worst_cases};
+ghost use Rattle.mgn_params.specs.Positions.{positions};
+ghost use Rattle.mgn_params.specs.Requirement.{scan_of};
+ghost use Rattle.mgn_params.specs.Scan.{IsActive, active, value_at};
+
+use mgn_params::ParamSet;
+
+/// The scan risk of a commodity never exceeds what its positions could lose at worst, each alone.
+pub fn scans_within_worst_cases(set: &ParamSet, nets: &[i64], commodity: usize)
+    ensures { scan_of (positions set.now.contracts nets.now) commodity ≤ℤ worst_cases commodity (positions set.now.contracts nets.now) }
+{}
+
+/// The active scenario is the lowest-numbered of the 16 with the largest total.
+pub fn activates_lowest_largest(totals: &[i64; 16])
+    ensures { IsActive (value_at totals.now) (active (value_at totals.now)) }
+{}
