@@ -1,3 +1,5 @@
 -- Lemmas of the laws.
 pub mod RequirementLemmas
 pub mod StageLemmas
+pub mod SumLemmas
+pub mod TurnedLemmas

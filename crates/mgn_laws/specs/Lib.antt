@@ -1,3 +1,4 @@
 -- Words of the laws.
 pub mod Worst
 pub mod Turns
+pub mod Turned

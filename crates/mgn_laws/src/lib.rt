@@ -2,10 +2,12 @@
 //! contract, which says what follows from the definitions of `mgn_params`.
 #![tactic(auto)]
 
+mod deltas;
 mod requirements;
 mod scenarios;
 mod stages;
 
+pub use deltas::{turning_round_swaps_deltas, turning_round_turns_net_delta};
 pub use requirements::{flat_owes_nothing, owes_at_least_nothing};
-pub use scenarios::{activates_lowest_largest, scans_within_worst_cases};
+pub use scenarios::{activates_lowest_largest, scans_within_worst_cases, turning_round_turns_totals};
 pub use stages::{charges_stage_by_stage, leaves_start_less_earlier_uses, uses_within_deltas};
