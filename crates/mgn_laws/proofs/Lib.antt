@@ -1,4 +1,5 @@
 -- Lemmas of the laws.
+pub mod CreditLemmas
 pub mod RequirementLemmas
 pub mod StageLemmas
 pub mod SumLemmas

@@ -2,3 +2,4 @@
 pub mod Worst
 pub mod Turns
 pub mod Turned
+pub mod Uses

@@ -2,11 +2,13 @@
 //! contract, which says what follows from the definitions of `mgn_params`.
 #![tactic(auto)]
 
+mod credits;
 mod deltas;
 mod requirements;
 mod scenarios;
 mod stages;
 
+pub use credits::{credit_uses_within_net_delta, rests_leave_net_delta_less_earlier_uses};
 pub use deltas::{turning_round_swaps_deltas, turning_round_turns_net_delta};
 pub use requirements::{flat_owes_nothing, owes_at_least_nothing};
 pub use scenarios::{activates_lowest_largest, scans_within_worst_cases, turning_round_turns_totals};
