@@ -1,4 +1,6 @@
 -- Lemmas of the laws.
+pub mod AbsentCredits
+pub mod AbsentLemmas
 pub mod CreditLemmas
 pub mod RequirementLemmas
 pub mod StageLemmas

@@ -3,3 +3,4 @@ pub mod Worst
 pub mod Turns
 pub mod Turned
 pub mod Uses
+pub mod Absent

@@ -1,8 +1,9 @@
 //! What a whole requirement comes to.
 
-ghost use Rattle.std.specs.Prelude.{◌≡◌, ◌≤ℤ◌, pos};
-ghost use Rattle.mgn_params.specs.Positions.{AreFlat};
-ghost use Rattle.mgn_params.specs.Requirement.{requirement};
+ghost use Rattle.std.specs.Prelude.{◌≡◌, ◌<◌, ◌≤ℤ◌, length, pos};
+ghost use Rattle.mgn_laws.specs.Absent.{HoldsNone};
+ghost use Rattle.mgn_params.specs.Positions.{AreFlat, positions};
+ghost use Rattle.mgn_params.specs.Requirement.{credit, intra_charge, minimum, requirement, risk, scan_of, spot_charge};
 
 use mgn_params::ParamSet;
 
@@ -17,3 +18,17 @@ pub fn flat_owes_nothing(set: &ParamSet, nets: &[i64])
 pub fn owes_at_least_nothing(set: &ParamSet, nets: &[i64])
     ensures { pos 0 ≤ℤ requirement set.now nets.now }
 {}
+
+/// A commodity in which nothing is held has neither scan risk nor a charge, a credit or a minimum, and no risk.
+pub fn adds_nothing_where_nothing_is_held(set: &ParamSet, nets: &[i64], commodity: usize)
+    requires there { commodity < length set.now.commodities }
+    requires none { HoldsNone (positions set.now.contracts nets.now) commodity }
+    ensures scan { scan_of (positions set.now.contracts nets.now) commodity ≡ pos 0 }
+    ensures intra { intra_charge set.now (positions set.now.contracts nets.now) commodity ≡ 0 }
+    ensures spot { spot_charge set.now (positions set.now.contracts nets.now) commodity ≡ 0 }
+    ensures credit { credit set.now (positions set.now.contracts nets.now) commodity ≡ 0 }
+    ensures minimum { minimum set.now (positions set.now.contracts nets.now) commodity ≡ 0 }
+    ensures risk { risk set.now (positions set.now.contracts nets.now) commodity ≡ pos 0 }
+{
+    set.limits();
+}
