@@ -60,8 +60,8 @@ nothing_more deltas risks now g spread has =
     let amount = spread_amount now.0 legs in
     let after : List ℤ × List ℕ = (rests_after now.0 amount legs, credits_after deltas risks spread.rate amount now.1 legs) in
     let grown : forms now.0 legs ≡ true → HasNothing after g = λ form.
-        let apart = others now.0 g legs has.rest form in
-        record { rest = rest_kept amount g legs now.0 apart ∙ has.rest; credit = credit_kept deltas risks spread.rate amount g legs now.1 apart ∙ has.credit } in
+    let apart = others now.0 g legs has.rest form in
+    record { rest = rest_kept amount g legs now.0 apart ∙ has.rest; credit = credit_kept deltas risks spread.rate amount g legs now.1 apart ∙ has.credit } in
     formed_or (forms now.0 legs) after now g grown has
 
 nothing_along : (deltas : List ℤ) (risks : List ℕ) (spreads : List CreditSpread) (now : List ℤ × List ℕ) (g : ℕ) → HasNothing now g → HasNothing (fold (formed deltas risks) now spreads) g

@@ -127,8 +127,8 @@ intra_none set nets g limits none =
     let are = stages_in_limits set g limits in
     let left : (leg j : ℕ) → slice_index (left_at starts stages j) leg ≡ 0 = λ leg j. omega (arith, left_and_used starts stages leg j (start_length set nets g) are, start_none set nets g leg limits none) in
     let charge : (j : ℕ) → charge_at starts stages j ≡ 0 = λ j.
-        let s : Stage = stage_at stages j in
-        rw (left s.first_leg j, left s.second_leg j, zero-div s.first_ratio, zero-div s.second_ratio) (omega arith) in
+    let s : Stage = stage_at stages j in
+    rw (left s.first_leg j, left s.second_leg j, zero-div s.first_ratio, zero-div s.second_ratio) (omega arith) in
     charges_by_turns starts stages ∙ sum_below_none (charge_at starts stages) charge (length stages)
 
 spot_nothing : (starts : List ℕ) (stages : List Stage) (spot : Option SpotCharge) → ((leg : ℕ) → slice_index starts leg ≡ 0) → ((leg : ℕ) → used_by starts stages leg ≡ 0) → spot_charge_of starts stages spot ≡ 0

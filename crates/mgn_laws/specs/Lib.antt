@@ -4,3 +4,4 @@ pub mod Turns
 pub mod Turned
 pub mod Uses
 pub mod Absent
+pub mod Passing

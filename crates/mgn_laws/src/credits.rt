@@ -18,8 +18,7 @@ pub fn rests_leave_net_delta_less_earlier_uses(
     spread: usize,
 )
     requires { commodity < length set.now.commodities }
-    ensures {
-        let held = positions set.now.contracts nets.now in
+    ensures { let held = positions set.now.contracts nets.now in
         unsigned_abs (value_at (rests_at set.now held spread) commodity) + sum_below (credit_use_at set.now held commodity) spread
         ≡ unsigned_abs (net_delta set.now.months held commodity) }
 {
@@ -29,8 +28,7 @@ pub fn rests_leave_net_delta_less_earlier_uses(
 /// All intercommodity spreads together never use more of a commodity than its net delta in size.
 pub fn credit_uses_within_net_delta(set: &ParamSet, nets: &[i64], commodity: usize)
     requires { commodity < length set.now.commodities }
-    ensures {
-        let held = positions set.now.contracts nets.now in
+    ensures { let held = positions set.now.contracts nets.now in
         sum_below (credit_use_at set.now held commodity) (length set.now.credits)
         ≤ unsigned_abs (net_delta set.now.months held commodity) }
 {

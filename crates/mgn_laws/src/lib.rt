@@ -4,14 +4,20 @@
 
 mod credits;
 mod deltas;
+mod files;
 mod requirements;
 mod scenarios;
 mod stages;
 
 pub use credits::{credit_uses_within_net_delta, rests_leave_net_delta_less_earlier_uses};
 pub use deltas::{turning_round_swaps_deltas, turning_round_turns_net_delta};
+pub use files::{
+    accepts_where_each_record_passes, refuses_first_faulty_record, sets_what_records_give,
+};
 pub use requirements::{
     adds_nothing_where_nothing_is_held, flat_owes_nothing, owes_at_least_nothing,
 };
-pub use scenarios::{activates_lowest_largest, scans_within_worst_cases, turning_round_turns_totals};
+pub use scenarios::{
+    activates_lowest_largest, scans_within_worst_cases, turning_round_turns_totals,
+};
 pub use stages::{charges_stage_by_stage, leaves_start_less_earlier_uses, uses_within_deltas};

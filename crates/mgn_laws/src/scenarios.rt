@@ -22,7 +22,6 @@ pub fn activates_lowest_largest(totals: &[i64; 16])
 /// Where every position is turned round, long for short, the total of each scenario changes its sign: a loss is the
 /// same gain.
 pub fn turning_round_turns_totals(set: &ParamSet, nets: &[i64], commodity: usize, scenario: usize)
-    ensures {
-        scenario_total commodity (positions set.now.contracts (turned nets.now)) scenario
+    ensures { scenario_total commodity (positions set.now.contracts (turned nets.now)) scenario
         ≡ neg_ℤ (scenario_total commodity (positions set.now.contracts nets.now) scenario) }
 {}

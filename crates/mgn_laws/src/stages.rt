@@ -18,8 +18,7 @@ pub fn leaves_start_less_earlier_uses(
     leg: usize,
     stage: usize,
 )
-    ensures {
-        let starts = starts_in set.now nets.now commodity in
+    ensures { let starts = starts_in set.now nets.now commodity in
         let stages = stages_in set.now commodity in
         slice_index (left_at starts stages stage) leg + sum_below (use_at starts stages leg) stage ≡ slice_index starts leg }
 {
@@ -28,8 +27,7 @@ pub fn leaves_start_less_earlier_uses(
 
 /// What the stages charge is the sum of what each charges in its turn.
 pub fn charges_stage_by_stage(set: &ParamSet, nets: &[i64], commodity: usize)
-    ensures {
-        let starts = starts_in set.now nets.now commodity in
+    ensures { let starts = starts_in set.now nets.now commodity in
         let stages = stages_in set.now commodity in
         intra_charge set.now (positions set.now.contracts nets.now) commodity ≡ sum_below (charge_at starts stages) (length stages) }
 {}
@@ -38,11 +36,9 @@ pub fn charges_stage_by_stage(set: &ParamSet, nets: &[i64], commodity: usize)
 /// short one.
 pub fn uses_within_deltas(set: &ParamSet, nets: &[i64], commodity: usize, tier: usize)
     requires { tier < 8 }
-    ensures long {
-        used_by (starts_in set.now nets.now commodity) (stages_in set.now commodity) (long_leg tier)
+    ensures long { used_by (starts_in set.now nets.now commodity) (stages_in set.now commodity) (long_leg tier)
         ≤ long_delta set.now.months (positions set.now.contracts nets.now) commodity tier }
-    ensures short {
-        used_by (starts_in set.now nets.now commodity) (stages_in set.now commodity) (short_leg tier)
+    ensures short { used_by (starts_in set.now nets.now commodity) (stages_in set.now commodity) (short_leg tier)
         ≤ short_delta set.now.months (positions set.now.contracts nets.now) commodity tier }
 {
     set.limits();
