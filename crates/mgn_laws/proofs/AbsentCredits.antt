@@ -27,7 +27,7 @@ either : (a b : Bool) → (a || b) ≡ true → (a ≡ true) ⊎ (b ≡ true)
 either true b e = inl refl
 either false b e = inr e
 
-others : (rests : List ℤ) (g : ℕ) (legs : List Leg) → value_at rests g ≡ pos 0 → forms rests legs ≡ true → AllByRecursion (λ leg. leg.commodity ≢ g) legs
+pub others : (rests : List ℤ) (g : ℕ) (legs : List Leg) → value_at rests g ≡ pos 0 → forms rests legs ≡ true → AllByRecursion (λ leg. leg.commodity ≢ g) legs
 others rests g legs none form =
     ⊎_elim (all_other true rests g legs none) (all_other false rests g legs none) (either (list_all (fits true rests) legs) (list_all (fits false rests) legs) form)
 
@@ -69,7 +69,7 @@ nothing_along deltas risks [] now g has = has
 nothing_along deltas risks (s ∷ spreads) now g has =
     nothing_along deltas risks spreads (formed deltas risks now s) g (nothing_more deltas risks now g s has)
 
-no_credits : (n g : ℕ) → slice_index (replicate n 0) g ≡ 0
+pub no_credits : (n g : ℕ) → slice_index (replicate n 0) g ≡ 0
 no_credits n g =
     ⊎_elim (λ (there : g < n). get_or-replicate n g 0 0 there) (λ (past : n ≤ g). get_or_past (replicate n 0) g 0 (omega (arith, length-replicate {A = ℕ} n 0))) (cases_lt g n)
 

@@ -10,7 +10,7 @@ use Rattle.std.proofs.lemmas.Grind.{common_steps}
 use Rattle.std.proofs.lemmas.Int.{clamps, ints}
 use Rattle.std.proofs.lemmas.List.{get_or_past}
 use Rattle.std.proofs.lemmas.List.Elements.{All-from_recursion, recursion_from_All}
-use Rattle.std.proofs.lemmas.List.FromFn.{get_or-map-range_with_len}
+use Rattle.std.proofs.lemmas.List.FromFn.{get_or-map-range_with_len, length-map-range_with_len}
 use Rattle.std.proofs.lemmas.List.Sums.{AllPass-from_list_all, sum_by-cons}
 use Rattle.mgn_laws.proofs.AbsentCredits.{nothing_credited}
 use Rattle.mgn_laws.proofs.CreditLemmas.{delta_of}
@@ -152,14 +152,22 @@ spot_none set nets g limits none =
 
 -- the whole risk
 
-pub credit_none : (set : Tables) (nets : List ℤ) (g : ℕ) → g < length set.commodities → IsWithinLimits set → HoldsNone (positions set.contracts nets) g → credit set (positions set.contracts nets) g ≡ 0
-unfolding credits
-credit_none set nets g there limits none =
+pub delta_none : (set : Tables) (nets : List ℤ) (g : ℕ) → IsWithinLimits set → HoldsNone (positions set.contracts nets) g → value_at (deltas_in set (positions set.contracts nets)) g ≡ pos 0
+delta_none set nets g limits none =
     let held : List Position = positions set.contracts nets in
-    nothing_credited (deltas_in set held) (risks_in set held) set.credits g (delta_of set held g there ∙ net_none set nets g limits none)
+    ⊎_elim
+    (λ (there : g < length set.commodities). delta_of set held g there ∙ net_none set nets g limits none)
+    (λ (past : length set.commodities ≤ g). get_or_past (deltas_in set held) g (pos 0) (omega (arith, length-map-range_with_len (net_delta set.months held) 0 (length set.commodities))))
+    (cases_lt g (length set.commodities))
 
-pub risk_none : (set : Tables) (nets : List ℤ) (g : ℕ) → g < length set.commodities → IsWithinLimits set → HoldsNone (positions set.contracts nets) g → risk set (positions set.contracts nets) g ≡ pos 0
-unfolding risk
-risk_none set nets g there limits none =
+pub credit_none : (set : Tables) (nets : List ℤ) (g : ℕ) → IsWithinLimits set → HoldsNone (positions set.contracts nets) g → credit set (positions set.contracts nets) g ≡ 0
+unfolding credits
+credit_none set nets g limits none =
     let held : List Position = positions set.contracts nets in
-    rw (scan_none held g none, intra_none set nets g limits none, spot_none set nets g limits none, credit_none set nets g there limits none, minimum_none set held g none) (omega (arith, ints, clamps))
+    nothing_credited (deltas_in set held) (risks_in set held) set.credits g (delta_none set nets g limits none)
+
+pub risk_none : (set : Tables) (nets : List ℤ) (g : ℕ) → IsWithinLimits set → HoldsNone (positions set.contracts nets) g → risk set (positions set.contracts nets) g ≡ pos 0
+unfolding risk
+risk_none set nets g limits none =
+    let held : List Position = positions set.contracts nets in
+    rw (scan_none held g none, intra_none set nets g limits none, spot_none set nets g limits none, credit_none set nets g limits none, minimum_none set held g none) (omega (arith, ints, clamps))

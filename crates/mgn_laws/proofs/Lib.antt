@@ -7,3 +7,4 @@ pub mod RequirementLemmas
 pub mod StageLemmas
 pub mod SumLemmas
 pub mod TurnedLemmas
+pub mod WithoutLemmas

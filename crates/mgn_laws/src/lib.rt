@@ -16,6 +16,7 @@ pub use files::{
 };
 pub use requirements::{
     adds_nothing_where_nothing_is_held, flat_owes_nothing, owes_at_least_nothing,
+    requires_same_without_what_is_not_held,
 };
 pub use scenarios::{
     activates_lowest_largest, scans_within_worst_cases, turning_round_turns_totals,

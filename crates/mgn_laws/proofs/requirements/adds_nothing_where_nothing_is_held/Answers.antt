@@ -8,14 +8,13 @@ returns c =
     let nets = c.args.nets.now in
     let held = positions set.contracts nets in
     let g = c.args.commodity in
-    let there = c.requires.there in
-    let none = c.requires.none in
+    let none = c.requires in
     let limits = c.limits.ensures in
     record {
       scan = scan_none held g none;
       intra = intra_none set nets g limits none;
       spot = spot_none set nets g limits none;
-      credit = credit_none set nets g there limits none;
+      credit = credit_none set nets g limits none;
       minimum = minimum_none set held g none;
-      risk = risk_none set nets g there limits none;
+      risk = risk_none set nets g limits none;
     }
