@@ -206,8 +206,59 @@ fn refuses_faulty_records(rt: HostRuntime) -> Result<(), Fail> {
     Ok(())
 }
 
+// What a record of this kind is short of where it is cut: its commas, the cause where one is missing, and the cause where
+// its last field is empty.
+fn cut_causes(kind: u8) -> (usize, Cause, Cause) {
+    match kind {
+        b'H' => (2, Cause::Header, Cause::Name),
+        b'G' => (2, Cause::Fields, Cause::Number),
+        b'M' => (3, Cause::Fields, Cause::Number),
+        b'K' => (23, Cause::Fields, Cause::Number),
+        b'S' => (6, Cause::Fields, Cause::Number),
+        b'I' => (7, Cause::Fields, Cause::Number),
+        _ => (3, Cause::Fields, Cause::Number),
+    }
+}
+
+// The cause of a record that is cut. A last field of the first set that has a byte is a name or a number in its limits.
+fn cut_cause(record: &[u8]) -> Option<Cause> {
+    let kind = record.first()?;
+    let (commas, missing, empty) = cut_causes(*kind);
+    if record.iter().filter(|byte| **byte == b',').count() < commas {
+        Some(missing)
+    } else if record.last() == Some(&b',') {
+        Some(empty)
+    } else {
+        None
+    }
+}
+
+// The fault of a front of the first set: that of the record in which it ends, if it has begun.
+fn cut_fault(front: &[u8]) -> Option<(u64, Cause)> {
+    let mut number = 0u64;
+    let mut last = front;
+    for line in front.split(|byte| *byte == b'\n') {
+        number = number.wrapping_add(1);
+        last = line;
+    }
+    if front.is_empty() {
+        Some((1, Cause::Header))
+    } else {
+        cut_cause(last).map(|cause| (number, cause))
+    }
+}
+
 #[test]
-fn reads_prefixes(rt: HostRuntime) {
+fn reads_every_front(rt: HostRuntime) {
+    let text = set_text(0).as_bytes();
+    for len in 0..text.len() + 1 {
+        let front = &text[..len];
+        assert_eq!(rt; fault_of(rt.alloc(), front), cut_fault(front), "at {len}");
+    }
+}
+
+#[test]
+fn reads_some_fronts(rt: HostRuntime) {
     let cases = [
         (0, Some((1, Cause::Header))),
         (7, None),
