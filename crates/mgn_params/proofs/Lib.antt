@@ -1,5 +1,5 @@
 -- Laws of the definitions.
-pub mod Rows
+pub mod Examples
 pub mod LimitsLemmas
 pub mod FlatLemmas
 pub mod PositionLemmas
