@@ -2,6 +2,7 @@
 pub mod AbsentCredits
 pub mod AbsentLemmas
 pub mod CreditLemmas
+pub mod CreditSums
 pub mod PassingLemmas
 pub mod RequirementLemmas
 pub mod StageLemmas

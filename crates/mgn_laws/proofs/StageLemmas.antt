@@ -32,7 +32,7 @@ charges_by_turns left [] = refl
 charges_by_turns left (s ∷ stages) =
     omega (arith, charges_by_turns (left_after left s) stages, sum_below_front (charge_at left (s ∷ stages)) (length stages))
 
-used_by_turns : (left : List ℕ) (stages : List Stage) (leg : ℕ) → used_by left stages leg ≡ sum_below (use_at left stages leg) (length stages)
+pub used_by_turns : (left : List ℕ) (stages : List Stage) (leg : ℕ) → used_by left stages leg ≡ sum_below (use_at left stages leg) (length stages)
 used_by_turns left [] leg = refl
 used_by_turns left (s ∷ stages) leg =
     omega (arith, used_by_turns (left_after left s) stages leg, sum_below_front (use_at left (s ∷ stages) leg) (length stages))

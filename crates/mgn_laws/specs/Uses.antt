@@ -1,9 +1,9 @@
--- What the intercommodity spreads use of the net deltas, spread by spread.
+-- What the intercommodity spreads use of the net deltas and what they credit, spread by spread.
 use Rattle.std.specs.Prelude.{ℕ, ℤ, ◌==◌, if◌then◌else◌, List, length, map, replicate, take}
 use Rattle.std.specs.List.{fold, sum_by}
 use Rattle.mgn_params.specs.declared.tables.CreditSpread.{CreditSpread}
 use Rattle.mgn_params.specs.declared.tables.Leg.{Leg}
-use Rattle.mgn_params.specs.Credits.{formed, forms, spread_amount}
+use Rattle.mgn_params.specs.Credits.{formed, forms, leg_credit, spread_amount}
 use Rattle.mgn_params.specs.Deltas.{net_delta}
 use Rattle.mgn_params.specs.Positions.{Position}
 use Rattle.mgn_params.specs.Requirement.{commodities_of, price_risk2_of}
@@ -34,3 +34,17 @@ spread_use rests commodity spread =
 -- what the spread at a place uses of a commodity in its turn
 abbrev pub credit_use_at : Tables → List Position → ℕ → ℕ → ℕ
 credit_use_at set held commodity k = spread_use (rests_at set held k) commodity (credit_spread_at set.credits k)
+
+-- what a spread credits to a commodity, which is nothing where it does not form
+abbrev pub leg_credit_to : List ℤ → List ℕ → ℕ → ℕ → ℕ → Leg → ℕ
+leg_credit_to deltas risks rate amount commodity leg =
+    if leg.commodity == commodity then leg_credit deltas risks rate amount leg else 0
+
+abbrev pub spread_credit : List ℤ → List ℕ → List ℤ → ℕ → CreditSpread → ℕ
+spread_credit deltas risks rests commodity spread =
+    if forms rests (legs_of spread) then sum_by (leg_credit_to deltas risks spread.rate (spread_amount rests (legs_of spread)) commodity) (legs_of spread) else 0
+
+-- what the spread at a place credits to a commodity in its turn
+abbrev pub credit_at : Tables → List Position → ℕ → ℕ → ℕ
+credit_at set held commodity k =
+    spread_credit (deltas_in set held) (risks_in set held) (rests_at set held k) commodity (credit_spread_at set.credits k)

@@ -1,10 +1,11 @@
 //! Intercommodity spreads, over all of them in file order.
 
 ghost use Rattle.std.specs.Prelude.{◌≡◌, ◌+◌, ◌<◌, ◌≤◌, length, unsigned_abs};
-ghost use Rattle.mgn_laws.specs.Uses.{credit_use_at, rests_at};
+ghost use Rattle.mgn_laws.specs.Uses.{credit_at, credit_use_at, rests_at};
 ghost use Rattle.mgn_num.specs.Signed.{sum_below};
 ghost use Rattle.mgn_params.specs.Deltas.{net_delta};
 ghost use Rattle.mgn_params.specs.Positions.{positions};
+ghost use Rattle.mgn_params.specs.Requirement.{credit};
 ghost use Rattle.mgn_params.specs.Scan.{value_at};
 
 use mgn_params::ParamSet;
@@ -34,3 +35,10 @@ pub fn credit_uses_within_net_delta(set: &ParamSet, nets: &[i64], commodity: usi
 {
     set.limits();
 }
+
+/// The credit of a commodity is the sum of what each spread credits to it in its turn.
+pub fn credits_spread_by_spread(set: &ParamSet, nets: &[i64], commodity: usize)
+    requires { commodity < length set.now.commodities }
+    ensures { let held = positions set.now.contracts nets.now in
+        credit set.now held commodity ≡ sum_below (credit_at set.now held commodity) (length set.now.credits) }
+{}

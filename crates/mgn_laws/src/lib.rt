@@ -9,7 +9,9 @@ mod requirements;
 mod scenarios;
 mod stages;
 
-pub use credits::{credit_uses_within_net_delta, rests_leave_net_delta_less_earlier_uses};
+pub use credits::{
+    credit_uses_within_net_delta, credits_spread_by_spread, rests_leave_net_delta_less_earlier_uses,
+};
 pub use deltas::{turning_round_swaps_deltas, turning_round_turns_net_delta};
 pub use files::{
     accepts_where_each_record_passes, refuses_first_faulty_record, sets_what_records_give,
@@ -21,4 +23,6 @@ pub use requirements::{
 pub use scenarios::{
     activates_lowest_largest, scans_within_worst_cases, turning_round_turns_totals,
 };
-pub use stages::{charges_stage_by_stage, leaves_start_less_earlier_uses, uses_within_deltas};
+pub use stages::{
+    charges_stage_by_stage, leaves_start_less_earlier_uses, uses_stage_by_stage, uses_within_deltas,
+};

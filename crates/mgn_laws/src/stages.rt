@@ -32,6 +32,14 @@ pub fn charges_stage_by_stage(set: &ParamSet, nets: &[i64], commodity: usize)
         intra_charge set.now (positions set.now.contracts nets.now) commodity ≡ sum_below (charge_at starts stages) (length stages) }
 {}
 
+/// What the stages use of a leg together, on which the spot month charge stands, is the sum of what each uses in its
+/// turn.
+pub fn uses_stage_by_stage(set: &ParamSet, nets: &[i64], commodity: usize, leg: usize)
+    ensures { let starts = starts_in set.now nets.now commodity in
+        let stages = stages_in set.now commodity in
+        used_by starts stages leg ≡ sum_below (use_at starts stages leg) (length stages) }
+{}
+
 /// What the stages of a tier use together never exceeds its long delta on the long leg, and its short delta on the
 /// short one.
 pub fn uses_within_deltas(set: &ParamSet, nets: &[i64], commodity: usize, tier: usize)
