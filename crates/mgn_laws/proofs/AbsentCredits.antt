@@ -1,6 +1,6 @@
 -- A commodity without a net delta is in no spread that forms, and so gets no credit.
-use Rattle.std.proofs.Common.{◌≡◌, ◌≢◌, ℕ, ◌+◌, ◌<◌, ◌≤◌, ◌==◌, Bool, true, false, List, [], ◌∷◌, length, get_or, ⊎_elim, inl, inr, ap, ◌∙◌, refl, arith, replicate}
-use Rattle.std.specs.Prelude.{ℤ, pos, ◌||◌, ◌⊎◌, int_lt, if◌then◌else◌, slice_index, slice_set}
+use Rattle.std.proofs.Common.{◌≡◌, ◌≢◌, ℕ, ◌<◌, ◌≤◌, Bool, true, false, List, [], ◌∷◌, length, get_or, ⊎_elim, inl, inr, ap, ◌∙◌, refl, arith, replicate}
+use Rattle.std.specs.Prelude.{ℤ, pos, ◌||◌, ◌⊎◌, if◌then◌else◌, slice_index}
 use Rattle.std.specs.List.{AllByRecursion, fold, list_all}
 use Rattle.std.proofs.lemmas.Grind.{common_steps}
 use Rattle.std.proofs.lemmas.Int.{ints}
@@ -10,9 +10,8 @@ use Rattle.std.proofs.lemmas.List.Sums.{AllPass-from_list_all}
 use Rattle.std.proofs.lemmas.Bool.{cases_lt}
 use Rattle.mgn_params.specs.declared.tables.CreditSpread.{CreditSpread}
 use Rattle.mgn_params.specs.declared.tables.Leg.{Leg}
-use Rattle.mgn_params.specs.Credits.{credits_after, credits_of, fits, formed, forms, leg_credit, rests_after, spread_amount}
+use Rattle.mgn_params.specs.Credits.{credits_after, credits_of, fits, formed, forms, rests_after, spread_amount}
 use Rattle.mgn_params.specs.Scan.{value_at}
-use Rattle.mgn_params.specs.Stages.{used}
 use Rattle.mgn_params.specs.Tables.{legs_of}
 
 -- no leg that fits is of a commodity without a rest

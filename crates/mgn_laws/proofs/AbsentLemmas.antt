@@ -1,17 +1,16 @@
 -- What a commodity adds in which nothing is held.
-use Rattle.std.proofs.Common.{◌≡◌, ◌≢◌, ℕ, zero, suc, ◌+◌, ◌-◌, ◌*◌, ◌/◌, ◌<◌, ◌≤◌, ◌==◌, Bool, true, false, Option, Some, None, List, [], ◌∷◌, length, get_or, All, ⊎_elim, ap, ◌∙◌, refl, arith, eq-eqb, ne_eqb, sym, replicate}
-use Rattle.std.specs.Prelude.{ℤ, pos, ◌+ℤ◌, ◌*ℤ◌, ◌&&◌, nat_lt, if◌then◌else◌, slice_index, slice_set}
+use Rattle.std.proofs.Common.{◌≡◌, ◌≢◌, ℕ, ◌-◌, ◌*◌, ◌<◌, ◌≤◌, ◌==◌, Bool, true, false, Option, Some, None, List, [], ◌∷◌, length, get_or, ⊎_elim, ap, ◌∙◌, refl, arith, eq-eqb, ne_eqb, sym}
+use Rattle.std.specs.Prelude.{ℤ, pos, ◌*ℤ◌, ◌&&◌, nat_lt, if◌then◌else◌, slice_index}
 use Rattle.std.specs.Int.{div_ceil, int_max}
-use Rattle.std.specs.List.{AllByRecursion, fold, list_all, sum_by}
+use Rattle.std.specs.List.{AllByRecursion, sum_by}
 use Rattle.std.proofs.Math.IntN.{zero-*ℤ}
 use Rattle.std.proofs.Math.Nat.{zero-div, zero-mul}
 use Rattle.std.proofs.lemmas.Bool.{cases_eq, cases_lt}
-use Rattle.std.proofs.lemmas.Grind.{common_steps}
 use Rattle.std.proofs.lemmas.Int.{clamps, ints}
 use Rattle.std.proofs.lemmas.List.{get_or_past}
 use Rattle.std.proofs.lemmas.List.Elements.{All-from_recursion, recursion_from_All}
 use Rattle.std.proofs.lemmas.List.FromFn.{get_or-map-range_with_len, length-map-range_with_len}
-use Rattle.std.proofs.lemmas.List.Sums.{AllPass-from_list_all, sum_by-cons}
+use Rattle.std.proofs.lemmas.List.Sums.{sum_by-cons}
 use Rattle.mgn_laws.proofs.AbsentCredits.{nothing_credited}
 use Rattle.mgn_laws.proofs.CreditLemmas.{delta_of}
 use Rattle.mgn_laws.proofs.StageLemmas.{charges_by_turns, left_and_used, stages_in_limits, start_length, used_by_le}
@@ -20,19 +19,19 @@ use Rattle.mgn_laws.specs.Absent.{HoldsNone}
 use Rattle.mgn_laws.specs.Turns.{charge_at, left_at, stage_at, stages_in, starts_in}
 use Rattle.mgn_laws.specs.Uses.{deltas_in, risks_in}
 use Rattle.mgn_num.proofs.SignedLemmas.{signed_sum_by-cons}
-use Rattle.mgn_num.specs.Signed.{signed_sum_below, signed_sum_by, sum_below}
+use Rattle.mgn_num.specs.Signed.{signed_sum_by}
 use Rattle.mgn_params.specs.declared.tables.Contract.{Contract}
 use Rattle.mgn_params.specs.declared.tables.Month.{Month}
 use Rattle.mgn_params.specs.declared.tables.SpotCharge.{SpotCharge}
 use Rattle.mgn_params.specs.declared.tables.Stage.{Stage}
 use Rattle.mgn_params.specs.Deltas.{is_in_tier, long_delta, long_share, month_delta, month_share, negative_part, net_delta, net_share, positive_part, short_delta, short_share, start_of, starts_of}
 use Rattle.mgn_params.specs.Limits.{IsContract, IsWithinLimits}
-use Rattle.mgn_params.specs.Options.{short_option_minimum, short_share_of}
+use Rattle.mgn_params.specs.Options.{short_share_of}
 use Rattle.mgn_params.specs.Positions.{Position, positions}
 use Rattle.mgn_params.specs.Requirement.{credit, credits, intra_charge, minimum, risk, scan_of, spot_charge}
 use Rattle.mgn_params.specs.Scan.{active, scenario_share, scenario_total, value_at}
 use Rattle.mgn_params.specs.Spot.{outright_delta, spot_charge_of, spot_of, spread_delta}
-use Rattle.mgn_params.specs.Stages.{amount_of, charge_of, charges_of, long_leg, short_leg, used_by}
+use Rattle.mgn_params.specs.Stages.{long_leg, short_leg, used_by}
 use Rattle.mgn_params.specs.Tables.{Tables, commodity_at, is_option, month_at}
 
 -- sums of nothing

@@ -1,5 +1,5 @@
 -- The credit of a commodity as a sum over the spreads.
-use Rattle.std.proofs.Common.{◌≡◌, ◌≢◌, ℕ, zero, suc, ◌+◌, ◌<◌, ◌≤◌, ◌==◌, Bool, true, false, List, [], ◌∷◌, length, take, ⊎_elim, ap, ◌∙◌, refl, arith, add-one, length-set, replicate, take_all}
+use Rattle.std.proofs.Common.{◌≡◌, ◌≢◌, ℕ, zero, suc, ◌+◌, ◌<◌, ◌≤◌, ◌==◌, true, false, List, [], ◌∷◌, length, take, ⊎_elim, ap, ◌∙◌, refl, arith, add-one, length-set, replicate, take_all}
 use Rattle.std.specs.Prelude.{ℤ, if◌then◌else◌, slice_index, slice_set}
 use Rattle.std.specs.List.{fold, sum_by}
 use Rattle.std.proofs.lemmas.Bool.{cases_eq}
@@ -8,7 +8,7 @@ use Rattle.std.proofs.lemmas.List.{length-replicate}
 use Rattle.std.proofs.lemmas.List.FromFn.{length-map-range_with_len}
 use Rattle.std.proofs.lemmas.List.Sums.{fold_more, sum_by-cons}
 use Rattle.mgn_laws.proofs.AbsentCredits.{no_credits}
-use Rattle.mgn_laws.specs.Uses.{credit_at, deltas_in, leg_credit_to, rests_at, risks_in, spread_credit}
+use Rattle.mgn_laws.specs.Uses.{credit_at, deltas_in, leg_credit_to, risks_in, spread_credit}
 use Rattle.mgn_num.specs.Signed.{sum_below}
 use Rattle.mgn_params.specs.declared.tables.CreditSpread.{CreditSpread}
 use Rattle.mgn_params.specs.declared.tables.Leg.{Leg}

@@ -1,10 +1,10 @@
 -- A file is accepted exactly where each record passes against those before it.
-use Rattle.std.proofs.Common.{◌≡◌, ◌↔◌, ℕ, zero, suc, ◌+◌, ◌<◌, ◌≤◌, List, [], ◌∷◌, length, take, Option, Some, None, Result, Ok, Err, refl, ap, sym, ◌∙◌, inl, inr, ⊎_elim, arith, add-one}
-use Rattle.std.specs.Prelude.{◌⊎◌, IsOk, IfOk, is_ok, option_map}
+use Rattle.std.proofs.Common.{◌≡◌, ◌↔◌, ℕ, zero, suc, ◌+◌, ◌<◌, List, [], ◌∷◌, length, take, Option, Some, None, Result, Ok, Err, refl, ap, sym, ◌∙◌, inl, inr, ⊎_elim, arith}
+use Rattle.std.specs.Prelude.{IsOk, IfOk, is_ok, option_map}
 use Rattle.std.specs.List.{fold}
 use Rattle.std.specs.Result.{result_ok}
 use Rattle.std.proofs.lemmas.Bool.{cases_order}
-use Rattle.mgn_laws.specs.Passing.{IsAccepted, IsFault, IsRefusedAt, Passes, given, given_by, record_at}
+use Rattle.mgn_laws.specs.Passing.{IsAccepted, IsFault, IsRefusedAt, given, given_by, record_at}
 use Rattle.mgn_params.specs.declared.fault.Cause.{Cause}
 use Rattle.mgn_params.specs.declared.fault.Cause.TheVariants.{Header}
 use Rattle.mgn_params.specs.File.{Record, SoFar, goes_on, judged, outcome, told}

@@ -16,7 +16,7 @@ use Rattle.mgn_params.specs.declared.tables.Spread.{Spread}
 use Rattle.mgn_params.specs.Deltas.{long_delta, short_delta, start_of, starts_of}
 use Rattle.mgn_params.specs.Limits.{IsSpread, IsWithinLimits}
 use Rattle.mgn_params.specs.Positions.{positions}
-use Rattle.mgn_params.specs.Stages.{IsStage, charge_of, charges_of, left_after, left_by, long_leg, short_leg, stages_of_spread, used_by, used_of}
+use Rattle.mgn_params.specs.Stages.{IsStage, charges_of, left_after, left_by, long_leg, short_leg, stages_of_spread, used_by, used_of}
 use Rattle.mgn_params.specs.Tables.{Tables}
 
 -- sums from their first number on

@@ -1,5 +1,5 @@
 -- The requirement is the same without a commodity in which nothing is held.
-use Rattle.std.proofs.Common.{◌≡◌, ◌≢◌, ℕ, zero, suc, ◌+◌, ◌-◌, ◌<◌, ◌≤◌, ◌==◌, Bool, true, false, not, Option, Some, None, List, [], ◌∷◌, length, map, get_or, All, ⊎_elim, ap, ◌∙◌, sym, refl, arith, eq-eqb, ne_eqb, replicate}
+use Rattle.std.proofs.Common.{◌≡◌, ◌≢◌, ℕ, ◌-◌, ◌==◌, Bool, true, false, not, None, List, [], ◌∷◌, length, map, ⊎_elim, ap, ◌∙◌, sym, refl, arith, eq-eqb, ne_eqb, replicate}
 use Rattle.std.specs.Prelude.{ℤ, pos, if◌then◌else◌, nat_lt, slice_index, unsigned_abs}
 use Rattle.std.specs.List.{AllByRecursion, filter, find, flat_map, fold, list_any, range_with_len, sum_by}
 use Rattle.std.proofs.Math.Path.{fun_ext}
@@ -22,10 +22,10 @@ use Rattle.mgn_params.specs.declared.tables.Month.{Month}
 use Rattle.mgn_params.specs.declared.tables.SpotCharge.{SpotCharge}
 use Rattle.mgn_params.specs.declared.tables.Spread.{Spread}
 use Rattle.mgn_params.specs.declared.tables.Stage.{Stage}
-use Rattle.mgn_params.specs.Credits.{credits_of, formed, forms}
-use Rattle.mgn_params.specs.Deltas.{is_in_tier, long_delta, month_delta, month_share, negative_part, net_delta, positive_part, short_delta, start_of, starts_of}
+use Rattle.mgn_params.specs.Credits.{formed, forms}
+use Rattle.mgn_params.specs.Deltas.{is_in_tier, month_delta, month_share, negative_part, net_delta, positive_part, starts_of}
 use Rattle.mgn_params.specs.Limits.{IsWithinLimits}
-use Rattle.mgn_params.specs.Options.{net_option_value, short_option_minimum, short_share_of, value_share}
+use Rattle.mgn_params.specs.Options.{net_option_value, short_share_of, value_share}
 use Rattle.mgn_params.specs.Positions.{Position, positions}
 use Rattle.mgn_params.specs.Requirement.{commodities_of, credit, credits, intra_charge, minimum, price_risk2_of, requirement, risk, scan_of, spot_charge}
 use Rattle.mgn_params.specs.Scan.{price_risk2, scan_risk, scenario_share, scenario_total, value_at}

@@ -11,7 +11,7 @@ use Rattle.csv.proofs.ReadFacts.{rows-end, rows-more}
 use Rattle.csv.specs.declared.parser.State.{State}
 use Rattle.csv.specs.declared.parser.State.TheVariants as st
 use Rattle.csv.specs.declared.reader.Reader.{Reader}
-use Rattle.csv.specs.Machine.{Read, next_record}
+use Rattle.csv.specs.Machine.{next_record}
 use Rattle.csv.specs.Reading.{ReadRecord, Reached, default_config, records, records_from, source_of}
 use Rattle.mgn_params.specs.declared.fault.LineFault.TheVariants.{Second}
 use Rattle.mgn_params.specs.Fields.{Fields}

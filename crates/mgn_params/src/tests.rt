@@ -202,8 +202,7 @@ fn refuses_faulty_records(rt: HostRuntime) -> Result<(), Fail> {
     Ok(())
 }
 
-// What a record of this kind is short of where it is cut: its commas, the cause where one is missing, and the cause where
-// its last field is empty.
+// The commas of a record of this kind, and its causes where it is cut before the last of them, and right behind it.
 fn cut_causes(kind: u8) -> (usize, Cause, Cause) {
     match kind {
         b'H' => (2, Cause::Header, Cause::Name),
