@@ -40,23 +40,23 @@ amount_le rests (leg ∷ legs) =
     (least_start (leg_amount rests) (leg_amount rests leg) legs, least_each (leg_amount rests) (leg_amount rests leg) (spread_amount rests (leg ∷ legs)) legs (omega arith))
 
 -- so each leg has what it uses
-abbrev Has : List ℤ → ℕ → Leg → Type 0
-Has rests amount leg = used amount leg.ratio ≤ unsigned_abs (value_at rests leg.commodity)
+abbrev HasUse : List ℤ → ℕ → Leg → Type 0
+HasUse rests amount leg = used amount leg.ratio ≤ unsigned_abs (value_at rests leg.commodity)
 
-all_have : (commodities : ℕ) (rests : List ℤ) (amount : ℕ) (legs : List Leg) → AllByRecursion (IsLeg commodities) legs → AllByRecursion (λ leg. amount ≤ leg_amount rests leg) legs → AllByRecursion (Has rests amount) legs
+all_have : (commodities : ℕ) (rests : List ℤ) (amount : ℕ) (legs : List Leg) → AllByRecursion (IsLeg commodities) legs → AllByRecursion (λ leg. amount ≤ leg_amount rests leg) legs → AllByRecursion (HasUse rests amount) legs
 all_have commodities rests amount [] are least = tt
 all_have commodities rests amount (leg ∷ legs) are least =
     let is : IsLeg commodities leg = are.0 in
     (used_le_left amount (unsigned_abs (value_at rests leg.commodity)) leg.ratio is.ratio least.0, all_have commodities rests amount legs are.1 least.1)
 
 -- a use of one commodity leaves the legs of others what they have
-others_have : (rests : List ℤ) (amount g : ℕ) (x : ℤ) (legs : List Leg) → AllByRecursion (λ h. (g == h) ≡ false) (map (λ leg. leg.commodity) legs) → AllByRecursion (Has rests amount) legs → AllByRecursion (Has (slice_set rests g x) amount) legs
+others_have : (rests : List ℤ) (amount g : ℕ) (x : ℤ) (legs : List Leg) → AllByRecursion (λ h. (g == h) ≡ false) (map (λ leg. leg.commodity) legs) → AllByRecursion (HasUse rests amount) legs → AllByRecursion (HasUse (slice_set rests g x) amount) legs
 others_have rests amount g x [] apart have = tt
 others_have rests amount g x (leg ∷ legs) apart have =
     let other = apart.0 in
-    let here : Has rests amount leg = have.0 in
+    let here : HasUse rests amount leg = have.0 in
     let same : value_at (slice_set rests g x) leg.commodity ≡ value_at rests leg.commodity = grind (arith, common_steps) in
-    let still : Has (slice_set rests g x) amount leg = omega (arith, here, ap unsigned_abs same) in
+    let still : HasUse (slice_set rests g x) amount leg = omega (arith, here, ap unsigned_abs same) in
     (still, others_have rests amount g x legs apart.1 have.1)
 
 nearer_size : (z : ℤ) (n : ℕ) → unsigned_abs (nearer_zero z n) ≡ unsigned_abs z - n
@@ -64,7 +64,7 @@ nearer_size (pos m) n = omega (arith, ints)
 nearer_size (negsuc m) n = omega (arith, ints)
 
 -- one leg's use
-leg_step : (rests : List ℤ) (amount g : ℕ) (leg : Leg) → Has rests amount leg → unsigned_abs (value_at (slice_set rests leg.commodity (nearer_zero (value_at rests leg.commodity) (used amount leg.ratio))) g) + leg_use amount g leg ≡ unsigned_abs (value_at rests g)
+leg_step : (rests : List ℤ) (amount g : ℕ) (leg : Leg) → HasUse rests amount leg → unsigned_abs (value_at (slice_set rests leg.commodity (nearer_zero (value_at rests leg.commodity) (used amount leg.ratio))) g) + leg_use amount g leg ≡ unsigned_abs (value_at rests g)
 leg_step rests amount g leg has =
     let size = nearer_size (value_at rests leg.commodity) (used amount leg.ratio) in
     ⊎_elim
@@ -78,7 +78,7 @@ leg_step rests amount g leg has =
     (cases_lt leg.commodity (length rests))
 
 -- the uses of a spread's legs
-legs_step : (rests : List ℤ) (amount g : ℕ) (legs : List Leg) → IsDistinct (λ h k. h == k) (map (λ leg. leg.commodity) legs) → AllByRecursion (Has rests amount) legs → unsigned_abs (value_at (rests_after rests amount legs) g) + sum_by (leg_use amount g) legs ≡ unsigned_abs (value_at rests g)
+legs_step : (rests : List ℤ) (amount g : ℕ) (legs : List Leg) → IsDistinct (λ h k. h == k) (map (λ leg. leg.commodity) legs) → AllByRecursion (HasUse rests amount) legs → unsigned_abs (value_at (rests_after rests amount legs) g) + sum_by (leg_use amount g) legs ≡ unsigned_abs (value_at rests g)
 unfolding IsDistinct
 legs_step rests amount g [] apart have = omega arith
 legs_step rests amount g (leg ∷ legs) apart have =

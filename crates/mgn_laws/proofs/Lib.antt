@@ -3,6 +3,7 @@ pub mod AbsentCredits
 pub mod AbsentLemmas
 pub mod CreditLemmas
 pub mod CreditSums
+pub mod GrowthLemmas
 pub mod PassingLemmas
 pub mod RequirementLemmas
 pub mod StageLemmas

@@ -12,11 +12,11 @@ use Rattle.mgn_params.specs.Tables.{Tables}
 
 -- the same from what earlier records gave on
 
-abbrev Judges : Option SoFar → List Record → ℕ → Result SoFar Cause
-Judges before rs k = judged (fold given before (take k rs)) (record_at rs k)
+abbrev judgement_at : Option SoFar → List Record → ℕ → Result SoFar Cause
+judgement_at before rs k = judged (fold given before (take k rs)) (record_at rs k)
 
 -- a first record that passes: the later ones go on from what it gave
-later : (before : Option SoFar) (r : Record) (rs : List Record) (draft : SoFar) (k : ℕ) → judged before r ≡ Ok draft → Judges before (r ∷ rs) (suc k) ≡ Judges (Some draft) rs k
+later : (before : Option SoFar) (r : Record) (rs : List Record) (draft : SoFar) (k : ℕ) → judged before r ≡ Ok draft → judgement_at before (r ∷ rs) (suc k) ≡ judgement_at (Some draft) rs k
 later before r rs draft k e = ap (λ (now : Option SoFar). judged (fold given now (take k rs)) (record_at rs k)) (ap result_ok e)
 
 goes : (before : Option SoFar) (r : Record) (rs : List Record) (count : ℕ) (draft : SoFar) → judged before r ≡ Ok draft → told (r ∷ rs) count before ≡ told rs (count + 1) (Some draft)
@@ -29,8 +29,8 @@ halts before r rs count cause e = ap (λ (d : Result SoFar Cause). goes_on d (λ
 
 data Ends (before : Option SoFar) (rs : List Record) (count : ℕ) : Type 0 where
   none : length rs ≡ 0 → before ≡ None → told rs count before ≡ Err (1, Header) → Ends before rs count
-  all : (draft : SoFar) → ((k : ℕ) → k < length rs → IsOk (Judges before rs k)) → fold given before rs ≡ Some draft → told rs count before ≡ Ok draft.set → Ends before rs count
-  first : (k : ℕ) (cause : Cause) → k < length rs → ((j : ℕ) → j < k → IsOk (Judges before rs j)) → Judges before rs k ≡ Err cause → told rs count before ≡ Err (count + k + 1, cause) → Ends before rs count
+  all : (draft : SoFar) → ((k : ℕ) → k < length rs → IsOk (judgement_at before rs k)) → fold given before rs ≡ Some draft → told rs count before ≡ Ok draft.set → Ends before rs count
+  first : (k : ℕ) (cause : Cause) → k < length rs → ((j : ℕ) → j < k → IsOk (judgement_at before rs j)) → judgement_at before rs k ≡ Err cause → told rs count before ≡ Err (count + k + 1, cause) → Ends before rs count
 
 is_err : {A B : Type 0} (r : Result A B) (e : B) → r ≡ Err e → IsOk r → ⊥
 is_err (Ok x) e q h = cc
@@ -39,11 +39,11 @@ is_err (Err x) e q h = cc
 some_none : (draft : SoFar) → Some draft ≡ None → ⊥
 some_none draft e = cc
 
-from_first : (before : Option SoFar) (r : Record) (rs : List Record) (draft : SoFar) → judged before r ≡ Ok draft → ((k : ℕ) → k < length rs → IsOk (Judges (Some draft) rs k)) → (k : ℕ) → k < length (r ∷ rs) → IsOk (Judges before (r ∷ rs) k)
+from_first : (before : Option SoFar) (r : Record) (rs : List Record) (draft : SoFar) → judged before r ≡ Ok draft → ((k : ℕ) → k < length rs → IsOk (judgement_at (Some draft) rs k)) → (k : ℕ) → k < length (r ∷ rs) → IsOk (judgement_at before (r ∷ rs) k)
 from_first before r rs draft e each zero h = ap is_ok e
 from_first before r rs draft e each (suc k) h = ap is_ok (later before r rs draft k e) ∙ each k (omega arith)
 
-earlier_ones : (before : Option SoFar) (r : Record) (rs : List Record) (draft : SoFar) (k : ℕ) → judged before r ≡ Ok draft → ((j : ℕ) → j < k → IsOk (Judges (Some draft) rs j)) → (j : ℕ) → j < suc k → IsOk (Judges before (r ∷ rs) j)
+earlier_ones : (before : Option SoFar) (r : Record) (rs : List Record) (draft : SoFar) (k : ℕ) → judged before r ≡ Ok draft → ((j : ℕ) → j < k → IsOk (judgement_at (Some draft) rs j)) → (j : ℕ) → j < suc k → IsOk (judgement_at before (r ∷ rs) j)
 earlier_ones before r rs draft k e earlier zero h = ap is_ok e
 earlier_ones before r rs draft k e earlier (suc j) h = ap is_ok (later before r rs draft j e) ∙ earlier j (omega arith)
 
@@ -87,7 +87,7 @@ accepted_from rs (first k cause there earlier refused end) ok = absurd (is_err (
 accepted_to : (rs : List Record) → Whole rs → IsAccepted rs → IsOk (told rs 0 None)
 accepted_to rs (none empty missing end) is = absurd (omega (arith, is.some))
 accepted_to rs (all draft each gave end) is = ap is_ok end
-accepted_to rs (first k cause there earlier refused end) is = absurd (is_err (Judges None rs k) cause refused (is.each k there))
+accepted_to rs (first k cause there earlier refused end) is = absurd (is_err (judgement_at None rs k) cause refused (is.each k there))
 
 pub accepted_where : (rs : List Record) → IsOk (outcome rs) ↔ IsAccepted rs
 unfolding outcome
@@ -129,19 +129,19 @@ fault_from rs n c (first k cause there earlier refused end) e =
 one_place : (rs : List Record) (j k : ℕ) (a b : Cause) → IsRefusedAt rs j a → IsRefusedAt rs k b → j ≡ k
 one_place rs j k a b one two =
     ⊎_elim (λ same. same)
-    (⊎_elim (λ (less : j < k). absurd (is_err (Judges None rs j) a one.refused (two.earlier j less))) (λ (more : k < j). absurd (is_err (Judges None rs k) b two.refused (one.earlier k more))))
+    (⊎_elim (λ (less : j < k). absurd (is_err (judgement_at None rs j) a one.refused (two.earlier j less))) (λ (more : k < j). absurd (is_err (judgement_at None rs k) b two.refused (one.earlier k more))))
     (cases_order j k)
 
 fault_to : (rs : List Record) (n : ℕ) (c : Cause) → Whole rs → IsFault rs n c → told rs 0 None ≡ Err (n, c)
 fault_to rs n c (none empty missing end) (inl is) = end ∙ rw (is.1, is.2) refl
 fault_to rs n c (none empty missing end) (inr is) = let there = is.2.there in absurd (omega arith)
 fault_to rs n c (all draft each gave end) (inl is) = absurd (no_record rs draft is.0 gave)
-fault_to rs n c (all draft each gave end) (inr is) = absurd (is_err (Judges None rs is.0) c is.2.refused (each is.0 is.2.there))
+fault_to rs n c (all draft each gave end) (inr is) = absurd (is_err (judgement_at None rs is.0) c is.2.refused (each is.0 is.2.there))
 fault_to rs n c (first k cause there earlier refused end) (inl is) = let empty = is.0 in absurd (omega arith)
 fault_to rs n c (first k cause there earlier refused end) (inr is) =
     let same = one_place rs is.0 k c cause is.2 (record { there = there; earlier = earlier; refused = refused }) in
     let number : 0 + k + 1 ≡ n = omega (arith, same, is.1) in
-    let own : cause ≡ c = same_cause (Judges None rs k) cause c refused (ap (Judges None rs) (sym same) ∙ is.2.refused) in
+    let own : cause ≡ c = same_cause (judgement_at None rs k) cause c refused (ap (judgement_at None rs) (sym same) ∙ is.2.refused) in
     end ∙ rw (number, own) refl
 
 pub fault_is : (rs : List Record) (n : ℕ) (c : Cause) → (outcome rs ≡ Err (n, c)) ↔ IsFault rs n c

@@ -35,10 +35,10 @@ use Rattle.mgn_params.specs.Tables.{Tables, commodity_at, legs_of, month_at}
 
 -- filters by a number that each row has, as its commodity
 
-abbrev Others : {X : Type 0} → (X → ℕ) → ℕ → List X → List X
-Others f g xs = filter (λ x. not (f x == g)) xs
+abbrev others_of : {X : Type 0} → (X → ℕ) → ℕ → List X → List X
+others_of f g xs = filter (λ x. not (f x == g)) xs
 
-filter_other : {X : Type 0} (f : X → ℕ) (g h : ℕ) → h ≢ g → (xs : List X) → filter (λ x. f x == h) (Others f g xs) ≡ filter (λ x. f x == h) xs
+filter_other : {X : Type 0} (f : X → ℕ) (g h : ℕ) → h ≢ g → (xs : List X) → filter (λ x. f x == h) (others_of f g xs) ≡ filter (λ x. f x == h) xs
 filter_other f g h apart [] = refl
 filter_other f g h apart (x ∷ xs) =
     ⊎_elim
@@ -46,7 +46,7 @@ filter_other f g h apart (x ∷ xs) =
     (λ (off : f x ≢ g). rw (ne_eqb (f x) g off, filter_other f g h apart xs) refl)
     (cases_eq (f x) g)
 
-filter_own : {X : Type 0} (f : X → ℕ) (g : ℕ) (xs : List X) → filter (λ x. f x == g) (Others f g xs) ≡ []
+filter_own : {X : Type 0} (f : X → ℕ) (g : ℕ) (xs : List X) → filter (λ x. f x == g) (others_of f g xs) ≡ []
 filter_own f g [] = refl
 filter_own f g (x ∷ xs) =
     ⊎_elim
@@ -54,7 +54,7 @@ filter_own f g (x ∷ xs) =
     (λ (off : f x ≢ g). rw (ne_eqb (f x) g off) (rw (ne_eqb (f x) g off) (filter_own f g xs)))
     (cases_eq (f x) g)
 
-find_other : {X : Type 0} (f : X → ℕ) (g h : ℕ) → h ≢ g → (xs : List X) → find (λ x. f x == h) (Others f g xs) ≡ find (λ x. f x == h) xs
+find_other : {X : Type 0} (f : X → ℕ) (g h : ℕ) → h ≢ g → (xs : List X) → find (λ x. f x == h) (others_of f g xs) ≡ find (λ x. f x == h) xs
 find_other f g h apart [] = refl
 find_other f g h apart (x ∷ xs) =
     ⊎_elim
@@ -62,7 +62,7 @@ find_other f g h apart (x ∷ xs) =
     (λ (off : f x ≢ g). rw (ne_eqb (f x) g off, find_other f g h apart xs) refl)
     (cases_eq (f x) g)
 
-find_own : {X : Type 0} (f : X → ℕ) (g : ℕ) (xs : List X) → find (λ x. f x == g) (Others f g xs) ≡ None
+find_own : {X : Type 0} (f : X → ℕ) (g : ℕ) (xs : List X) → find (λ x. f x == g) (others_of f g xs) ≡ None
 find_own f g [] = refl
 find_own f g (x ∷ xs) =
     ⊎_elim
@@ -73,15 +73,15 @@ find_own f g (x ∷ xs) =
 -- the positions that are left
 
 abbrev left : ℕ → List Position → List Position
-left g held = Others (λ (p : Position). p.0.commodity) g held
+left g held = others_of (λ (p : Position). p.0.commodity) g held
 
 no_nets : (cs : List Contract) → positions cs [] ≡ []
 no_nets [] = refl
 no_nets (c ∷ cs) = refl
 
-left_positions : (g : ℕ) (cs : List Contract) (ns : List ℤ) → positions (Others (λ (c : Contract). c.commodity) g cs) (map (λ (p : Position). p.1) (left g (positions cs ns))) ≡ left g (positions cs ns)
+left_positions : (g : ℕ) (cs : List Contract) (ns : List ℤ) → positions (others_of (λ (c : Contract). c.commodity) g cs) (map (λ (p : Position). p.1) (left g (positions cs ns))) ≡ left g (positions cs ns)
 left_positions g [] ns = refl
-left_positions g (c ∷ cs) [] = no_nets (Others (λ (x : Contract). x.commodity) g (c ∷ cs))
+left_positions g (c ∷ cs) [] = no_nets (others_of (λ (x : Contract). x.commodity) g (c ∷ cs))
 left_positions g (c ∷ cs) (n ∷ ns) =
     ⊎_elim
     (λ (of : c.commodity ≡ g). rw (eq-eqb c.commodity g of) (left_positions g cs ns))
@@ -90,10 +90,10 @@ left_positions g (c ∷ cs) (n ∷ ns) =
 
 -- what counts for nothing at a net of 0 sums to the same
 
-abbrev None_held : List Position → ℕ → Type 0
-None_held held g = AllByRecursion (λ p. p.0.commodity ≡ g → p.1 ≡ pos 0) held
+abbrev HoldsNoneByRecursion : List Position → ℕ → Type 0
+HoldsNoneByRecursion held g = AllByRecursion (λ p. p.0.commodity ≡ g → p.1 ≡ pos 0) held
 
-sum_left : (f : Position → ℤ) → ((p : Position) → p.1 ≡ pos 0 → f p ≡ pos 0) → (g : ℕ) (held : List Position) → None_held held g → signed_sum_by f (left g held) ≡ signed_sum_by f held
+sum_left : (f : Position → ℤ) → ((p : Position) → p.1 ≡ pos 0 → f p ≡ pos 0) → (g : ℕ) (held : List Position) → HoldsNoneByRecursion held g → signed_sum_by f (left g held) ≡ signed_sum_by f held
 sum_left f flat g [] none = refl
 sum_left f flat g (p ∷ held) none =
     let more = signed_sum_by-cons f p held in
@@ -103,7 +103,7 @@ sum_left f flat g (p ∷ held) none =
     (λ (off : p.0.commodity ≢ g). rw (ne_eqb p.0.commodity g off) (omega (arith, ints, more, rest, signed_sum_by-cons f p (left g held))))
     (cases_eq p.0.commodity g)
 
-count_left : (f : Position → ℕ) → ((p : Position) → p.1 ≡ pos 0 → f p ≡ 0) → (g : ℕ) (held : List Position) → None_held held g → sum_by f (left g held) ≡ sum_by f held
+count_left : (f : Position → ℕ) → ((p : Position) → p.1 ≡ pos 0 → f p ≡ 0) → (g : ℕ) (held : List Position) → HoldsNoneByRecursion held g → sum_by f (left g held) ≡ sum_by f held
 count_left f flat g [] none = refl
 count_left f flat g (p ∷ held) none =
     let more = sum_by-cons f p held in
@@ -113,10 +113,10 @@ count_left f flat g (p ∷ held) none =
     (λ (off : p.0.commodity ≢ g). rw (ne_eqb p.0.commodity g off) (omega (arith, more, rest, sum_by-cons f p (left g held))))
     (cases_eq p.0.commodity g)
 
-totals_left : (h g : ℕ) (held : List Position) → None_held held g → scenario_total h (left g held) ≡ scenario_total h held
+totals_left : (h g : ℕ) (held : List Position) → HoldsNoneByRecursion held g → scenario_total h (left g held) ≡ scenario_total h held
 totals_left h g held none = fun_ext (λ s. sum_left (scenario_share h s) (share_flat h s) g held none)
 
-deltas_left : (g : ℕ) (held : List Position) → None_held held g → month_delta (left g held) ≡ month_delta held
+deltas_left : (g : ℕ) (held : List Position) → HoldsNoneByRecursion held g → month_delta (left g held) ≡ month_delta held
 deltas_left g held none = fun_ext (λ m. sum_left (month_share m) (month_share_flat m) g held none)
 
 -- what hangs on the month deltas
@@ -125,11 +125,11 @@ abbrev starts_by : List Month → ℕ → (ℕ → ℤ) → List ℕ
 starts_by months g delta =
     map (λ leg. if nat_lt leg 8 then sum_below (λ m. if is_in_tier months g leg m then positive_part (delta m) else 0) (length months) else sum_below (λ m. if is_in_tier months g (leg - 8) m then negative_part (delta m) else 0) (length months)) (range_with_len 0 16)
 
-starts_left : (months : List Month) (h g : ℕ) (held : List Position) → None_held held g → starts_of months (left g held) h ≡ starts_of months held h
+starts_left : (months : List Month) (h g : ℕ) (held : List Position) → HoldsNoneByRecursion held g → starts_of months (left g held) h ≡ starts_of months held h
 unfolding starts_of
 starts_left months h g held none = ap (starts_by months h) (deltas_left g held none)
 
-net_left : (months : List Month) (h g : ℕ) (held : List Position) → None_held held g → net_delta months (left g held) h ≡ net_delta months held h
+net_left : (months : List Month) (h g : ℕ) (held : List Position) → HoldsNoneByRecursion held g → net_delta months (left g held) h ≡ net_delta months held h
 net_left months h g held none =
     ap (λ (delta : ℕ → ℤ). signed_sum_below (λ m. if (month_at months m).commodity == h then delta m else pos 0) (length months)) (deltas_left g held none)
 
@@ -159,21 +159,21 @@ form_left deltas risks g now (s ∷ spreads) has =
 
 -- each part of the calculation
 
-flat_held : (held : List Position) (g : ℕ) → HoldsNone held g → None_held held g
+flat_held : (held : List Position) (g : ℕ) → HoldsNone held g → HoldsNoneByRecursion held g
 flat_held held g none = recursion_from_All (λ p. p.0.commodity ≡ g → p.1 ≡ pos 0) held none
 
-scan_left : (h g : ℕ) (held : List Position) → None_held held g → scan_of (left g held) h ≡ scan_of held h
+scan_left : (h g : ℕ) (held : List Position) → HoldsNoneByRecursion held g → scan_of (left g held) h ≡ scan_of held h
 scan_left h g held none = ap scan_risk (totals_left h g held none)
 
-price_left : (h g : ℕ) (held : List Position) → None_held held g → price_risk2_of (left g held) h ≡ price_risk2_of held h
+price_left : (h g : ℕ) (held : List Position) → HoldsNoneByRecursion held g → price_risk2_of (left g held) h ≡ price_risk2_of held h
 price_left h g held none = ap (λ (t : ℕ → ℤ). unsigned_abs (price_risk2 t)) (totals_left h g held none)
 
-minimum_left : (set : Tables) (h g : ℕ) (held : List Position) → None_held held g → minimum (without g set) (left g held) h ≡ minimum set held h
+minimum_left : (set : Tables) (h g : ℕ) (held : List Position) → HoldsNoneByRecursion held g → minimum (without g set) (left g held) h ≡ minimum set held h
 minimum_left set h g held none =
     let charge = (commodity_at set.commodities h).short_option_charge in
     count_left (short_share_of h charge) (short_share_flat h charge) g held none
 
-value_left : (g : ℕ) (held : List Position) → None_held held g → net_option_value (left g held) ≡ net_option_value held
+value_left : (g : ℕ) (held : List Position) → HoldsNoneByRecursion held g → net_option_value (left g held) ≡ net_option_value held
 value_left g held none = sum_left value_share value_share_flat g held none
 
 intra_left : (set : Tables) (nets : List ℤ) (h g : ℕ) → IsWithinLimits set → HoldsNone (positions set.contracts nets) g → intra_charge (without g set) (left g (positions set.contracts nets)) h ≡ intra_charge set (positions set.contracts nets) h
@@ -183,23 +183,23 @@ intra_left set nets h g limits none =
     let starts = starts_left set.months h g held (flat_held held g none) in
     ⊎_elim
     (λ (own : h ≡ g).
-    let empty : stages_of (Others (λ (s : Spread). s.commodity) g set.spreads) h ≡ [] = ap (λ (k : ℕ). stages_of (Others (λ (s : Spread). s.commodity) g set.spreads) k) own ∙ ap (flat_map stages_of_spread) (filter_own (λ (s : Spread). s.commodity) g set.spreads) in
+    let empty : stages_of (others_of (λ (s : Spread). s.commodity) g set.spreads) h ≡ [] = ap (λ (k : ℕ). stages_of (others_of (λ (s : Spread). s.commodity) g set.spreads) k) own ∙ ap (flat_map stages_of_spread) (filter_own (λ (s : Spread). s.commodity) g set.spreads) in
     let nothing = ap (λ (k : ℕ). intra_charge set held k) own ∙ intra_none set nets g limits none in
     ap (charges_of (starts_of set.months (left g held) h)) empty ∙ sym nothing)
     (λ (other : h ≢ g).
     let same = ap (flat_map stages_of_spread) (filter_other (λ (s : Spread). s.commodity) g h other set.spreads) in
-    ap (λ (row : List ℕ). charges_of row (stages_of (Others (λ (s : Spread). s.commodity) g set.spreads) h)) starts ∙ ap (charges_of (starts_of set.months held h)) same)
+    ap (λ (row : List ℕ). charges_of row (stages_of (others_of (λ (s : Spread). s.commodity) g set.spreads) h)) starts ∙ ap (charges_of (starts_of set.months held h)) same)
     (cases_eq h g)
 
 spot_left : (set : Tables) (nets : List ℤ) (h g : ℕ) → IsWithinLimits set → HoldsNone (positions set.contracts nets) g → spot_charge (without g set) (left g (positions set.contracts nets)) h ≡ spot_charge set (positions set.contracts nets) h
 unfolding spot_charge
 spot_left set nets h g limits none =
     let held : List Position = positions set.contracts nets in
-    let fewer = Others (λ (s : Spread). s.commodity) g set.spreads in
+    let fewer = others_of (λ (s : Spread). s.commodity) g set.spreads in
     let starts = starts_left set.months h g held (flat_held held g none) in
     ⊎_elim
     (λ (own : h ≡ g).
-    let missing : spot_of (Others (λ (s : SpotCharge). s.commodity) g set.spots) h ≡ None = ap (spot_of (Others (λ (s : SpotCharge). s.commodity) g set.spots)) own ∙ find_own (λ (s : SpotCharge). s.commodity) g set.spots in
+    let missing : spot_of (others_of (λ (s : SpotCharge). s.commodity) g set.spots) h ≡ None = ap (spot_of (others_of (λ (s : SpotCharge). s.commodity) g set.spots)) own ∙ find_own (λ (s : SpotCharge). s.commodity) g set.spots in
     let nothing = ap (λ (k : ℕ). spot_charge set held k) own ∙ spot_none set nets g limits none in
     ap (spot_charge_of (starts_of set.months (left g held) h) (stages_of fewer h)) missing ∙ sym nothing)
     (λ (other : h ≢ g).

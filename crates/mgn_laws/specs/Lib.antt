@@ -5,3 +5,4 @@ pub mod Turned
 pub mod Uses
 pub mod Absent
 pub mod Passing
+pub mod Growth

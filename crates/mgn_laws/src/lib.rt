@@ -14,7 +14,8 @@ pub use credits::{
 };
 pub use deltas::{turning_round_swaps_deltas, turning_round_turns_net_delta};
 pub use files::{
-    accepts_where_each_record_passes, refuses_first_faulty_record, sets_what_records_give,
+    accepts_where_each_record_passes, adds_one_row_at_the_end, refuses_first_faulty_record,
+    sets_what_records_give,
 };
 pub use requirements::{
     adds_nothing_where_nothing_is_held, flat_owes_nothing, owes_at_least_nothing,
