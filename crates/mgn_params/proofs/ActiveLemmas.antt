@@ -1,68 +1,55 @@
 -- The active scenario is the lowest with the largest total, and no other is.
-use Rattle.std.proofs.Common.{◌≡◌, ℕ, zero, suc, ◌<◌, ◌≤◌, ⊎_elim, ap, ◌∙◌, arith}
-use Rattle.std.specs.Prelude.{ℤ, pos, ◌≤ℤ◌, ◌<ℤ◌, int_lt, if◌then◌else◌, unsigned_abs}
-use Rattle.std.specs.Int.{int_max}
-use Rattle.std.proofs.lemmas.Bool.{cases_order}
+use Rattle.std.proofs.Common.{◌≡◌, ℕ, zero, suc, ◌<◌, ◌≤◌, ⊎_elim, ap, arith}
+use Rattle.std.specs.Prelude.{ℤ, ◌≤ℤ◌, ◌<ℤ◌}
+use Rattle.std.proofs.lemmas.Bool.{cases_lt}
 use Rattle.std.proofs.lemmas.Int.{ints}
-use Rattle.mgn_params.specs.Scan.{IsActive, active, lowest_largest, pair_of, price_risk2, price_risk2_at, scan_risk}
+use Rattle.mgn_params.specs.Scan.{IsActive, active, lowest_largest, pair_of}
 
--- of the scenarios up to `last`, the lowest one with the largest total
-record IsLowestLargest (t : ℕ → ℤ) (last best : ℕ) : Type 0 where
-  within : best ≤ last
-  largest : (k : ℕ) → k ≤ last → t k ≤ℤ t best
-  lowest : (k : ℕ) → k < best → t k <ℤ t best
+-- what is chosen of the scenarios up to `last` is one of them, none of them is larger, and each lower one is smaller
 
-lowest_largest-step : (t : ℕ → ℤ) (last best : ℕ) → IsLowestLargest t last best → IsLowestLargest t (suc last) (if int_lt (t best) (t (suc last)) then suc last else best)
-lowest_largest-step t last best h = record {
-  within = grind (arith, ints, h.within);
-  largest = λ k p. grind (arith, ints, h.largest k);
-  lowest = λ k p. grind (arith, ints, h.lowest k, h.largest k, h.within);
-}
+chosen_within : (t : ℕ → ℤ) (last : ℕ) → lowest_largest t last ≤ last
+chosen_within t zero = omega arith
+chosen_within t (suc last) = grind (arith, ints, chosen_within t last)
 
-lowest_largest_is : (t : ℕ → ℤ) (last : ℕ) → IsLowestLargest t last (lowest_largest t last)
-lowest_largest_is t zero = record {
-  within = omega arith;
-  largest = λ k p. let e : k ≡ 0 = omega arith in omega (arith, ints, ap t e);
-  lowest = λ k p. absurd (omega arith);
-}
-lowest_largest_is t (suc last) = lowest_largest-step t last (lowest_largest t last) (lowest_largest_is t last)
+none_larger : (t : ℕ → ℤ) (last k : ℕ) → k ≤ last → t k ≤ℤ t (lowest_largest t last)
+none_larger t zero k h = let only : k ≡ 0 = omega arith in omega (arith, ints, ap t only)
+none_larger t (suc last) k h =
+    ⊎_elim
+    (λ (earlier : k < suc last). let before = none_larger t last k (omega arith) in grind (arith, ints))
+    (λ (newest : suc last ≤ k). let is : k ≡ suc last = omega arith in grind (arith, ints))
+    (cases_lt k (suc last))
+
+lower_smaller : (t : ℕ → ℤ) (last k : ℕ) → k < lowest_largest t last → t k <ℤ t (lowest_largest t last)
+lower_smaller t zero k h = absurd (omega arith)
+lower_smaller t (suc last) k h =
+    grind (arith, ints, chosen_within t last, none_larger t last k, lower_smaller t last k)
 
 pub active_is : (t : ℕ → ℤ) → IsActive t (active t)
 unfolding active
-active_is t =
-    let h = lowest_largest_is t 15 in
-    record { scenario = omega (arith, h.within); largest = λ k p. h.largest k (omega arith); lowest = h.lowest }
+active_is t = record {
+  scenario = omega (arith, chosen_within t 15);
+  largest = λ k h. none_larger t 15 k (omega arith);
+  lowest = lower_smaller t 15;
+}
 
-pub active_only : (t : ℕ → ℤ) (a b : ℕ) → IsActive t a → IsActive t b → a ≡ b
-active_only t a b p q =
-    ⊎_elim (λ e. e)
-    (⊎_elim (λ (less : a < b). absurd (omega (arith, ints, q.lowest a less, p.largest b q.scenario))) (λ (more : b < a). absurd (omega (arith, ints, p.lowest b more, q.largest a p.scenario))))
-    (cases_order a b)
+-- of two that are active neither stands below the other
+not_below : (t : ℕ → ℤ) (a b : ℕ) → IsActive t a → IsActive t b → a < b → ⊥
+not_below t a b one other below = omega (arith, ints, one.largest b other.scenario, other.lowest a below)
 
--- what was found in a row of the 16 totals
+pub only_active : (t : ℕ → ℤ) (a : ℕ) → IsActive t a → a ≡ active t
+only_active t a is =
+    omega (arith, not_below t a (active t) is (active_is t), not_below t (active t) a (active_is t) is)
+
+-- the same for a row of the 16 totals
 pub active_along : (t u : ℕ → ℤ) (a : ℕ) → ((s : ℕ) → s < 16 → t s ≡ u s) → IsActive t a → a ≡ active u
-active_along t u a same p =
-    active_only u a (active u) record {
-      scenario = p.scenario;
-      largest = λ k h. omega (arith, ints, p.largest k h, same k h, same a p.scenario);
-      lowest = λ k h. let below : k < 16 = omega (arith, p.scenario) in omega (arith, ints, p.lowest k h, same k below, same a p.scenario);
-    } (active_is u)
-
-pub scan_risk_along : (t u : ℕ → ℤ) (a : ℕ) → ((s : ℕ) → s < 16 → t s ≡ u s) → IsActive t a → int_max (pos 0) (t a) ≡ scan_risk u
-scan_risk_along t u a same p =
-    ap (int_max (pos 0)) (same a p.scenario ∙ ap u (active_along t u a same p))
+active_along t u a same is =
+    let small = is.scenario in
+    let here = same a small in
+    only_active u a (record {
+      scenario = small;
+      largest = λ k h. omega (arith, ints, here, same k h, is.largest k h);
+      lowest = λ k h. omega (arith, ints, here, same k (omega arith), is.lowest k h);
+    })
 
 pub pair_of_small : (s : ℕ) → s < 16 → pair_of s < 16
 pair_of_small s h = grind arith
-
-price_risk2_at_along : (t u : ℕ → ℤ) (a : ℕ) → a < 16 → ((s : ℕ) → s < 16 → t s ≡ u s) → price_risk2_at t a ≡ price_risk2_at u a
-price_risk2_at_along t u a h same =
-    rw (same a h, same (pair_of a) (pair_of_small a h), same 0 (omega arith), same 1 (omega arith))
-
-pub price_risk2_along : (t u : ℕ → ℤ) (a : ℕ) → ((s : ℕ) → s < 16 → t s ≡ u s) → IsActive t a → price_risk2_at t a ≡ price_risk2 u
-price_risk2_along t u a same p =
-    price_risk2_at_along t u a p.scenario same ∙ ap (price_risk2_at u) (active_along t u a same p)
-
--- the price risk is never negative
-pub price_risk2_size : (t : ℕ → ℤ) → pos (unsigned_abs (price_risk2 t)) ≡ price_risk2 t
-price_risk2_size t = grind (arith, ints)

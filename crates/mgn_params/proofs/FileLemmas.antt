@@ -1,14 +1,15 @@
 -- From line to line of a file: what the records that are left give.
-use Rattle.std.proofs.Common.{◌≡◌, ◌+◌, ◌<◌, ◌≤◌, ℕ, List, [], ◌∷◌, ◌++◌, length, Option, Some, None, Result, Ok, Err, refl, ap, ◌∙◌, arith, Bor}
-use Rattle.std.specs.Prelude.{◌==◌, IfSome}
+use Rattle.std.proofs.Common.{◌≡◌, ◌+◌, ◌<◌, ◌≤◌, ℕ, List, [], ◌∷◌, ◌++◌, length, Option, Some, None, Result, Ok, Err, refl, ap, ◌∙◌, arith, Bor, inl, inr}
+use Rattle.std.specs.Prelude.{◌==◌, ◌⊎◌, IfSome}
 use Rattle.std.specs.List.{flat_map, slice_split}
 use Rattle.mgn_params.specs.declared.draft.Draft.{Draft}
 use Rattle.mgn_params.specs.declared.fault.Cause.{Cause}
-use Rattle.mgn_params.specs.declared.fault.Cause.TheVariants.{Fields as WrongFields}
-use Rattle.mgn_params.specs.declared.fault.LineFault.TheVariants.{Second}
+use Rattle.mgn_params.specs.declared.fault.Cause.TheVariants.{Fields as WrongFields, Memory as NoMemory}
+use Rattle.mgn_params.specs.declared.fault.LineFault.{LineFault}
+use Rattle.mgn_params.specs.declared.fault.LineFault.TheVariants.{Memory, Second}
 use Rattle.mgn_params.specs.Fields.{Fields}
 use Rattle.mgn_params.specs.File.{Record, goes_on, judged, record_of, record_of_line, records_of, told}
-use Rattle.mgn_params.specs.Lines.{line_records, lines_left, single}
+use Rattle.mgn_params.specs.Lines.{Fails, line_cause, line_records, lines_left, single}
 
 -- the records of what is left of a file
 abbrev pub records_left : Option (List ℕ) → List Record
@@ -68,6 +69,16 @@ unfolding record_of_line judged
 stops_twice line left more count before e s =
     let r : records_of left ≡ None ∷ records_left more = rw (next line left more e, two_records (line_records line) s) refl in
     ap (λ (rs : List Record). told rs count before) r
+
+pub stops_at : (line left : List ℕ) (more : Option (List ℕ)) (count : ℕ) (before : Option Draft) (fault : LineFault) → slice_split (λ b. b == 10) left ≡ line ∷ lines_left more → Fails fault (single (line_records line))
+    → (line_cause fault ≡ NoMemory) ⊎ (told (records_of left) count before ≡ Err (count + 1, line_cause fault))
+stops_at line left more count before Memory e s = inl refl
+stops_at line left more count before Second e s = inr (stops_twice line left more count before e s)
+
+-- no line is left
+pub no_more : (count : ℕ) (draft : Option Draft) → told [] count draft ≡ told [] 0 draft
+no_more count None = refl
+no_more count (Some draft) = refl
 
 -- how much of a file is left, at most
 abbrev pub left_of : Option (Bor (List ℕ)) → ℕ

@@ -63,7 +63,7 @@ either false x y z p q = q
 
 -- scenarios
 
-share_flat : (g s : ℕ) (p : Position) → p.1 ≡ pos 0 → scenario_share g s p ≡ pos 0
+pub share_flat : (g s : ℕ) (p : Position) → p.1 ≡ pos 0 → scenario_share g s p ≡ pos 0
 share_flat g s p h =
     either (p.0.commodity == g) (p.1 *ℤ value_at p.0.array s) (pos 0) (pos 0) (rw h (zero-*ℤ (value_at p.0.array s))) refl
 
@@ -75,7 +75,7 @@ scan_flat held h g = ap (int_max (pos 0)) (total_flat held h g (active (scenario
 
 -- deltas
 
-month_share_flat : (m : ℕ) (p : Position) → p.1 ≡ pos 0 → month_share m p ≡ pos 0
+pub month_share_flat : (m : ℕ) (p : Position) → p.1 ≡ pos 0 → month_share m p ≡ pos 0
 month_share_flat m p h =
     either (p.0.month == m) (p.1 *ℤ p.0.delta) (pos 0) (pos 0) (rw h (zero-*ℤ p.0.delta)) refl
 
@@ -150,7 +150,7 @@ spot_zero row h stages (Some spot) =
 
 -- the requirement
 
-short_share_flat : (g charge : ℕ) (p : Position) → p.1 ≡ pos 0 → short_share_of g charge p ≡ 0
+pub short_share_flat : (g charge : ℕ) (p : Position) → p.1 ≡ pos 0 → short_share_of g charge p ≡ 0
 short_share_flat g charge p e =
     either ((p.0.commodity == g) && is_option p.0.kind) (negative_part p.1 * charge) 0 0 (rw e (zero-mul charge)) refl
 
@@ -158,7 +158,7 @@ minimum_flat : (held : List Position) → IsFlat held → (g charge : ℕ) → s
 minimum_flat held h g charge =
     flat_count (short_share_of g charge) (short_share_flat g charge) held h
 
-value_share_flat : (p : Position) → p.1 ≡ pos 0 → value_share p ≡ pos 0
+pub value_share_flat : (p : Position) → p.1 ≡ pos 0 → value_share p ≡ pos 0
 value_share_flat p e =
     either (is_premium p.0.style) (p.1 *ℤ pos p.0.option_value) (pos 0) (pos 0) (rw e (zero-*ℤ (pos p.0.option_value))) refl
 

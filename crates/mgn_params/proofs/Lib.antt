@@ -1,5 +1,5 @@
 -- Laws of the definitions.
-pub mod Rows
+pub mod Examples
 pub mod LimitsLemmas
 pub mod FlatLemmas
 pub mod PositionLemmas
@@ -12,4 +12,3 @@ pub mod RecordLemmas
 pub mod LineLemmas
 pub mod FileLemmas
 pub mod LegLemmas
-pub mod LawLemmas

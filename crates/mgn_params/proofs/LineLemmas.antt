@@ -1,96 +1,93 @@
--- From reads of one line to the records of that line.
-use Rattle.std.proofs.Common.{◌≡◌, ℕ, List, [], ◌∷◌, length, Option, Some, None, Ok, Err, true, false, refl, sym, ◌∙◌, add-one}
-use Rattle.std.proofs.Common.{◌+◌, ◌≤◌, take, drop, Bool, cond, arith}
-use Rattle.std.specs.Prelude.{position, nat_lt}
+-- The records of one line, by what a reader of that line found, and the lines of a text.
+use Rattle.std.proofs.Common.{◌≡◌, ◌+◌, ◌-◌, ◌<◌, ◌≤◌, ℕ, zero, suc, List, [], ◌∷◌, ◌++◌, length, take, drop, Bool, true, false, Option, Some, None, Ok, Err, refl, sym, ap, ◌∙◌, ⊎_elim, arith}
+use Rattle.std.specs.Prelude.{position}
 use Rattle.std.specs.List.{slice_split, position_or_len}
-use Rattle.std.proofs.lemmas.Bool.Decides.{nat_tests}
-use Rattle.std.proofs.lemmas.List.Splits.{slice_split_first, slice_split_none}
-use Rattle.std.proofs.lemmas.List.Sums.{fails_before_first, position_or_len_is}
+use Rattle.std.proofs.lemmas.Bool.{cases_lt, le-ltb, lt-ltb}
+use Rattle.std.proofs.lemmas.List.{append-nil}
 use Rattle.std.proofs.lemmas.List.Elements.{All-from_get_or}
-use Rattle.std.proofs.lemmas.List.Quantifiers.{position-Some}
-use Rattle.csv.specs.Machine.{Read, next_record}
-use Rattle.csv.specs.Reading.{records, records_from, Reached, default_config, source_of, ReadRecord}
-use Rattle.csv.specs.declared.reader.Reader.{Reader}
+use Rattle.std.proofs.lemmas.List.Splits.{slice_split_first, slice_split_none}
+use Rattle.std.proofs.lemmas.List.Sums.{fails_before_first}
 use Rattle.csv.proofs.ReadFacts.{rows-end, rows-more}
 use Rattle.csv.specs.declared.parser.State.{State}
 use Rattle.csv.specs.declared.parser.State.TheVariants as st
+use Rattle.csv.specs.declared.reader.Reader.{Reader}
+use Rattle.csv.specs.Machine.{next_record}
+use Rattle.csv.specs.Reading.{ReadRecord, Reached, default_config, records, records_from, source_of}
+use Rattle.mgn_params.specs.declared.fault.LineFault.TheVariants.{Second}
 use Rattle.mgn_params.specs.Fields.{Fields}
 use Rattle.mgn_params.specs.Lines.{single}
-use Rattle.mgn_params.specs.declared.fault.LineFault.TheVariants.{Second}
 
-pub none_found : (xs : List ℕ) → next_record default_config st.StartRecord [] [] xs ≡ None → records default_config xs ≡ []
-unfolding records_from
-none_found xs e = rw (add-one, e) refl
+-- records that were reached come first, and after them those of the bytes that are left
+reached_first : (n : ℕ) (s t : State) (xs ys : List ℕ) (rows : List Fields) → Reached default_config s xs rows t ys → records_from default_config (length rows + n) s xs ≡ rows ++ records_from default_config n t ys
+unfolding Reached records_from
+reached_first n s t xs ys [] (here, same) = rw (here, same) (ap (λ (k : ℕ). records_from default_config k t ys) (omega arith))
+reached_first n s t xs ys (r ∷ rows) (p, first, is, later) =
+    let more : length (r ∷ rows) + n ≡ suc (length rows + n) = omega arith in
+    rw (more, first, is, reached_first n p.1 t p.2 ys rows later) refl
 
--- a record needs a byte
-some_byte : (x : ℕ) (xs : List ℕ) (p : Read) → next_record default_config p.1 [] [] p.2 ≡ None
-    → next_record default_config st.StartRecord [] [] (x ∷ xs) ≡ Some p → records default_config (x ∷ xs) ≡ p.0 ∷ []
-unfolding records_from
-some_byte x xs p stop first = rw (add-one, first, stop) refl
-
-pub one_found : (xs : List ℕ) (r : Fields) (s : State) (ys : List ℕ) → Reached default_config st.StartRecord xs (r ∷ []) s ys
-    → next_record default_config s [] [] ys ≡ None → records default_config xs ≡ r ∷ []
+-- no bytes, no record
+no_bytes : (rows : List Fields) (t : State) (ys : List ℕ) → Reached default_config st.StartRecord [] rows t ys → rows ≡ []
 unfolding Reached next_record
-one_found [] r s ys (p, first, is, rest) stop = cc
-one_found (x ∷ xs) r s ys (p, first, is, rest) stop =
-    rw is (some_byte x xs p (rw (rest.0, rest.1) stop) first)
+no_bytes [] t ys there = refl
+no_bytes (r ∷ rows) t ys (p, first, is, rest) = cc
 
-two_bytes : (x : ℕ) (xs : List ℕ) (p q : Read) → next_record default_config st.StartRecord [] [] (x ∷ xs) ≡ Some p
-    → next_record default_config p.1 [] [] p.2 ≡ Some q → single (records default_config (x ∷ xs)) ≡ Err Second
+-- where the reads came to an end
+none_left : (n : ℕ) (t : State) (ys : List ℕ) → next_record default_config t [] [] ys ≡ None → records_from default_config n t ys ≡ []
 unfolding records_from
-two_bytes x xs p q first second = rw (add-one, first, second) refl
+none_left zero t ys stop = refl
+none_left (suc n) t ys stop = rw stop refl
 
-pub two_found : (xs : List ℕ) (r r2 : Fields) (s : State) (ys : List ℕ) → Reached default_config st.StartRecord xs (r ∷ r2 ∷ []) s ys
-    → single (records default_config xs) ≡ Err Second
-unfolding Reached next_record
-two_found [] r r2 s ys (p, first, is, rest) = cc
-two_found (x ∷ xs) r r2 s ys (p, first, is, (q, second, is2, rest)) = two_bytes x xs p q first second
+-- all records of a line, where one or none was read before the end
+pub all_read : (rows : List Fields) (t : State) (xs ys : List ℕ) → length rows ≤ 1 → Reached default_config st.StartRecord xs rows t ys → next_record default_config t [] [] ys ≡ None → records default_config xs ≡ rows
+all_read rows t xs ys few there stop =
+    let n = length xs + 1 - length rows in
+    let enough : length xs + 1 ≡ length rows + n = omega arith in
+    ap (λ (k : ℕ). records_from default_config k st.StartRecord xs) enough ∙ reached_first n st.StartRecord t xs ys rows there ∙ ap (λ (rs : List Fields). rows ++ rs) (none_left n t ys stop) ∙ append-nil rows
 
--- a reader at the start of a text found no record
-pub no_record : {R : Type 0} (rem : R → Option (List ℕ)) (a b : Reader R) (f : Fields) (xs : List ℕ)
-    → a.config ≡ default_config → a.state ≡ st.StartRecord → source_of rem a ≡ Some xs → ReadRecord rem a b false f
-    → single (records default_config xs) ≡ Ok None
-no_record rem a b f xs ec es ex r =
-    let stop = rows-end rem a b f default_config xs ec ex r in
-    rw (none_found xs (rw es at stop)) refl
+-- a line with a second record
+pub second_read : (f g : Fields) (t : State) (xs ys : List ℕ) → Reached default_config st.StartRecord xs (f ∷ g ∷ []) t ys → single (records default_config xs) ≡ Err Second
+second_read f g t [] ys there = let none = no_bytes (f ∷ g ∷ []) t ys there in cc
+second_read f g t (x ∷ xs) ys there =
+    let enough : length (x ∷ xs) + 1 ≡ 2 + length xs = omega arith in
+    ap (λ (k : ℕ). single (records_from default_config k st.StartRecord (x ∷ xs))) enough ∙ ap single (reached_first (length xs) st.StartRecord t (x ∷ xs) ys (f ∷ g ∷ []) there)
 
--- it found one, and then no other
-pub one_record : {R : Type 0} (rem : R → Option (List ℕ)) (a b d : Reader R) (f g : Fields) (xs : List ℕ)
-    → a.config ≡ default_config → a.state ≡ st.StartRecord → source_of rem a ≡ Some xs → ReadRecord rem a b true f → ReadRecord rem b d false g
-    → single (records default_config xs) ≡ Ok (Some f)
+-- a reader that has read nothing yet of these bytes
+pub record IsFresh {R : Type 0} (rem : R → Option (List ℕ)) (reader : Reader R) (bytes : List ℕ) : Type 0 where
+  pub config : reader.config ≡ default_config
+  pub state : reader.state ≡ st.StartRecord
+  pub source : source_of rem reader ≡ Some bytes
+
+-- it finds no record; one and then no other; two
+
+pub finds_none : {R : Type 0} (rem : R → Option (List ℕ)) (reader after : Reader R) (bytes : List ℕ) (f : Fields) → IsFresh rem reader bytes → ReadRecord rem reader after false f → single (records default_config bytes) ≡ Ok None
 unfolding Reached
-one_record rem a b d f g xs ec es ex r r2 =
-    let m = rows-more rem a b f default_config st.StartRecord xs xs [] ec ex (sym es, refl) r in
-    let stop = rows-end rem b d g default_config m.0 (r.2 ∙ ec) m.1 r2 in
-    rw (one_found xs f b.state m.0 m.2 stop) refl
+finds_none rem reader after bytes f fresh read =
+    let stop = rows-end rem reader after f default_config bytes fresh.config fresh.source read in
+    ap single (all_read [] reader.state bytes bytes (omega arith) (sym fresh.state, refl) stop)
 
--- it found two
-pub two_records : {R : Type 0} (rem : R → Option (List ℕ)) (a b d : Reader R) (f g : Fields) (xs : List ℕ)
-    → a.config ≡ default_config → a.state ≡ st.StartRecord → source_of rem a ≡ Some xs → ReadRecord rem a b true f → ReadRecord rem b d true g
-    → single (records default_config xs) ≡ Err Second
+pub finds_one : {R : Type 0} (rem : R → Option (List ℕ)) (reader after end : Reader R) (bytes : List ℕ) (f g : Fields) → IsFresh rem reader bytes → ReadRecord rem reader after true f → ReadRecord rem after end false g → single (records default_config bytes) ≡ Ok (Some f)
 unfolding Reached
-two_records rem a b d f g xs ec es ex r r2 =
-    let m = rows-more rem a b f default_config st.StartRecord xs xs [] ec ex (sym es, refl) r in
-    let n = rows-more rem b d g default_config st.StartRecord xs m.0 (f ∷ []) (r.2 ∙ ec) m.1 m.2 r2 in
-    two_found xs f g d.state n.0 n.2
+finds_one rem reader after end bytes f g fresh first second =
+    let one = rows-more rem reader after f default_config st.StartRecord bytes bytes [] fresh.config fresh.source (sym fresh.state, refl) first in
+    let stop = rows-end rem after end g default_config one.0 (first.2 ∙ fresh.config) one.1 second in
+    ap single (all_read (f ∷ []) after.state bytes one.0 (omega arith) one.2 stop)
 
--- Lines: what stands before the first end of line, and what follows it.
+pub finds_two : {R : Type 0} (rem : R → Option (List ℕ)) (reader after end : Reader R) (bytes : List ℕ) (f g : Fields) → IsFresh rem reader bytes → ReadRecord rem reader after true f → ReadRecord rem after end true g → single (records default_config bytes) ≡ Err Second
+unfolding Reached
+finds_two rem reader after end bytes f g fresh first second =
+    let one = rows-more rem reader after f default_config st.StartRecord bytes bytes [] fresh.config fresh.source (sym fresh.state, refl) first in
+    let two = rows-more rem after end g default_config st.StartRecord bytes one.0 (f ∷ []) (first.2 ∙ fresh.config) one.1 one.2 second in
+    second_read f g end.state bytes two.0 two.2
 
-none_passes : (b : Bool) (x : ℕ) → cond b (Some x) None ≡ None → b ≡ false
-none_passes true x e = cc
-none_passes false x e = refl
+-- the lines of a text: what stands before the first end of line, and what follows it
 
-position-None : (p : ℕ → Bool) (xs : List ℕ) → position p xs ≡ None → length xs ≤ position_or_len p xs
-position-None p xs e =
-    let f = none_passes (nat_lt (position_or_len p xs) (length xs)) (position_or_len p xs) e in
-    grind (arith, nat_tests)
+abbrev pub first_cut : (ℕ → Bool) → List ℕ → Option ℕ → List (List ℕ)
+first_cut p text None = text ∷ []
+first_cut p text (Some at) = take at text ∷ slice_split p (drop (at + 1) text)
 
-pub no_end : (p : ℕ → Bool) (xs : List ℕ) → position p xs ≡ None → slice_split p xs ≡ xs ∷ []
-no_end p xs e = slice_split_none p xs (All-from_get_or (λ x. p x ≡ false) xs 0 (λ i h. fails_before_first p xs i 0 (omega (arith, position-None p xs e))))
-
-pub at_end : (p : ℕ → Bool) (xs : List ℕ) (i : ℕ) → position p xs ≡ Some i → slice_split p xs ≡ take i xs ∷ slice_split p (drop (i + 1) xs)
-at_end p xs i e =
-    let some = position-Some p xs i 0 e in
-    let first : position_or_len p xs ≡ i = position_or_len_is p xs i 0 (omega arith) some.2 (λ _. some.1) in
-    let cut = slice_split_first p xs 0 (rw first some.0) in
-    rw first at cut
+pub cut_first : (p : ℕ → Bool) (text : List ℕ) → slice_split p text ≡ first_cut p text (position p text)
+cut_first p text =
+    ⊎_elim
+    (λ (found : position_or_len p text < length text). rw (lt-ltb (position_or_len p text) (length text) found) (slice_split_first p text 0 found))
+    (λ (none : length text ≤ position_or_len p text). rw (le-ltb (position_or_len p text) (length text) none) (slice_split_none p text (All-from_get_or (λ x. p x ≡ false) text 0 (λ i h. fails_before_first p text i 0 (omega arith)))))
+    (cases_lt (position_or_len p text) (length text))

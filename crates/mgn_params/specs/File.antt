@@ -101,6 +101,10 @@ unfoldable pub head_of : Fields → Result Draft Cause
 head_of (kind ∷ version ∷ name ∷ []) = head_from kind version name
 head_of _ = Err Header
 
+-- what the records so far give: the version of the file, and the tables
+abbrev pub SoFar : Type 0
+SoFar = Draft
+
 -- a record after those that gave this much, or as the first
 abbrev pub drafted : ℕ → Result Tables Cause → Result Draft Cause
 drafted version (Ok t) = Ok (record { version = version; set = t })

@@ -14,5 +14,4 @@ pub mod Fields
 pub mod Records
 pub mod Lines
 pub mod File
-pub mod Laws
 pub mod Shelves

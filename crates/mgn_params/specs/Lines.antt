@@ -2,6 +2,8 @@
 use Rattle.std.specs.Prelude.{◌≡◌, ℕ, ◌==◌, List, [], ◌∷◌, Option, Some, None, Result, Ok, Err}
 use Rattle.std.specs.List.{slice_split}
 use Rattle.csv.specs.Reading.{default_config, records, strip_bom}
+use Rattle.mgn_params.specs.declared.fault.Cause.{Cause}
+use Rattle.mgn_params.specs.declared.fault.Cause.TheVariants as cause
 use Rattle.mgn_params.specs.declared.fault.LineFault.{LineFault}
 use Rattle.mgn_params.specs.declared.fault.LineFault.TheVariants.{Memory, Second}
 use Rattle.mgn_params.specs.Fields.{Fields}
@@ -29,3 +31,8 @@ Fails Second want = want ≡ Err Second
 abbrev pub Gives : {X Y : Type 0} → (X → Y) → Result X LineFault → Result Y LineFault → Type 0
 Gives view (Ok x) want = want ≡ Ok (view x)
 Gives view (Err e) want = Fails e want
+
+-- the cause of a line without a single record
+abbrev pub line_cause : LineFault → Cause
+line_cause Memory = cause.Memory
+line_cause Second = cause.Fields

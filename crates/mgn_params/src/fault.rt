@@ -1,5 +1,7 @@
 //! Why a file is no parameter set.
 
+ghost use Rattle.std.specs.Prelude.{◌≡◌};
+
 /// What is wrong with a record. A record's cause is the first of these that applies, in this order, `Memory` apart.
 #[derive(Clone, Copy, PartialEq, Eq, Debug)]
 pub enum Cause {
@@ -40,4 +42,19 @@ pub(crate) enum LineFault {
     Memory,
     /// The line has a second record.
     Second,
+}
+
+impl LineFault {
+    ghost use Rattle.mgn_params.specs.Lines.{line_cause};
+
+    // The fault of the file, where the line's record has this number.
+    pub(crate) fn at(self, line: u64) -> SetFault
+        ensures { result ≡ record { line = line; cause = line_cause self } }
+    {
+        let cause = match self {
+            LineFault::Memory => Cause::Memory,
+            LineFault::Second => Cause::Fields,
+        };
+        SetFault { line, cause }
+    }
 }

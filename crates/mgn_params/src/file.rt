@@ -1,13 +1,13 @@
 //! The set of a file.
 
-ghost use Rattle.std.specs.Prelude.{◌≡◌, ◌⊎◌, ◌==◌, map, Ok, Err, Some, OnOk, IfOk, IfErr};
+ghost use Rattle.std.specs.Prelude.{◌≡◌, ◌⊎◌, ◌==◌, [], map, Ok, Err, Some, OnOk, IfOk, IfErr};
 ghost use Rattle.csv.specs.Records.{fields_of};
-ghost use Rattle.mgn_params.specs.File.{Tells, head_from, head_of, judged, later_of, outcome, records_of, version_of, with_class, with_commodity, with_contract, with_credit_spread, with_month, with_other, with_record, with_spot, with_spot_of, with_spread};
+ghost use Rattle.mgn_params.specs.File.{Tells, head_from, head_of, judged, later_of, outcome, records_of, told, version_of, with_class, with_commodity, with_contract, with_credit_spread, with_month, with_other, with_record, with_spot, with_spot_of, with_spread};
 
 use crate::contracts::read_contract;
 use crate::credits::read_credit_spread;
 use crate::draft::Draft;
-use crate::fault::{Cause, LineFault, SetFault};
+use crate::fault::{Cause, SetFault};
 use crate::fields::read_set_name;
 use crate::line::{cut_line, fields, read_record};
 use crate::records::{read_class, read_commodity, read_month};
@@ -210,6 +210,35 @@ fn add(alloc: Global, before: Option<Draft>, row: &ByteRecord) -> Result<Draft, 
     }
 }
 
+// The same at a place among the records, from 1.
+fn add_at(
+    alloc: Global,
+    before: Option<Draft>,
+    row: &ByteRecord,
+    line: u64,
+) -> Result<Draft, SetFault>
+    ensures ok { IfOk result (λ draft. judged before (Some (fields_of row.now)) ≡ Ok draft) }
+    ensures err { IfErr result (λ e. (e.cause ≡ Cause.Memory) ⊎ ((judged before (Some (fields_of row.now)) ≡ Err e.cause) × (e.line ≡ line))) }
+{
+    match add(alloc, before, row) {
+        Ok(draft) => Ok(draft),
+        Err(cause) => Err(SetFault { line, cause }),
+    }
+}
+
+// The set of the records, if there were any.
+fn set_of(draft: Option<Draft>) -> Result<ParamSet, SetFault>
+    ensures { Tells result (told [] 0 draft) }
+{
+    match draft {
+        Some(draft) => Ok(draft.set),
+        None => Err(SetFault {
+            line: 1,
+            cause: Cause::Header,
+        }),
+    }
+}
+
 /// The set of a file of at most 2^64 - 2 bytes: lines of comma-separated fields, each line read on its own, of the
 /// records `H` (header), `G` (commodity), `M` (month), `K` (contract), `S` (spread within a commodity), `I` (spread
 /// between commodities), `V` (collateral class) and, in version 2, `T` (spot month charge). A record refers only to
@@ -229,37 +258,13 @@ pub fn read_set(alloc: Global, text: &[u8]) -> Result<ParamSet, SetFault>
         let number = count + 1;
         match read_record(alloc, line) {
             Ok(None) => {}
-            Ok(Some(row)) => match add(alloc, draft, &row) {
-                Ok(next) => {
-                    draft = Some(next);
-                    count = number;
-                }
-                Err(cause) => return Err(SetFault {
-                    line: number,
-                    cause,
-                }),
-            },
-            Err(LineFault::Second) => {
-                let cause = Cause::Fields;
-                return Err(SetFault {
-                    line: number,
-                    cause,
-                });
+            Ok(Some(row)) => {
+                let next = add_at(alloc, draft, &row, number)?;
+                draft = Some(next);
+                count = number;
             }
-            Err(LineFault::Memory) => {
-                let cause = Cause::Memory;
-                return Err(SetFault {
-                    line: number,
-                    cause,
-                });
-            }
+            Err(fault) => return Err(fault.at(number)),
         }
     }
-    match draft {
-        Some(draft) => Ok(draft.set),
-        None => Err(SetFault {
-            line: 1,
-            cause: Cause::Header,
-        }),
-    }
+    set_of(draft)
 }

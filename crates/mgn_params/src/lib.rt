@@ -7,7 +7,6 @@ mod draft;
 mod fault;
 mod fields;
 mod file;
-mod laws;
 mod line;
 mod records;
 mod set;
@@ -20,9 +19,6 @@ mod work;
 
 pub use fault::{Cause, SetFault};
 pub use file::read_set;
-pub use laws::{
-    activates_lowest_largest, flat_owes_nothing, owes_at_least_nothing, scans_within_worst_cases,
-};
 pub use set::ParamSet;
 pub use shelf::{PutFault, SetList, Shelf, Version};
 pub use tables::{

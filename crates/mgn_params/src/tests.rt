@@ -113,71 +113,41 @@ fn copies_a_set(rt: HostRuntime) -> Result<(), Fail> {
     Ok(())
 }
 
+const ARRAY: &str = ",0,0,-100,-100,100,100,-200,-200,200,200,-300,-300,300,300,-210,210";
+
+// What stands before the array in a faulty first contract of the first set, and the cause.
+fn faulty_contract(number: usize) -> (&'static str, Cause) {
+    match number {
+        0 => ("K,AAA1,AAA,3,F,F,10000,0", Cause::Unknown),
+        1 => ("K,AAA1,AAA,1,F,F,10000,0,0", Cause::Fields),
+        2 => ("K,aaa1,AAA,1,F,F,10000,0", Cause::Name),
+        3 => ("K,AAAAAAAAAAAAAAAAA,AAA,1,F,F,10000,0", Cause::Range),
+        4 => ("K,AAA1,AAA,1,F,P,10000,0", Cause::Range),
+        5 => ("K,AAA1,AAA,1,F,F,10000,1", Cause::Range),
+        6 => ("K,AAA1,AAA,1,F,F,010000,0", Cause::Number),
+        7 => ("K,AAA1,AAA,1,F,X,10000,0", Cause::Name),
+        8 => ("K,AAA1,AAA,1,F,F,100001,0", Cause::Range),
+        _ => ("K,AAA1,CCC,1,F,F,10000,0", Cause::Unknown),
+    }
+}
+
 // A line at a place of the first set, counted from 0, with the number of the faulty record and its cause.
 fn faulty_line(number: usize) -> (usize, &'static str, u64, Cause) {
     match number {
-        0 => (
-            6,
-            "K,AAA1,AAA,3,F,F,10000,0,0,0,-100,-100,100,100,-200,-200,200,200,-300,-300,300,300,-210,210",
-            7,
-            Cause::Unknown,
-        ),
-        1 => (
-            6,
-            "K,AAA1,AAA,1,F,F,10000,0,0,0,-100,-100,100,100,-200,-200,200,200,-300,-300,300,300,-210,210,0",
-            7,
-            Cause::Fields,
-        ),
-        2 => (
-            6,
-            "K,aaa1,AAA,1,F,F,10000,0,0,0,-100,-100,100,100,-200,-200,200,200,-300,-300,300,300,-210,210",
-            7,
-            Cause::Name,
-        ),
-        3 => (
-            6,
-            "K,AAAAAAAAAAAAAAAAA,AAA,1,F,F,10000,0,0,0,-100,-100,100,100,-200,-200,200,200,-300,-300,300,300,-210,210",
-            7,
-            Cause::Range,
-        ),
-        4 => (
-            6,
-            "K,AAA1,AAA,1,F,P,10000,0,0,0,-100,-100,100,100,-200,-200,200,200,-300,-300,300,300,-210,210",
-            7,
-            Cause::Range,
-        ),
-        5 => (
-            6,
-            "K,AAA1,AAA,1,F,F,10000,1,0,0,-100,-100,100,100,-200,-200,200,200,-300,-300,300,300,-210,210",
-            7,
-            Cause::Range,
-        ),
-        6 => (
-            6,
-            "K,AAA1,AAA,1,F,F,010000,0,0,0,-100,-100,100,100,-200,-200,200,200,-300,-300,300,300,-210,210",
-            7,
-            Cause::Number,
-        ),
-        7 => (10, "S,AAA,1,0,2,10000,40", 11, Cause::Range),
-        8 => (
-            10,
-            "K,AAA1,AAA,1,F,F,10000,0,0,0,-100,-100,100,100,-200,-200,200,200,-300,-300,300,300,-210,210",
-            11,
-            Cause::Double,
-        ),
-        9 => (11, "I,5000,AAA,A,10000,BBB,A,20000", 12, Cause::Fields),
-        10 => (11, "I,5000,AAA,A,10000,AAA,B,20000", 12, Cause::Double),
-        11 => (11, "I,5000,AAA,A,10000,CCC,B,20000", 12, Cause::Unknown),
-        12 => (12, "V,CASH,9950,300", 13, Cause::Double),
-        13 => (13, "T,AAA,1,30,50", 14, Cause::Fields),
-        14 => (13, "H,1,ONE", 14, Cause::Header),
-        15 => (3, "M,AAA,1,9", 4, Cause::Range),
-        16 => (4, "M,AAA,1,2", 5, Cause::Double),
-        17 => (2, "G,AAA,0", 3, Cause::Double),
-        18 => (0, "H,3,ONE", 1, Cause::Header),
-        19 => (0, "H,1,ONE,1", 1, Cause::Header),
-        20 => (0, "G,AAA,25", 1, Cause::Header),
-        21 => (1, "G,AAA,25\rG,CCC,0", 2, Cause::Fields),
+        0 => (10, "S,AAA,1,0,2,10000,40", 11, Cause::Range),
+        1 => (11, "I,5000,AAA,A,10000,BBB,A,20000", 12, Cause::Fields),
+        2 => (11, "I,5000,AAA,A,10000,AAA,B,20000", 12, Cause::Double),
+        3 => (11, "I,5000,AAA,A,10000,CCC,B,20000", 12, Cause::Unknown),
+        4 => (12, "V,CASH,9950,300", 13, Cause::Double),
+        5 => (13, "T,AAA,1,30,50", 14, Cause::Fields),
+        6 => (13, "H,1,ONE", 14, Cause::Header),
+        7 => (3, "M,AAA,1,9", 4, Cause::Range),
+        8 => (4, "M,AAA,1,2", 5, Cause::Double),
+        9 => (2, "G,AAA,0", 3, Cause::Double),
+        10 => (0, "H,3,ONE", 1, Cause::Header),
+        11 => (0, "H,1,ONE,1", 1, Cause::Header),
+        12 => (0, "G,AAA,25", 1, Cause::Header),
+        13 => (1, "G,AAA,25\rG,CCC,0", 2, Cause::Fields),
         _ => (
             1,
             "G,\"AAA,25,and so on to the end of the line",
@@ -188,8 +158,34 @@ fn faulty_line(number: usize) -> (usize, &'static str, u64, Cause) {
 }
 
 #[test]
+fn refuses_faulty_contracts(rt: HostRuntime) -> Result<(), Fail> {
+    for case in 0..10 {
+        let (head, cause) = faulty_contract(case);
+        let line = format!(in rt.alloc(); "{head}{ARRAY}")?;
+        let text = edited(rt.alloc(), set_text(0), 6, line.as_str())?;
+        assert_eq!(rt;
+            fault_of(rt.alloc(), text.as_slice()),
+            Some((7, cause)),
+            "at {head}"
+        );
+    }
+    Ok(())
+}
+
+#[test]
+fn refuses_a_contract_twice(rt: HostRuntime) -> Result<(), Fail> {
+    let line = format!(in rt.alloc(); "K,AAA1,AAA,1,F,F,10000,0{ARRAY}")?;
+    let text = edited(rt.alloc(), set_text(0), 10, line.as_str())?;
+    assert_eq!(rt;
+        fault_of(rt.alloc(), text.as_slice()),
+        Some((11, Cause::Double))
+    );
+    Ok(())
+}
+
+#[test]
 fn refuses_faulty_records(rt: HostRuntime) -> Result<(), Fail> {
-    for case in 0..23 {
+    for case in 0..15 {
         let (place, line, number, cause) = faulty_line(case);
         let text = edited(rt.alloc(), set_text(0), place, line)?;
         assert_eq!(rt;
@@ -206,8 +202,58 @@ fn refuses_faulty_records(rt: HostRuntime) -> Result<(), Fail> {
     Ok(())
 }
 
+// The commas of a record of this kind, and its causes where it is cut before the last of them, and right behind it.
+fn cut_causes(kind: u8) -> (usize, Cause, Cause) {
+    match kind {
+        b'H' => (2, Cause::Header, Cause::Name),
+        b'G' => (2, Cause::Fields, Cause::Number),
+        b'M' => (3, Cause::Fields, Cause::Number),
+        b'K' => (23, Cause::Fields, Cause::Number),
+        b'S' => (6, Cause::Fields, Cause::Number),
+        b'I' => (7, Cause::Fields, Cause::Number),
+        _ => (3, Cause::Fields, Cause::Number),
+    }
+}
+
+// The cause of a record that is cut. A last field of the first set that has a byte is a name or a number in its limits.
+fn cut_cause(record: &[u8]) -> Option<Cause> {
+    let kind = record.first()?;
+    let (commas, missing, empty) = cut_causes(*kind);
+    if record.iter().filter(|byte| **byte == b',').count() < commas {
+        Some(missing)
+    } else if record.last() == Some(&b',') {
+        Some(empty)
+    } else {
+        None
+    }
+}
+
+// The fault of a front of the first set: that of the record in which it ends, if it has begun.
+fn cut_fault(front: &[u8]) -> Option<(u64, Cause)> {
+    let mut number = 0u64;
+    let mut last = front;
+    for line in front.split(|byte| *byte == b'\n') {
+        number = number.wrapping_add(1);
+        last = line;
+    }
+    if front.is_empty() {
+        Some((1, Cause::Header))
+    } else {
+        cut_cause(last).map(|cause| (number, cause))
+    }
+}
+
 #[test]
-fn reads_prefixes(rt: HostRuntime) {
+fn reads_every_front(rt: HostRuntime) {
+    let text = set_text(0).as_bytes();
+    for len in 0..text.len() + 1 {
+        let front = &text[..len];
+        assert_eq!(rt; fault_of(rt.alloc(), front), cut_fault(front), "at {len}");
+    }
+}
+
+#[test]
+fn reads_some_fronts(rt: HostRuntime) {
     let cases = [
         (0, Some((1, Cause::Header))),
         (7, None),
@@ -221,4 +267,13 @@ fn reads_prefixes(rt: HostRuntime) {
         assert!(rt; len <= text.len());
         assert_eq!(rt; fault_of(rt.alloc(), &text[..len]), want, "at {len}");
     }
+}
+
+#[test]
+fn reads_the_digit_that_is_left(rt: HostRuntime) -> Result<(), Fail> {
+    let text = set_text(0).as_bytes();
+    assert!(rt; text.len() >= 478);
+    let set = read_set(rt.alloc(), &text[..478])?;
+    assert_eq!(rt; set.classes().first().map(|class| class.haircut), Some(3));
+    Ok(())
 }

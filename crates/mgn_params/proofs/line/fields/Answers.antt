@@ -1,5 +1,5 @@
-use Rattle.std.proofs.Common.{arith, sym, refl, []}
-use Rattle.std.proofs.lemmas.List.{take_more, map-append}
+use Rattle.std.proofs.Common.{arith, sym, refl, [], ◌∙◌}
+use Rattle.std.proofs.lemmas.List.{take_all, take_more, map-append}
 use Rattle.csv.proofs.RecordFacts.{field-get, field-there}
 use Rattle.csv.specs.Records.{fields_of}
 use Rattle.mgn_params.proofs.line.fields.Goals as goal
@@ -16,3 +16,9 @@ loop-i-preserved c =
     let t = take_more (fields_of c.args.row.now) c.loop-i.i [] (omega arith) in
     let p = c.in_ok-push.ensures.items in
     rw (p, map-append, t, g, c.loop-i.invariant) refl
+
+pub loop-i-init : goal.loop-i-init
+loop-i-init c = rw c.new-words.ensures.items refl
+
+pub returns : goal.returns
+returns c = c.loop-i.invariant ∙ take_all c.loop-i.i (fields_of c.args.row.now) (omega arith)

@@ -1,4 +1,4 @@
--- Words of the laws of the calculation.
+-- What positions may lose at worst, each alone.
 use Rattle.std.specs.Prelude.{ℕ, ℤ, List}
 use Rattle.mgn_num.specs.Signed.{signed_sum_by}
 use Rattle.mgn_params.specs.Positions.{Position}

@@ -3,7 +3,7 @@ use Rattle.std.proofs.Common.{ℕ, ◌<◌, List, [], ◌∷◌, arith}
 use Rattle.std.specs.Prelude.{ℤ, pos, ◌≤ℤ◌}
 use Rattle.std.proofs.lemmas.Int.{clamps, ints}
 use Rattle.mgn_num.proofs.SignedLemmas.{signed_sum_by-cons}
-use Rattle.mgn_params.specs.Laws.{own_worst, worst_cases}
+use Rattle.mgn_laws.specs.Worst.{own_worst, worst_cases}
 use Rattle.mgn_params.specs.Positions.{Position}
 use Rattle.mgn_params.specs.Requirement.{requirement, scan_of}
 use Rattle.mgn_params.specs.Scan.{active, scan_risk, scenario_share, scenario_total}

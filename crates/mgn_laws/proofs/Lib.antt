@@ -1,0 +1,12 @@
+-- Lemmas of the laws.
+pub mod AbsentCredits
+pub mod AbsentLemmas
+pub mod CreditLemmas
+pub mod CreditSums
+pub mod GrowthLemmas
+pub mod PassingLemmas
+pub mod RequirementLemmas
+pub mod StageLemmas
+pub mod SumLemmas
+pub mod TurnedLemmas
+pub mod WithoutLemmas

@@ -1,0 +1,8 @@
+-- Words of the laws.
+pub mod Worst
+pub mod Turns
+pub mod Turned
+pub mod Uses
+pub mod Absent
+pub mod Passing
+pub mod Growth

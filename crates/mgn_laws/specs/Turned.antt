@@ -1,0 +1,6 @@
+-- Nets with every position turned round.
+use Rattle.std.specs.Prelude.{ℤ, neg_ℤ, List, map}
+
+-- what was long is short, and what was short is long
+abbrev pub turned : List ℤ → List ℤ
+turned nets = map neg_ℤ nets

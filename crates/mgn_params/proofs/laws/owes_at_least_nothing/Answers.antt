@@ -1,5 +1,0 @@
-use Rattle.mgn_params.proofs.LawLemmas.{requirement_not_negative}
-use Rattle.mgn_params.proofs.laws.owes_at_least_nothing.Goals as goal
-
-pub returns : goal.returns
-returns c = requirement_not_negative c.args.set.now c.args.nets.now

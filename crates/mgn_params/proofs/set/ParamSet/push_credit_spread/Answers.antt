@@ -1,0 +1,14 @@
+use Rattle.mgn_params.proofs.LimitsLemmas.{IsWithinLimits-credit}
+use Rattle.mgn_params.proofs.set.ParamSet.push_credit_spread.Goals as goal
+
+pub invariant_of-self-2 : goal.invariant_of-self-2
+invariant_of-self-2 c =
+    let next = rw (← c.self.view_is) at c.requires in
+    let limits = IsWithinLimits-credit _ c.args.spread c.self.invariant.limits next in
+    let grown = c.in_ok-push.ensures.items in
+    record {
+      limits = rw grown limits;
+      commodity_places = c.self.invariant.commodity_places;
+      contract_places = c.self.invariant.contract_places;
+      class_places = c.self.invariant.class_places;
+    }
