@@ -29,6 +29,9 @@ const CHANGES: usize = 1_048_576;
 /// As many requirements are worked out anew.
 const ANEW: usize = 100;
 
+/// How many commodities the measured sets have, and how many contracts each of them.
+const SETS: [(usize, usize); 6] = [(1, 1), (1, 16), (1, 256), (16, 1), (256, 1), (256, 16)];
+
 fn is_asked(rt: &(impl Env + Alloc)) -> Result<bool> {
     for word in env::args(rt)? {
         if word.as_str() == "measure" {
@@ -68,9 +71,14 @@ struct Costs {
     answers: i128,
 }
 
-// An odd number of rounds leaves each net at one contract, so the requirement anew reads each array.
+// How often each contract is changed: an odd number, which leaves each net at one contract, so that the requirement
+// anew reads each array.
+fn rounds_of(set: &ParamSet) -> usize {
+    CHANGES / set.contract_count().max(1) + 1
+}
+
 fn measure(clock: &impl Clock, alloc: Global, set: &ParamSet) -> Result<Costs> {
-    let rounds = CHANGES / set.contract_count().max(1) + 1;
+    let rounds = rounds_of(set);
     let mut nets = flat_nets(alloc, set.contract_count())?;
     let mut totals = ScanTotals::new(alloc, set)?;
     let mut sums = OptionSums::new(alloc, set)?;
@@ -93,25 +101,44 @@ fn each(nanoseconds: u128, calls: usize) -> u128 {
     nanoseconds.saturating_mul(1_000) / calls.max(1) as u128
 }
 
-// A line of costs.
-fn report(rt: &impl Print, set: &ParamSet, costs: Costs) -> Result<()> {
-    let count = set.contract_count().max(1);
-    let calls = (CHANGES / count + 1).saturating_mul(count);
-    let questions = (CHANGES / count + 1).saturating_mul(set.commodity_count());
+fn report_size(rt: &impl Print, set: &ParamSet) -> Result<()> {
     println!(rt;
         "{} commodities, {} contracts:",
         set.commodity_count(),
-        count
+        set.contract_count()
     )?;
+    Ok(())
+}
+
+// The costs of a change and of its questions.
+fn report_changes(rt: &impl Print, set: &ParamSet, costs: Costs) -> Result<()> {
+    let rounds = rounds_of(set);
+    let changes = rounds.saturating_mul(set.contract_count());
+    let questions = rounds.saturating_mul(set.commodity_count());
     println!(rt;
-        "  {} {} {} {} (answers {})",
-        each(costs.totals, calls),
-        each(costs.sums, calls),
-        each(costs.questions, questions),
+        "  {} {} {}",
+        each(costs.totals, changes),
+        each(costs.sums, changes),
+        each(costs.questions, questions)
+    )?;
+    Ok(())
+}
+
+// The cost of working the requirement out anew.
+fn report_anew(rt: &impl Print, costs: Costs) -> Result<()> {
+    println!(rt;
+        "  {} anew (answers {})",
         each(costs.anew, ANEW),
         costs.answers
     )?;
     Ok(())
+}
+
+fn report_costs(rt: &(impl Clock + Print), alloc: Global, set: &ParamSet) -> Result<()> {
+    let costs = measure(rt, alloc, set)?;
+    report_size(rt, set)?;
+    report_changes(rt, set, costs)?;
+    report_anew(rt, costs)
 }
 
 fn main(rt: HostRuntime) -> Result<()> {
@@ -119,12 +146,11 @@ fn main(rt: HostRuntime) -> Result<()> {
         return Ok(());
     }
     println!(rt;
-        "picoseconds for a change of the totals, one of the option sums, the scan questions of a commodity, and the requirement anew:"
+        "picoseconds: a change of the totals, one of the option sums, two questions of a commodity"
     )?;
-    for (commodities, contracts) in [(1, 1), (1, 16), (1, 256), (16, 1), (256, 1), (256, 16)] {
+    for (commodities, contracts) in SETS {
         let set = set_of(rt.alloc(), commodities, contracts)?;
-        let costs = measure(&rt, rt.alloc(), &set)?;
-        report(&rt, &set, costs)?;
+        report_costs(&rt, rt.alloc(), &set)?;
     }
     Ok(())
 }
