@@ -11,3 +11,4 @@ pub mod LineLemmas
 pub mod FileLemmas
 pub mod LegLemmas
 pub mod LawLemmas
+pub mod MonthDeltaLemmas
