@@ -9,3 +9,6 @@ mod rest;
 mod rows;
 
 pub use inter::InterCredits;
+
+#[cfg(test)]
+mod tests;

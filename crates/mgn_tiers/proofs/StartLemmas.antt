@@ -162,7 +162,7 @@ share_none : (month : Month) (g leg : ℕ) → share_of month (pos 0) g leg ≡ 
 unfolding share_of
 share_none month g leg = grind (arith, ints)
 
-none_at : (n m : ℕ) → value_at (replicate n (pos 0)) m ≡ pos 0
+pub none_at : (n m : ℕ) → value_at (replicate n (pos 0)) m ≡ pos 0
 none_at n m =
     ⊎_elim
     (λ inside. get_or-replicate {A = ℤ} n m (pos 0) (pos 0) inside)

@@ -11,3 +11,6 @@ mod stages;
 mod tiers;
 
 pub use tiers::TierStages;
+
+#[cfg(test)]
+mod tests;
