@@ -3,6 +3,7 @@ pub mod Tables
 pub mod Positions
 pub mod Scan
 pub mod Deltas
+pub mod MonthDeltas
 pub mod Stages
 pub mod Credits
 pub mod Options

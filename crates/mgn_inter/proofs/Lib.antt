@@ -1,0 +1,4 @@
+-- Why the kept rows are those of the definitions.
+pub mod LegLemmas
+pub mod SpreadLemmas
+pub mod StateLemmas

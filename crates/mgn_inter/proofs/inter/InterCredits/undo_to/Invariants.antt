@@ -1,0 +1,10 @@
+use Rattle.std.proofs.Common.{◌≤◌}
+use Rattle.mgn_inter.specs.Rows.{AreFormed, KeepsNumbers}
+use Rattle.mgn_inter.proofs.inter.InterCredits.undo_to.Given as goal
+
+abbrev pub invariant-loop-i : goal.invariant-loop-i
+invariant-loop-i l = record {
+  low : l.place ≤ l.i;
+  formed : AreFormed l.set.credits l.i l.self;
+  numbers : KeepsNumbers l.initial.self l.self;
+}

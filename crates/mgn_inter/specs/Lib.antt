@@ -1,0 +1,5 @@
+-- How credits are kept.
+pub mod Sizes
+pub mod Rows
+pub mod Credited
+pub mod CreditRows

@@ -1,0 +1,137 @@
+//! The legs of one spread between commodities.
+
+ghost use Rattle.std.specs.Prelude.{◌≡◌, ℕ, ◌+◌, ◌*◌, ◌<◌, ◌≤◌, ◌^◌, length, All, unsigned_abs, slice_index, IsTrue};
+ghost use Rattle.std.specs.List.{list_all};
+ghost use Rattle.mgn_inter.specs.Rows.{AreNumbers, AreRests, IsCreditable};
+ghost use Rattle.mgn_inter.specs.Sizes.{IsDelta};
+ghost use Rattle.mgn_params.specs.Credits.{credits_after, fits, forms, is_long, leg_amount, leg_credit, rests_after, spread_amount};
+ghost use Rattle.mgn_params.specs.Scan.{value_at};
+ghost use Rattle.mgn_params.specs.Stages.{used};
+
+use crate::rest::Rest;
+use mgn_params::{Leg, Side};
+
+// The rest of a commodity.
+fn rest_at(rests: &[Rest], commodity: usize) -> Rest
+    requires { commodity < length rests.now }
+    ensures { result ≡ value_at rests.now commodity }
+{
+    rests[commodity]
+}
+
+fn is_long_leg(a_long: bool, side: Side) -> bool
+    ensures { result ≡ is_long a_long side }
+{
+    match side {
+        Side::A => a_long,
+        Side::B => !a_long,
+    }
+}
+
+// Whether the rest of a leg's commodity has the leg's direction.
+fn leg_fits(a_long: bool, rests: &[Rest], leg: &Leg) -> bool
+    requires { leg.now.commodity < length rests.now }
+    ensures { result ≡ fits a_long rests.now leg.now }
+{
+    let rest = rest_at(rests, leg.commodity);
+    if is_long_leg(a_long, leg.side) {
+        rest.is_positive()
+    } else {
+        rest.is_negative()
+    }
+}
+
+fn all_fit(a_long: bool, rests: &[Rest], legs: &[Leg]) -> bool
+    requires { All (λ leg. leg.commodity < length rests.now) legs.now }
+    ensures { result ≡ list_all (fits a_long rests.now) legs.now }
+{
+    legs.iter().all(|leg| leg_fits(a_long, rests, leg))
+}
+
+/// Whether a spread forms: all legs of side A of one sign, and all of side B of the other.
+pub(crate) fn spread_forms(rests: &[Rest], legs: &[Leg]) -> bool
+    requires { All (λ leg. leg.commodity < length rests.now) legs.now }
+    ensures { result ≡ forms rests.now legs.now }
+{
+    all_fit(true, rests, legs) || all_fit(false, rests, legs)
+}
+
+// How many spreads a leg alone would form, in ten-thousandths.
+fn amount_of_leg(rests: &[Rest], leg: &Leg) -> u64
+    requires commodity { leg.now.commodity < length rests.now }
+    requires ratio { 0 < leg.now.ratio }
+    ensures amount { result ≡ leg_amount rests.now leg.now }
+    ensures small { result ≤ 256 * 10 ^ 16 }
+{
+    10000 * rest_at(rests, leg.commodity).size() / leg.ratio
+}
+
+/// How many spreads the legs form together: the least of what each alone would.
+#[tactic(auto, using(std::proofs::lemmas::List::Sums::fold_more))]
+pub(crate) fn amount_of_legs(rests: &[Rest], legs: &[Leg]) -> u64
+    requires legs { All (λ leg. leg.commodity < length rests.now) legs.now }
+    requires ratios { All (λ leg. 0 < leg.ratio) legs.now }
+    ensures { result ≡ spread_amount rests.now legs.now }
+{
+    let [first, others @ ..] = legs else {
+        return 0;
+    };
+    let mut least = amount_of_leg(rests, first);
+    for other in others {
+        least = least.min(amount_of_leg(rests, other));
+    }
+    least
+}
+
+// What a leg uses for an amount of spreads.
+fn used_of(amount: &u64, leg: &Leg) -> u64
+    requires { amount.now * leg.now.ratio ≤ 256 * 10 ^ 16 }
+    ensures { result ≡ used amount.now leg.now.ratio }
+{
+    *amount * leg.ratio / 10000
+}
+
+/// Takes the legs' uses off the rests.
+pub(crate) fn use_rests(rests: &mut [Rest], amount: &u64, legs: &[Leg])
+    requires legs { All (λ leg. leg.commodity < length rests.old) legs.now }
+    requires products { All (λ leg. amount.now * leg.ratio ≤ 256 * 10 ^ 16) legs.now }
+    ensures { rests.new ≡ rests_after rests.old amount.now legs.now }
+{
+    for leg in legs {
+        let rest = rest_at(rests, leg.commodity);
+        rests[leg.commodity] = rest.nearer_zero(used_of(amount, leg));
+    }
+}
+
+// A leg's credit: the part of its commodity's doubled price risk that its use is of the net delta, at half the rate.
+fn credit_of_leg(deltas: &[Rest], risks: &[u64], rate: &u64, amount: &u64, leg: &Leg) -> u128
+    requires leg { IsCreditable deltas.now risks.now amount.now leg.now }
+    requires rate { rate.now ≤ 10000 }
+    ensures credit { result ≡ leg_credit deltas.now risks.now rate.now amount.now leg.now }
+    ensures small { result ≤ 10 ^ 33 }
+{
+    let delta = u128::from(rest_at(deltas, leg.commodity).size());
+    let part = u128::from(used_of(amount, leg)) * u128::from(*rate);
+    part * u128::from(risks[leg.commodity]) / (20000 * delta)
+}
+
+/// Credits each leg of a formed spread.
+pub(crate) fn credit_legs(
+    deltas: &[Rest],
+    risks: &[u64],
+    rate: &u64,
+    amount: &u64,
+    credits: &mut [u128],
+    legs: &[Leg],
+)
+    requires legs { All (IsCreditable deltas.now risks.now amount.now) legs.now }
+    requires few { length legs.now ≤ 4 }
+    requires rate { rate.now ≤ 10000 }
+    requires one_each { length credits.old ≡ length deltas.now }
+    requires room { (g : ℕ) → slice_index credits.old g ≤ 10 ^ 36 }
+    ensures { credits.new ≡ credits_after deltas.now risks.now rate.now amount.now credits.old legs.now }
+{
+    for leg in legs {
+        credits[leg.commodity] += credit_of_leg(deltas, risks, rate, amount, leg);
+    }
+}

@@ -1,0 +1,14 @@
+//! Credits of spreads between commodities, kept under changes of the commodities' net deltas and price risks.
+#![tactic(auto)]
+
+mod firsts;
+mod inter;
+mod kept;
+mod legs;
+mod rest;
+mod rows;
+
+pub use inter::InterCredits;
+
+#[cfg(test)]
+mod tests;

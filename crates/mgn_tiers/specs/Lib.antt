@@ -1,0 +1,6 @@
+-- How stages and deltas are kept.
+pub mod Sizes
+pub mod Runs
+pub mod RunRows
+pub mod Tiers
+pub mod TierRows

@@ -1,0 +1,16 @@
+//! Spreading within commodities, kept under changes of the deltas of months: what intracommodity spreads and spot months
+//! charge, and the net deltas.
+#![tactic(auto)]
+
+mod delta;
+mod kept;
+mod rows;
+mod run;
+mod spot;
+mod stages;
+mod tiers;
+
+pub use tiers::TierStages;
+
+#[cfg(test)]
+mod tests;

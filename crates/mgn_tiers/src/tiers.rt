@@ -1,0 +1,96 @@
+ghost use Rattle.std.specs.Prelude.{◌≡◌, ◌<◌, ◌+ℤ◌, pos, length, replicate, slice_set, IfOk};
+ghost use Rattle.mgn_params.specs.MonthDeltas.{intra_charge_by, net_delta_by, spot_charge_by};
+ghost use Rattle.mgn_params.specs.Scan.{value_at};
+ghost use Rattle.mgn_params.specs.Tables.{month_at, Tables};
+ghost use Rattle.mgn_tiers.specs.Sizes.{IsDelta};
+ghost use Rattle.mgn_tiers.specs.Tiers.{AreTiersOf};
+
+use crate::delta::Delta;
+use crate::rows::{delta_at, filled, move_delta, runs_of};
+use crate::run::StageRun;
+use mgn_num::{Cents, Tenk};
+use mgn_params::ParamSet;
+use std::alloc::{AllocError, Global};
+use std::marker::Model;
+
+/// What the spreads within the commodities of a set and their spot months charge, and the net deltas, kept under changes
+/// of the deltas of months.
+///
+/// Contracts see the month deltas that the changes so far add up to, in ten-thousandths, one for each month of the set in
+/// file order, beside the rows that are kept. `AreTiersOf` ties all of them to the set: `new` gives it, `add` asks for it
+/// and keeps it, and the questions answer by the definitions over these deltas. Nothing but `new` takes memory.
+#[derive(Drop)]
+pub struct TierStages {
+    deltas: Vec<Delta>,
+    net_deltas: Vec<Delta>,
+    runs: Vec<StageRun>,
+}
+
+impl Model for TierStages {
+    ghost use Rattle.mgn_tiers.specs.Tiers.{Tiers};
+
+    ghost Value = { Tiers };
+
+    ghost use Rattle.mgn_tiers.specs.TierRows.{tiers_of};
+
+    ghost view = { tiers_of };
+}
+
+impl TierStages {
+    /// Nothing held: each month delta is 0. An error is want of memory.
+    pub fn new(alloc: Global, set: &ParamSet) -> Result<TierStages, AllocError>
+        ensures of_set { IfOk result (AreTiersOf set.now) }
+        ensures none { IfOk result (λ t. t.deltas ≡ replicate (length set.now.months) (pos 0)) }
+    {
+        Ok(TierStages {
+            deltas: filled(alloc, set.month_count(), Delta::ZERO)?,
+            net_deltas: filled(alloc, set.commodity_count(), Delta::ZERO)?,
+            runs: runs_of(alloc, set)?,
+        })
+    }
+
+    /// Adds to the delta of the month at a place, in ten-thousandths. The stages of its commodity are formed again from
+    /// the first one whose start changed. The resulting month delta and net delta are at most 2.56 * 10^14 in size.
+    pub fn add(&mut self, set: &ParamSet, month: usize, delta: Tenk)
+        requires of_set { AreTiersOf set.now self.old }
+        requires month { month < length set.now.months }
+        requires month_delta { IsDelta (value_at self.old.deltas month +ℤ delta) }
+        requires net_delta { IsDelta (net_delta_by set.now.months self.old.deltas (month_at set.now.months month).commodity +ℤ delta) }
+        ensures deltas { self.new.deltas ≡ slice_set self.old.deltas month (value_at self.old.deltas month +ℤ delta) }
+        ensures of_set { AreTiersOf set.now self.new }
+    {
+        set.limits();
+        let place = set.month_at(month);
+        let old = delta_at(&self.deltas, month);
+        let new = old.plus(delta);
+        let net = delta_at(&self.net_deltas, place.commodity).plus(delta);
+        self.deltas[month] = new;
+        self.net_deltas[place.commodity] = net;
+        move_delta(&mut self.runs[place.commodity], place.tier, old, new);
+    }
+
+    /// What the intracommodity spreads of the commodity at a place charge, in cents (CME SPAN).
+    pub fn charge(&self, g: usize) -> Cents
+        requires { (set : Tables) × AreTiersOf set self.now × (g < length set.commodities) }
+        ensures { (set : Tables) → AreTiersOf set self.now → result ≡ pos (intra_charge_by set self.now.deltas g) }
+    {
+        Cents::new(self.runs[g].charge() as i128)
+    }
+
+    /// The spot month charge of the commodity at a place, in cents, 0 where it has none.
+    pub fn spot(&self, g: usize) -> Cents
+        requires { (set : Tables) × AreTiersOf set self.now × (g < length set.commodities) }
+        ensures { (set : Tables) → AreTiersOf set self.now → result ≡ pos (spot_charge_by set self.now.deltas g) }
+    {
+        Cents::new(self.runs[g].spot_charge() as i128)
+    }
+
+    /// The net delta of the commodity at a place: the sum of its month deltas, in ten-thousandths (CME SPAN).
+    pub fn net_delta(&self, g: usize) -> Tenk
+        requires { (set : Tables) × AreTiersOf set self.now × (g < length set.commodities) }
+        ensures value { (set : Tables) → AreTiersOf set self.now → result ≡ net_delta_by set.months self.now.deltas g }
+        ensures small { IsDelta result }
+    {
+        delta_at(&self.net_deltas, g).tenk()
+    }
+}
