@@ -1,0 +1,10 @@
+use Rattle.std.proofs.Common.{arith, length}
+use Rattle.std.proofs.lemmas.Int.{ints}
+use Rattle.mgn_tiers.proofs.StartLemmas.{none_at}
+use Rattle.bench_stages.proofs.spread_deltas.Goals as goal
+
+pub loop-m-init : goal.loop-m-init
+loop-m-init c = record {
+  of_set = c.in_ok-tiers.ensures.of_set;
+  small = λ m. rw c.in_ok-tiers.ensures.none (omega (arith, ints, none_at (length c.args.set.now.months) m));
+}
