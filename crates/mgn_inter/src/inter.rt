@@ -173,7 +173,8 @@ impl InterCredits {
     /// What the intercommodity spreads credit to the commodity at a place, in cents.
     pub fn credit(&self, g: usize) -> Cents
         requires { (set : Tables) × AreCreditsOf set self.now × (g < length set.commodities) }
-        ensures { (set : Tables) → AreCreditsOf set self.now → result ≡ pos (slice_index (credits_of self.now.deltas self.now.risks set.credits) g) }
+        ensures value { (set : Tables) → AreCreditsOf set self.now → result ≡ pos (slice_index (credits_of self.now.deltas self.now.risks set.credits) g) }
+        ensures small { unsigned_abs result ≤ 256 * 10 ^ 33 }
     {
         Cents::new(self.credited(g) as i128)
     }

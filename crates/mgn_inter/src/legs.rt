@@ -11,6 +11,11 @@ ghost use Rattle.mgn_params.specs.Stages.{used};
 use crate::rest::Rest;
 use mgn_params::{Leg, Side};
 
+// Below these 64 bits hold their product, which saves the long division of 128 bits. Nearly all numbers are.
+const SHORT_PART: u64 = 10_000_000_000;
+
+const SHORT_RISK: u64 = 1_000_000_000;
+
 // The rest of a commodity.
 fn rest_at(rests: &[Rest], commodity: usize) -> Rest
     requires { commodity < length rests.now }
@@ -110,9 +115,13 @@ fn credit_of_leg(deltas: &[Rest], risks: &[u64], rate: &u64, amount: &u64, leg: 
     ensures credit { result ≡ leg_credit deltas.now risks.now rate.now amount.now leg.now }
     ensures small { result ≤ 10 ^ 33 }
 {
-    let delta = u128::from(rest_at(deltas, leg.commodity).size());
-    let part = u128::from(used_of(amount, leg)) * u128::from(*rate);
-    part * u128::from(risks[leg.commodity]) / (20000 * delta)
+    let delta = rest_at(deltas, leg.commodity).size();
+    let part = used_of(amount, leg) * *rate;
+    let risk = risks[leg.commodity];
+    if part < SHORT_PART && risk < SHORT_RISK {
+        return u128::from(part * risk / (20000 * delta));
+    }
+    u128::from(part) * u128::from(risk) / (20000 * u128::from(delta))
 }
 
 /// Credits each leg of a formed spread.

@@ -1,8 +1,27 @@
-ghost use Rattle.std.specs.Prelude.{◌≡◌, ◌*◌, ◌≤◌, ◌^◌, ℕ, slice_index};
+ghost use Rattle.std.specs.Prelude.{◌≡◌, ◌*◌, ◌/◌, ◌<◌, ◌≤◌, ◌^◌, ℕ, slice_index};
+ghost use Rattle.std.specs.Int.{div_ceil};
 ghost use Rattle.mgn_params.specs.Stages.{amount_of, charge_of, IsStage, left_after, used};
 ghost use Rattle.mgn_tiers.specs.Sizes.{IsStart};
 
 use mgn_params::Stage;
+
+// Below these 64 bits hold the products, which saves the long divisions of 128 bits. Nearly all numbers are.
+const SHORT_START: u64 = 1_000_000_000_000_000;
+
+const SHORT_AMOUNT: u128 = 10_000_000_000;
+
+// How many spreads a leg alone would form of what it has left, in ten-thousandths.
+fn leg_amount(left: u64, ratio: u64) -> u128
+    requires left { IsStart left }
+    requires ratio { 0 < ratio }
+    ensures amount { result ≡ 10000 * left / ratio }
+    ensures small { result ≤ 5 * 10 ^ 22 }
+{
+    if left < SHORT_START {
+        return u128::from(10000 * left / ratio);
+    }
+    10000 * u128::from(left) / u128::from(ratio)
+}
 
 // How many spreads a stage forms of what its legs have left, in ten-thousandths. Most legs have nothing.
 fn stage_amount(left: &[u64; 16], stage: &Stage) -> u128
@@ -16,18 +35,33 @@ fn stage_amount(left: &[u64; 16], stage: &Stage) -> u128
     if first == 0 || second == 0 {
         return 0;
     }
-    let first = 10000 * u128::from(first) / u128::from(stage.first_ratio);
-    let second = 10000 * u128::from(second) / u128::from(stage.second_ratio);
-    first.min(second)
+    leg_amount(first, stage.first_ratio).min(leg_amount(second, stage.second_ratio))
 }
 
 // What a leg uses for an amount of spreads.
 fn used(amount: u128, ratio: u64) -> u64
     requires amount { amount ≤ 5 * 10 ^ 22 }
+    requires ratio { ratio ≤ 10 ^ 6 }
     requires small { IsStart (used amount ratio) }
     ensures { result ≡ used amount ratio }
 {
+    if amount < SHORT_AMOUNT {
+        return amount as u64 * ratio / 10000;
+    }
     (amount * u128::from(ratio) / 10000) as u64
+}
+
+// What an amount of spreads is charged, by the charge for each.
+fn charge(amount: u128, each: u64) -> u128
+    requires amount { amount ≤ 5 * 10 ^ 22 }
+    requires each { each ≤ 10 ^ 9 }
+    ensures charge { result ≡ div_ceil (amount * each) 10000 }
+    ensures small { result ≤ 10 ^ 28 }
+{
+    if amount < SHORT_AMOUNT {
+        return u128::from((amount as u64 * each).div_ceil(10000));
+    }
+    (amount * u128::from(each)).div_ceil(10000)
 }
 
 // What a stage charges. Its legs then have left what it did not use.
@@ -41,5 +75,5 @@ pub(crate) fn form_stage(left: &mut [u64; 16], stage: &Stage) -> u128
     let amount = stage_amount(left, stage);
     left[stage.first_leg] -= used(amount, stage.first_ratio);
     left[stage.second_leg] -= used(amount, stage.second_ratio);
-    (amount * u128::from(stage.charge)).div_ceil(10000)
+    charge(amount, stage.charge)
 }

@@ -1,4 +1,4 @@
-ghost use Rattle.std.specs.Prelude.{◌≡◌, ◌<◌, ◌+ℤ◌, pos, length, replicate, slice_set, IfOk};
+ghost use Rattle.std.specs.Prelude.{◌≡◌, ◌<◌, ◌≤◌, ◌^◌, ◌+ℤ◌, unsigned_abs, pos, length, replicate, slice_set, IfOk};
 ghost use Rattle.mgn_params.specs.MonthDeltas.{intra_charge_by, net_delta_by, spot_charge_by};
 ghost use Rattle.mgn_params.specs.Scan.{value_at};
 ghost use Rattle.mgn_params.specs.Tables.{month_at, Tables};
@@ -72,7 +72,8 @@ impl TierStages {
     /// What the intracommodity spreads of the commodity at a place charge, in cents (CME SPAN).
     pub fn charge(&self, g: usize) -> Cents
         requires { (set : Tables) × AreTiersOf set self.now × (g < length set.commodities) }
-        ensures { (set : Tables) → AreTiersOf set self.now → result ≡ pos (intra_charge_by set self.now.deltas g) }
+        ensures value { (set : Tables) → AreTiersOf set self.now → result ≡ pos (intra_charge_by set self.now.deltas g) }
+        ensures small { unsigned_abs result ≤ 10 ^ 30 }
     {
         Cents::new(self.runs[g].charge() as i128)
     }
@@ -80,7 +81,8 @@ impl TierStages {
     /// The spot month charge of the commodity at a place, in cents, 0 where it has none.
     pub fn spot(&self, g: usize) -> Cents
         requires { (set : Tables) × AreTiersOf set self.now × (g < length set.commodities) }
-        ensures { (set : Tables) → AreTiersOf set self.now → result ≡ pos (spot_charge_by set self.now.deltas g) }
+        ensures value { (set : Tables) → AreTiersOf set self.now → result ≡ pos (spot_charge_by set self.now.deltas g) }
+        ensures small { unsigned_abs result ≤ 10 ^ 30 }
     {
         Cents::new(self.runs[g].spot_charge() as i128)
     }

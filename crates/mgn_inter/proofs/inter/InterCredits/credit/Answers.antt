@@ -3,8 +3,8 @@ use Rattle.mgn_params.specs.declared.tables.CreditSpread.{CreditSpread}
 use Rattle.mgn_inter.specs.Rows.{state_of}
 use Rattle.mgn_inter.proofs.inter.InterCredits.credit.Goals as goal
 
-pub returns : goal.returns
-returns c =
+pub returns-clause-value : goal.returns-clause-value
+returns-clause-value c =
     λ set' are.
     let now = c.args.self.now in
     let is : c.new.result ≡ pos c.credited.result = search rules in

@@ -6,9 +6,9 @@ use Rattle.mgn_tiers.specs.Runs.{Run}
 use Rattle.mgn_tiers.specs.Tiers.{AreTiersOf, Tiers, no_run, run_by}
 use Rattle.mgn_tiers.proofs.tiers.TierStages.spot.Goals as goal
 
-pub returns : goal.returns
+pub returns-clause-value : goal.returns-clause-value
 unfolding spot_charge_by
-returns c = λ set' are.
+returns-clause-value c = λ set' are.
     let here = subst (λ (t : Tiers). AreTiersOf set' t) (sym c.self.view_is) are in
     let asked = subst (λ (t : Tiers). AreTiersOf c.requires.0 t) (sym c.self.view_is) c.requires.1 in
     let inside : c.args.g < length c.self.inside.runs.items = omega (arith, c.requires.2, asked.one_run_each) in
