@@ -3,3 +3,4 @@ pub mod DeltaLemmas
 pub mod PartLemmas
 pub mod StageLemmas
 pub mod SumLemmas
+pub mod ProductLemmas

@@ -1,9 +1,9 @@
-use mgn_num::Cents;
+use crate::total::Total;
 
 // What the figures of the commodities are worked out from: rows with an entry for each commodity.
 #[derive(Drop)]
 pub(crate) struct FigureRows {
-    pub totals: Vec<[Cents; 16]>,
+    pub totals: Vec<[Total; 16]>,
     pub intra: Vec<u128>,
     pub spot: Vec<u128>,
     pub credits: Vec<u128>,

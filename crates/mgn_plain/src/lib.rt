@@ -12,6 +12,7 @@ mod rows;
 mod scan;
 mod spot;
 mod stages;
+mod total;
 mod whole;
 
 pub use calculation::{figures, requirement};

@@ -5,8 +5,9 @@ ghost use Rattle.mgn_plain.specs.Parts.{AreCharges, AreChargesFrom, AreCredits, 
 ghost use Rattle.mgn_plain.specs.Rests.{AreCreditNumbers};
 
 use crate::rows::filled;
+use crate::total::Total;
 use crate::{credits, deltas, options, scan, spot, stages};
-use mgn_num::{Cents, Quantity, Tenk};
+use mgn_num::{Quantity, Tenk};
 use mgn_params::{ParamSet, Work};
 use std::alloc::{AllocError, Global};
 
@@ -16,17 +17,17 @@ pub(crate) fn total_rows(
     set: &ParamSet,
     nets: &[Quantity],
     work: &mut Work,
-) -> Result<Vec<[Cents; 16]>, AllocError>
+) -> Result<Vec<[Total; 16]>, AllocError>
     requires { AreNets set.now nets.now }
     ensures { IfOk result (λ rows. AreTotals set.now nets.now rows.items) }
 {
-    let mut rows = filled(alloc, set.commodity_count(), [Cents::ZERO; 16])?;
+    let mut rows = filled(alloc, set.commodity_count(), [Total::ZERO; 16])?;
     scan::add_positions(&mut rows, set, nets, work);
     Ok(rows)
 }
 
 // The doubled price risks of the commodities.
-pub(crate) fn price_risks(alloc: Global, totals: &[[Cents; 16]]) -> Result<Vec<u128>, AllocError>
+pub(crate) fn price_risks(alloc: Global, totals: &[[Total; 16]]) -> Result<Vec<u128>, AllocError>
     requires small { (g s : ℕ) → g < length totals.now → s < 16 → unsigned_abs (total_of totals.now g s) ≤ 256 * 10 ^ 15 }
     ensures { IfOk result (λ risks. AreRisks totals.now risks.items) }
 {
@@ -160,7 +161,7 @@ pub(crate) fn work_out_credits(
     alloc: Global,
     set: &ParamSet,
     deltas: &[Tenk],
-    totals: &[[Cents; 16]],
+    totals: &[[Total; 16]],
 ) -> Result<Vec<u128>, AllocError>
     requires nets { (nets : List ℤ) × AreDeltas set.now nets deltas.now × AreTotals set.now nets totals.now }
     requires small { (m : ℕ) → m < length deltas.now → unsigned_abs (value_at deltas.now m) ≤ 10 ^ 16 }

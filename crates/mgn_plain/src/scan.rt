@@ -6,42 +6,33 @@ ghost use Rattle.mgn_params.specs.Scan.{value_at, scenario_share, scenario_total
 ghost use Rattle.mgn_plain.specs.Kept.{total_of, totals_of};
 
 use crate::rows::net_at;
+use crate::total::Total;
 use mgn_num::{Cents, Quantity};
 use mgn_params::{ParamSet, Work};
 
 // The total of one scenario.
-fn total_at(totals: &[Cents; 16], scenario: usize) -> Cents
+fn total_at(totals: &[Total; 16], scenario: usize) -> Total
     requires { scenario < 16 }
     ensures { result ≡ value_at totals.now scenario }
 {
     totals[scenario]
 }
 
-// A total and a net at an array's value more.
-fn plus_scaled(total: Cents, net: Quantity, value: &i64) -> Cents
-    requires total { unsigned_abs total ≤ 10 ^ 30 }
-    requires net { IsNet net }
-    requires value { unsigned_abs value.now ≤ 10 ^ 8 }
-    ensures { result ≡ total +ℤ net *ℤ value.now }
-{
-    total.plus(Cents::product(net, *value))
-}
-
 // Adds a net of a contract to the totals of the 16 scenarios.
-fn add_scaled(totals: &mut [Cents; 16], array: &[i64; 16], net: Quantity)
-    requires room { (s : ℕ) → s < 16 → unsigned_abs (value_at totals.old s) ≤ 10 ^ 30 }
+fn add_scaled(totals: &mut [Total; 16], array: &[i64; 16], net: Quantity)
+    requires room { (s : ℕ) → s < 16 → unsigned_abs (value_at totals.old s) ≤ 7 * 10 ^ 18 }
     requires array { (s : ℕ) → s < 16 → unsigned_abs (value_at array.now s) ≤ 10 ^ 8 }
     requires net { IsNet net }
     ensures { (s : ℕ) → s < 16 →
         value_at totals.new s ≡ value_at totals.old s +ℤ net *ℤ value_at array.now s }
 {
     for s in 0..16 {
-        totals[s] = plus_scaled(total_at(totals, s), net, &array[s]);
+        totals[s] = total_at(totals, s).plus_scaled(net, &array[s]);
     }
 }
 
 // The lowest-numbered scenario with the largest total.
-fn active_scenario(totals: &[Cents; 16]) -> usize
+fn active_scenario(totals: &[Total; 16]) -> usize
     ensures active { result ≡ active (value_at totals.now) }
     ensures scenario { result < 16 }
 {
@@ -56,7 +47,7 @@ fn active_scenario(totals: &[Cents; 16]) -> usize
 
 // Adds what a position in the contract at `i` counts for.
 fn add_position(
-    totals: &mut [[Cents; 16]],
+    totals: &mut [[Total; 16]],
     set: &ParamSet,
     i: usize,
     net: Quantity,
@@ -65,7 +56,7 @@ fn add_position(
     requires contract { i < length set.now.contracts }
     requires net { IsNet net }
     requires one_each { length totals.old ≡ length set.now.commodities }
-    requires room { (g s : ℕ) → g < length totals.old → s < 16 → unsigned_abs (total_of totals.old g s) ≤ 10 ^ 30 }
+    requires room { (g s : ℕ) → g < length totals.old → s < 16 → unsigned_abs (total_of totals.old g s) ≤ 7 * 10 ^ 18 }
     ensures one_each { length totals.new ≡ length totals.old }
     ensures totals { (g s : ℕ) → g < length totals.old → s < 16 →
         total_of totals.new g s ≡ total_of totals.old g s +ℤ scenario_share g s (contract_at set.now.contracts i, net) }
@@ -80,7 +71,7 @@ fn add_position(
 #[tactic(auto, using(mgn_params::proofs::PositionLemmas::position_sum_more, mgn_params::proofs::PositionLemmas::position_sum_all, mgn_params::proofs::ShareLemmas::scenario_share_small))]
 // Adds up the totals of the 16 scenarios of each commodity, one net for each contract of the set.
 pub(crate) fn add_positions(
-    totals: &mut [[Cents; 16]],
+    totals: &mut [[Total; 16]],
     set: &ParamSet,
     nets: &[Quantity],
     work: &mut Work,
@@ -116,18 +107,18 @@ fn pair_of_scenario(scenario: usize) -> usize
 }
 
 // Twice the price risk, from the totals and the active scenario.
-fn doubled_price_risk(totals: &[Cents; 16], active: usize) -> Cents
+fn doubled_price_risk(totals: &[Total; 16], active: usize) -> Cents
     requires small { (s : ℕ) → s < 16 → unsigned_abs (value_at totals.now s) ≤ 256 * 10 ^ 15 }
     requires active { active < 16 }
     ensures { result ≡ price_risk2_at (value_at totals.now) active }
 {
-    let own = total_at(totals, active);
+    let own = total_at(totals, active).cents();
     if !own.is_above(Cents::ZERO) {
         return Cents::ZERO;
     }
-    let pair = total_at(totals, pair_of_scenario(active));
-    let first = total_at(totals, 0);
-    let second = total_at(totals, 1);
+    let pair = total_at(totals, pair_of_scenario(active)).cents();
+    let first = total_at(totals, 0).cents();
+    let second = total_at(totals, 1).cents();
     own.plus(pair).minus(first).minus(second).or_zero()
 }
 
@@ -140,7 +131,7 @@ pub(crate) struct ScanFigures {
 }
 
 // The scan figures of the totals of a commodity.
-pub(crate) fn scan_figures(totals: &[Cents; 16]) -> ScanFigures
+pub(crate) fn scan_figures(totals: &[Total; 16]) -> ScanFigures
     requires { (s : ℕ) → s < 16 → unsigned_abs (value_at totals.now s) ≤ 256 * 10 ^ 15 }
     ensures scan { result.scan ≡ scan_risk (value_at totals.now) }
     ensures active { result.active ≡ active (value_at totals.now) }
@@ -149,14 +140,14 @@ pub(crate) fn scan_figures(totals: &[Cents; 16]) -> ScanFigures
 {
     let active = active_scenario(totals);
     ScanFigures {
-        scan: total_at(totals, active).or_zero(),
+        scan: total_at(totals, active).cents().or_zero(),
         active,
         price_risk2: doubled_price_risk(totals, active),
     }
 }
 
 // The totals of a commodity.
-pub(crate) fn totals_row(totals: &[[Cents; 16]], commodity: usize) -> &[Cents; 16]
+pub(crate) fn totals_row(totals: &[[Total; 16]], commodity: usize) -> &[Total; 16]
     requires { commodity < length totals.now }
     ensures { result.now ≡ totals_of totals.now commodity }
 {
@@ -164,7 +155,7 @@ pub(crate) fn totals_row(totals: &[[Cents; 16]], commodity: usize) -> &[Cents; 1
 }
 
 // Twice the price risk of each commodity.
-pub(crate) fn fill_price_risks(risks: &mut [u128], totals: &[[Cents; 16]])
+pub(crate) fn fill_price_risks(risks: &mut [u128], totals: &[[Total; 16]])
     requires one_each { length risks.old ≡ length totals.now }
     requires small { (g s : ℕ) → g < length totals.now → s < 16 → unsigned_abs (total_of totals.now g s) ≤ 256 * 10 ^ 15 }
     ensures one_each { length risks.new ≡ length totals.now }
