@@ -3,6 +3,7 @@ ghost use Rattle.mgn_params.specs.Limits.{IsSpread};
 ghost use Rattle.mgn_params.specs.Stages.{amount_of, left_after, charge_of, charges_of, left_by, stages_of_spread, stages_of, IsStage};
 ghost use Rattle.mgn_plain.specs.Kept.{leg_of, legs_row};
 
+use mgn_num::{mul_div_ceil, mul_div_floor};
 use mgn_params::{Spread, Stage};
 
 // How many spreads a stage forms of what its legs have left, in ten-thousandths.
@@ -12,8 +13,12 @@ fn stage_amount(left: &[u128; 16], stage: &Stage) -> u128
     ensures amount { result ≡ amount_of left.now stage.now }
     ensures small { result ≤ 10 ^ 20 }
 {
-    let first = 10000 * left[stage.first_leg] / u128::from(stage.first_ratio);
-    let second = 10000 * left[stage.second_leg] / u128::from(stage.second_ratio);
+    let first = mul_div_floor(10000, left[stage.first_leg], u128::from(stage.first_ratio));
+    let second = mul_div_floor(
+        10000,
+        left[stage.second_leg],
+        u128::from(stage.second_ratio),
+    );
     first.min(second)
 }
 
@@ -27,9 +32,9 @@ fn form_stage(left: &mut [u128; 16], stage: &Stage) -> u128
     ensures small_charge { result ≤ 10 ^ 25 }
 {
     let amount = stage_amount(left, stage);
-    left[stage.first_leg] -= amount * u128::from(stage.first_ratio) / 10000;
-    left[stage.second_leg] -= amount * u128::from(stage.second_ratio) / 10000;
-    (amount * u128::from(stage.charge)).div_ceil(10000)
+    left[stage.first_leg] -= mul_div_floor(amount, u128::from(stage.first_ratio), 10000);
+    left[stage.second_leg] -= mul_div_floor(amount, u128::from(stage.second_ratio), 10000);
+    mul_div_ceil(amount, u128::from(stage.charge), 10000)
 }
 
 // What the stages of a spread charge: the first tier long and the second short, then the other way round if they differ.
