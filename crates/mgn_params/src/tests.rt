@@ -2,8 +2,8 @@
 
 mod sets;
 
-use crate::{Cause, ParamSet, SetFault, read_set};
-use mgn_ids::{ClassName, CommodityName, ContractName};
+use crate::{Cause, ParamSet, PutFault, SetFault, SetList, Shelf, Version, read_set};
+use mgn_ids::{ClassName, CommodityName, ContractName, IdFault, SetName};
 use sets::{FLAT, FUT, NEG, ODD, ONE, SPODD, SPOT, TWO, WIN};
 use std::alloc::{AllocError, Global};
 use std::test::Fail;
@@ -275,5 +275,33 @@ fn reads_the_digit_that_is_left(rt: HostRuntime) -> Result<(), Fail> {
     assert!(rt; text.len() >= 478);
     let set = read_set(rt.alloc(), &text[..478])?;
     assert_eq!(rt; set.classes().first().map(|class| class.haircut), Some(3));
+    Ok(())
+}
+
+// A set without rows.
+fn bare(alloc: Global, name: &[u8]) -> Result<ParamSet, IdFault> {
+    Ok(ParamSet::new(alloc, SetName::read(name)?))
+}
+
+// Whether the set of a version has a name.
+fn shows(shelf: &SetList, version: Version, name: &[u8]) -> bool {
+    match shelf.get(version) {
+        Some(set) => set.name().as_bytes() == name,
+        None => false,
+    }
+}
+
+#[test]
+fn a_shelf_takes_64_sets_more(rt: HostRuntime) -> Result<(), Fail> {
+    let mut shelf = SetList::new(rt.alloc(), bare(rt.alloc(), b"FIRST")?)?;
+    for number in 1..65 {
+        let set = bare(rt.alloc(), b"LATER")?;
+        let version = shelf.put(set).ok().ok_or("a set is refused")?;
+        assert_eq!(rt; version.number(), number);
+    }
+    let refused = shelf.put(bare(rt.alloc(), b"MORE")?).err();
+    assert!(rt; refused.is_some_and(|back| back.0 == PutFault::Sets));
+    assert!(rt; shows(&shelf, shelf.first(), b"FIRST"));
+    assert!(rt; shows(&shelf, Version::new(64), b"LATER"));
     Ok(())
 }
