@@ -11,7 +11,7 @@ pub mod tenk;
 mod tests;
 
 pub use cents::Cents;
-pub use fraction::{mul_div_ceil, mul_div_floor};
+pub use fraction::{mul_div_ceil, mul_div_floor, quotient};
 pub use quantity::Quantity;
 pub use reading::{NumFault, read_signed, read_unsigned};
 pub use tenk::Tenk;

@@ -1,7 +1,8 @@
 //! Each public function on plain numbers.
 
 use crate::{
-    Cents, NumFault, Quantity, Tenk, mul_div_ceil, mul_div_floor, read_signed, read_unsigned,
+    Cents, NumFault, Quantity, Tenk, mul_div_ceil, mul_div_floor, quotient, read_signed,
+    read_unsigned,
 };
 use std::test::Fail;
 
@@ -75,6 +76,12 @@ fn fractions_are_rounded_once(rt: HostRuntime) {
     assert_eq!(rt;
         (mul_div_ceil(20_000, 40, 10_000), mul_div_floor(0, 40, 7)),
         (80, 0)
+    );
+    // 2^64 is the least number that 64 bits do not hold.
+    assert_eq!(rt; quotient(33_330_000, 9_999), 3_333);
+    assert_eq!(rt;
+        quotient(18_446_744_073_709_551_616, 10_000),
+        1_844_674_407_370_955
     );
 }
 

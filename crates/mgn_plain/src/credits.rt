@@ -7,7 +7,7 @@ ghost use Rattle.mgn_params.specs.Stages.{used};
 ghost use Rattle.mgn_plain.specs.Rests.{AreCreditNumbers, AreRests, IsCreditable};
 
 use crate::deltas::delta_at;
-use mgn_num::Tenk;
+use mgn_num::{Tenk, mul_div_floor, quotient};
 use mgn_params::{CreditSpread, Leg, Side};
 
 fn is_long_leg(a_long: bool, side: Side) -> bool
@@ -58,7 +58,8 @@ fn amount_of_leg(rests: &[Tenk], leg: &Leg) -> u128
     ensures amount { result ≡ leg_amount rests.now leg.now }
     ensures small { result ≤ 10 ^ 19 }
 {
-    10000 * delta_at(rests, leg.commodity).size() / u128::from(leg.ratio)
+    let rest = delta_at(rests, leg.commodity).size();
+    mul_div_floor(10000, rest, u128::from(leg.ratio))
 }
 
 #[tactic(auto, using(std::proofs::lemmas::List::Sums::fold_more))]
@@ -86,7 +87,7 @@ fn used_of(amount: u128, leg: &Leg) -> u128
     requires { amount ≤ 10 ^ 19 }
     ensures { result ≡ used amount leg.now.ratio }
 {
-    amount * u128::from(leg.ratio) / 10000
+    quotient(amount * u128::from(leg.ratio), 10000)
 }
 
 // Takes the legs' uses off the rests.
@@ -113,7 +114,7 @@ fn credit_of_leg(deltas: &[Tenk], risks: &[u128], rate: &u64, amount: u128, leg:
 {
     let delta = delta_at(deltas, leg.commodity).size();
     let product = used_of(amount, leg) * u128::from(*rate) * risks[leg.commodity];
-    product / (20000 * delta)
+    quotient(product, 20000 * delta)
 }
 
 // Credits each leg of a formed spread.

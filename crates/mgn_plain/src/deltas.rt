@@ -72,12 +72,13 @@ fn add_start(starts: &mut [[u128; 16]], month: &Month, delta: Tenk)
         leg_of starts.new g leg ≡ leg_of starts.old g leg + start_share month.now delta g leg }
     ensures as_long { (g : ℕ) → g < length starts.old → length (legs_row starts.new g) ≡ length (legs_row starts.old g) }
 {
-    let row = &mut starts[month.commodity];
-    if delta.is_negative() {
-        row[8 + month.tier] += delta.size();
+    let leg = if delta.is_negative() {
+        8 + month.tier
     } else {
-        row[month.tier] += delta.size();
-    }
+        month.tier
+    };
+    let row = &mut starts[month.commodity];
+    row[leg] += delta.size();
 }
 
 // Adds a month's delta to the net delta of its commodity.

@@ -48,7 +48,7 @@ fn add_minimum(minimums: &mut [u128], set: &ParamSet, i: usize, net: Quantity)
 {
     set.limits();
     let contract = set.contract_at(i);
-    if net.is_short() && is_an_option(contract.kind) {
+    if is_an_option(contract.kind) && net.is_short() {
         let commodity = contract.commodity;
         minimums[commodity] += charge_of(net, &set.commodity_at(commodity).short_option_charge);
     }
