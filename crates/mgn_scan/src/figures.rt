@@ -32,9 +32,12 @@ pub(crate) fn active_scenario(totals: &[Total; 16]) -> usize
     ensures scenario { result < 16 }
 {
     let mut best = 0;
+    let mut most = total_at(totals, 0);
     for s in 1..16 {
-        if total_at(totals, s).is_above(total_at(totals, best)) {
+        let total = total_at(totals, s);
+        if total.is_above(most) {
             best = s;
+            most = total;
         }
     }
     best

@@ -1,4 +1,4 @@
-use Rattle.std.proofs.Common.{ℕ, ◌<◌}
+use Rattle.std.proofs.Common.{ℕ, ◌<◌, ◌≡◌}
 use Rattle.std.specs.Prelude.{◌≤ℤ◌, ◌<ℤ◌}
 use Rattle.mgn_params.specs.Scan.{value_at}
 use Rattle.mgn_plain.proofs.scan.active_scenario.Given as goal
@@ -6,6 +6,7 @@ use Rattle.mgn_plain.proofs.scan.active_scenario.Given as goal
 abbrev pub invariant-loop-s : goal.invariant-loop-s
 invariant-loop-s l = record {
   below : l.best < l.s;
+  most : l.most ≡ value_at l.totals l.best;
   largest : (k : ℕ) → k < l.s → value_at l.totals k ≤ℤ value_at l.totals l.best;
   lowest : (k : ℕ) → k < l.best → value_at l.totals k <ℤ value_at l.totals l.best;
 }
