@@ -11,11 +11,10 @@ mod side;
 #[cfg(test)]
 mod tests;
 
-ghost use Rattle.std.specs.Prelude.{◌≡◌, ◌≤◌, pos, replicate, IfOk};
+ghost use Rattle.std.specs.Prelude.{◌≤◌};
 
 use anyhow::{Result, bail};
 use files::set_file;
-use mgn_num::Quantity;
 use mgn_option::OptionSums;
 use mgn_params::{ParamSet, read_set};
 use mgn_scan::ScanTotals;
@@ -39,14 +38,6 @@ fn is_asked(rt: &(impl Env + Alloc)) -> Result<bool> {
         }
     }
     Ok(false)
-}
-
-fn flat_nets(alloc: Global, count: usize) -> Result<Vec<Quantity>>
-    ensures { IfOk result (λ nets. nets.items ≡ replicate count (pos 0)) }
-{
-    let mut nets = Vec::new(alloc);
-    nets.resize(count, Quantity::ZERO)?;
-    Ok(nets)
 }
 
 // The file of a set of so many commodities, with so many contracts each, read.
@@ -79,14 +70,13 @@ fn rounds_of(set: &ParamSet) -> usize {
 
 fn measure(clock: &impl Clock, alloc: Global, set: &ParamSet) -> Result<Costs> {
     let rounds = rounds_of(set);
-    let mut nets = flat_nets(alloc, set.contract_count())?;
     let mut totals = ScanTotals::new(alloc, set)?;
     let mut sums = OptionSums::new(alloc, set)?;
-    let followed = scan_run::measure(clock, set, &mut nets, &mut totals, rounds)?;
+    let followed = scan_run::measure(clock, set, &mut totals, rounds)?;
     let summed = option_run::measure(clock, set, &mut sums, rounds)?;
     let commodities = set.commodity_count();
     let (asked, first) = scan_run::measure_questions(clock, &totals, commodities, rounds)?;
-    let (anew, second) = plain_run::measure(clock, alloc, set, &nets, ANEW)?;
+    let (anew, second) = plain_run::measure(clock, alloc, set, totals.nets(), ANEW)?;
     Ok(Costs {
         totals: followed,
         sums: summed,

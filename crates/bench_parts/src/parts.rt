@@ -9,7 +9,7 @@ use mgn_params::{ParamSet, Work};
 use mgn_scan::ScanTotals;
 use std::alloc::{AllocError, Global};
 
-/// The running parts of one list of nets, which stand in the option sums.
+/// The running parts of one list of nets, which each of them keeps.
 #[derive(Drop)]
 pub struct Parts {
     pub totals: ScanTotals,

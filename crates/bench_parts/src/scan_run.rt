@@ -1,6 +1,4 @@
-ghost use Rattle.std.specs.Prelude.{◌≡◌, ◌*◌, ◌<◌, ◌≤◌, ◌^◌, length, unsigned_abs, All};
-ghost use Rattle.mgn_params.specs.Positions.{IsNet};
-ghost use Rattle.mgn_params.specs.Scan.{value_at};
+ghost use Rattle.std.specs.Prelude.{◌*◌, ◌<◌, ◌≤◌, ◌^◌, length, unsigned_abs};
 ghost use Rattle.mgn_scan.specs.Totals.{AreTotals};
 
 use crate::side::one_contract;
@@ -11,50 +9,32 @@ use std::io;
 use std::rt::Clock;
 use std::time::Instant;
 
-fn net_at(nets: &[Quantity], contract: usize) -> Quantity
-    requires contract { contract < length nets.now }
-    requires nets { All IsNet nets.now }
-    ensures value { result ≡ value_at nets.now contract }
-    ensures small { IsNet result }
-{
-    nets[contract]
-}
-
 /// Changes a net, and the totals after it. A change that would take the net past its limit is not made.
 pub fn follow(
     set: &ParamSet,
-    nets: &mut [Quantity],
     totals: &mut ScanTotals,
     i: usize,
     quantity: Quantity,
     work: &mut Work,
 )
-    requires totals { AreTotals set.now nets.old totals.old }
+    requires totals { AreTotals set.now totals.old }
     requires contract { i < length set.now.contracts }
     requires quantity { unsigned_abs quantity ≤ 2 * 10 ^ 7 }
-    ensures { AreTotals set.now nets.new totals.new }
+    ensures { AreTotals set.now totals.new }
 {
-    let net = net_at(nets, i).plus(quantity);
-    if net.size() <= 10_000_000 {
+    if totals.net(i).plus(quantity).size() <= 10_000_000 {
         totals.add(set, i, quantity, work);
-        nets[i] = net;
     }
 }
 
 // A contract more, or less, of each.
-fn follow_all(
-    set: &ParamSet,
-    nets: &mut [Quantity],
-    totals: &mut ScanTotals,
-    quantity: Quantity,
-    work: &mut Work,
-)
-    requires totals { AreTotals set.now nets.old totals.old }
+fn follow_all(set: &ParamSet, totals: &mut ScanTotals, quantity: Quantity, work: &mut Work)
+    requires totals { AreTotals set.now totals.old }
     requires quantity { unsigned_abs quantity ≤ 2 * 10 ^ 7 }
-    ensures { AreTotals set.now nets.new totals.new }
+    ensures { AreTotals set.now totals.new }
 {
     for i in 0..set.contract_count() {
-        follow(set, nets, totals, i, quantity, work);
+        follow(set, totals, i, quantity, work);
     }
 }
 
@@ -62,17 +42,16 @@ fn follow_all(
 pub fn measure(
     clock: &impl Clock,
     set: &ParamSet,
-    nets: &mut [Quantity],
     totals: &mut ScanTotals,
     rounds: usize,
 ) -> io::Result<u128>
-    requires { AreTotals set.now nets.old totals.old }
-    ensures { AreTotals set.now nets.new totals.new }
+    requires { AreTotals set.now totals.old }
+    ensures { AreTotals set.now totals.new }
 {
     let mut work = Work::new();
     let start = Instant::now(clock)?;
     for round in 0..rounds {
-        follow_all(set, nets, totals, one_contract(round % 2 == 0), &mut work);
+        follow_all(set, totals, one_contract(round % 2 == 0), &mut work);
     }
     Ok(start.elapsed(clock)?.as_nanos())
 }
@@ -85,7 +64,7 @@ pub fn measure_questions(
     commodities: usize,
     rounds: usize,
 ) -> io::Result<(u128, i128)>
-    requires { commodities ≤ length totals.now }
+    requires { commodities ≤ length totals.now.rows }
 {
     let mut sum: i128 = 0;
     let start = Instant::now(clock)?;

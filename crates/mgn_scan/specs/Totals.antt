@@ -1,5 +1,6 @@
--- Rows of totals: one for each commodity of a set in file order, and in it one for each of the 16 scenarios.
-use Rattle.std.specs.Prelude.{ℕ, ◌*◌, ◌≡◌, ◌<◌, ◌≤◌, ◌^◌, ℤ, ◌+ℤ◌, unsigned_abs, List, [], length, slice_index_or, All}
+-- Nets with their rows of totals: one row for each commodity of a set in file order, and in it one total for each of the
+-- 16 scenarios.
+use Rattle.std.specs.Prelude.{ℕ, ◌*◌, ◌≡◌, ◌<◌, ◌≤◌, ◌^◌, ℤ, unsigned_abs, List, [], length, slice_index_or, All}
 use Rattle.mgn_params.specs.Positions.{IsNet, positions}
 use Rattle.mgn_params.specs.Scan.{scenario_total, value_at}
 use Rattle.mgn_params.specs.Tables.{Tables}
@@ -16,15 +17,13 @@ totals_of rows commodity = slice_index_or rows commodity []
 abbrev pub total_of : List (List ℤ) → ℕ → ℕ → ℤ
 total_of rows commodity scenario = value_at (totals_of rows commodity) scenario
 
--- each is the total of these nets under this set (CME SPAN), one net for each contract and within its limit
-pub record AreTotals (set : Tables) (nets : List ℤ) (rows : List (List ℤ)) : Type 0 where
-  pub one_each : length nets ≡ length set.contracts
-  pub small : All IsNet nets
-  pub one_row_each : length rows ≡ length set.commodities
-  pub each : (g s : ℕ) → g < length set.commodities → s < 16 → total_of rows g s ≡ scenario_total g (positions set.contracts nets) s
+pub record Totals : Type 0 where
+  pub nets : List ℤ
+  pub rows : List (List ℤ)
 
--- the totals are those of these nets, and the net of the contract stays within its limit with a quantity more
-pub record CanChange (set : Tables) (nets : List ℤ) (rows : List (List ℤ)) (i : ℕ) (quantity : ℤ) : Type 0 where
-  pub totals : AreTotals set nets rows
-  pub contract : i < length set.contracts
-  pub net : IsNet (value_at nets i +ℤ quantity)
+-- each is the total of the nets under this set (CME SPAN), one net for each contract and within its limit
+pub record AreTotals (set : Tables) (totals : Totals) : Type 0 where
+  pub one_each : length totals.nets ≡ length set.contracts
+  pub small : All IsNet totals.nets
+  pub one_row_each : length totals.rows ≡ length set.commodities
+  pub each : (g s : ℕ) → g < length set.commodities → s < 16 → total_of totals.rows g s ≡ scenario_total g (positions set.contracts totals.nets) s

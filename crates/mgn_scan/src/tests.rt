@@ -1,14 +1,12 @@
 //! Figures after each of a list of changes, worked out by hand.
 
-ghost use Rattle.std.specs.Prelude.{◌≡◌, ◌*◌, ◌<◌, ◌≤◌, ◌^◌, length, pos, replicate, unsigned_abs, All, IfOk};
-ghost use Rattle.mgn_params.specs.Positions.{IsNet};
-ghost use Rattle.mgn_params.specs.Scan.{value_at};
+ghost use Rattle.std.specs.Prelude.{◌≡◌, ◌*◌, ◌<◌, ◌≤◌, ◌^◌, length, unsigned_abs};
 ghost use Rattle.mgn_scan.specs.Totals.{AreTotals};
 
 use super::*;
 use mgn_num::Quantity;
 use mgn_params::{ParamSet, Work, read_set};
-use std::alloc::{AllocError, Global};
+use std::alloc::Global;
 use std::process::Abort;
 use std::test::Fail;
 
@@ -54,15 +52,6 @@ fn changed(contract: usize, quantity: i64, first: Scanned, second: Scanned) -> C
     }
 }
 
-// A net of 0 for each contract.
-fn flat_nets(alloc: Global, count: usize) -> Result<Vec<Quantity>, AllocError>
-    ensures { IfOk result (λ nets. nets.items ≡ replicate count (pos 0)) }
-{
-    let mut nets = Vec::new(alloc);
-    nets.resize(count, Quantity::ZERO)?;
-    Ok(nets)
-}
-
 // A quantity that takes a net from one of its limits to the other, at most.
 fn some_quantity(rt: &impl Abort, contracts: i64) -> Quantity
     ensures value { result ≡ contracts }
@@ -72,38 +61,27 @@ fn some_quantity(rt: &impl Abort, contracts: i64) -> Quantity
     Quantity::new(contracts)
 }
 
-// The net of a contract.
-fn net_at(nets: &[Quantity], contract: usize) -> Quantity
-    requires contract { contract < length nets.now }
-    requires nets { All IsNet nets.now }
-    ensures value { result ≡ value_at nets.now contract }
-    ensures small { IsNet result }
-{
-    nets[contract]
-}
-
-// Follows a change, which leaves the net within its limit.
+// Makes a change, which leaves the net within its limit.
 fn follow(
     rt: &impl Abort,
     set: &ParamSet,
-    nets: &mut [Quantity],
     totals: &mut ScanTotals,
     change: &Change,
     work: &mut Work,
 )
-    requires { AreTotals set.now nets.old totals.old }
-    ensures { AreTotals set.now nets.new totals.new }
+    requires { AreTotals set.now totals.old }
+    ensures { AreTotals set.now totals.new }
 {
     let quantity = some_quantity(rt, change.quantity);
     assert!(rt; change.contract < set.contract_count());
-    let net = net_at(nets, change.contract).plus(quantity);
+    let net = totals.net(change.contract).plus(quantity);
     assert!(rt; net.size() <= 10_000_000);
     totals.add(set, change.contract, quantity, work);
-    nets[change.contract] = net;
+    assert_eq!(rt; totals.net(change.contract), net);
 }
 
 fn figures_of(totals: &ScanTotals, commodity: usize) -> Scanned
-    requires { commodity < length totals.now }
+    requires { commodity < length totals.now.rows }
 {
     (
         totals.scan(commodity).amount(),
@@ -120,11 +98,10 @@ fn check_under(
     changes: &[Change],
 ) -> Result<(), Fail> {
     assert_eq!(rt; set.commodity_count(), 2);
-    let mut nets = flat_nets(alloc, set.contract_count())?;
     let mut totals = ScanTotals::new(alloc, set)?;
     let mut work = Work::new();
     for change in changes {
-        follow(rt, set, &mut nets, &mut totals, change, &mut work);
+        follow(rt, set, &mut totals, change, &mut work);
         assert_eq!(rt;
             [figures_of(&totals, 0), figures_of(&totals, 1)],
             change.want

@@ -1,6 +1,5 @@
-use Rattle.std.proofs.Common.{◌≡◌, length}
 use Rattle.mgn_scan.specs.Totals.{AreTotals}
 use Rattle.mgn_scan.proofs.tests.check_under.Given as goal
 
 abbrev pub invariant-loop-change : goal.invariant-loop-change
-invariant-loop-change g l = AreTotals l.set l.nets.items l.totals
+invariant-loop-change g l = AreTotals l.set l.totals
