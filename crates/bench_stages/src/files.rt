@@ -1,18 +1,34 @@
-//! Files of sets with many spreads.
+//! Files of sets of all sizes.
 
-ghost use Rattle.std.specs.Prelude.{◌<◌, ◌≤◌};
+ghost use Rattle.std.specs.Prelude.{◌<◌, ◌≤◌, IsTrue};
 
 use std::alloc::{AllocError, Global};
 
-/// What a set is made of: commodities, months and contracts in each of them, and spreads within each.
+/// What a set is made of: commodities; months, contracts and spreads in each of them; spreads between commodities.
 #[derive(Clone, Copy)]
 pub struct Shape {
     pub commodities: usize,
     pub months: usize,
+    pub contracts: usize,
     pub spreads: usize,
+    pub credits: usize,
 }
 
-// The months of a commodity in four tiers, with a future each.
+impl Shape {
+    /// Whether each commodity has a month, and nothing is more than a commodity or a set may have.
+    pub fn is_within_limits(self) -> bool
+        ensures some { IsTrue result → 0 < self.months }
+        ensures months { IsTrue result → self.months ≤ 64 }
+        ensures contracts { IsTrue result → self.contracts ≤ 256 }
+        ensures spreads { IsTrue result → self.spreads ≤ 32 }
+        ensures credits { IsTrue result → self.credits ≤ 64 }
+    {
+        let has_months = 0 < self.months && self.months <= 64;
+        has_months && self.contracts <= 256 && self.spreads <= 32 && self.credits <= 64
+    }
+}
+
+// The months of a commodity in four tiers, in turn.
 fn push_months(out: &mut String, g: usize, months: usize) -> Result<(), AllocError>
     requires { months ≤ 64 }
 {
@@ -21,9 +37,24 @@ fn push_months(out: &mut String, g: usize, months: usize) -> Result<(), AllocErr
         let tier = m % 4 + 1;
         write!(out, "M,G{g},{month},{tier}\n")?;
     }
-    for m in 0..months {
-        let month = m + 1;
-        write!(out, "K,G{g}X{month},G{g},{month},F,F,10000,0")?;
+    Ok(())
+}
+
+// The futures of a commodity, in its months in turn.
+fn push_contracts(
+    out: &mut String,
+    g: usize,
+    months: usize,
+    contracts: usize,
+) -> Result<(), AllocError>
+    requires some { 0 < months }
+    requires months { months ≤ 64 }
+    requires contracts { contracts ≤ 256 }
+{
+    for k in 0..contracts {
+        let month = k % months + 1;
+        let delta = 10_000 + 100 * month;
+        write!(out, "K,G{g}X{k},G{g},{month},F,F,{delta},0")?;
         push_array(out, month)?;
     }
     Ok(())
@@ -55,24 +86,26 @@ fn push_spreads(out: &mut String, g: usize, spreads: usize) -> Result<(), AllocE
     write!(out, "T,G{g},1,30,50\n")
 }
 
-// A spread of each commodity with the next.
-fn push_credits(out: &mut String, commodities: usize) -> Result<(), AllocError>
-    requires { commodities ≤ 64 }
+// Spreads of each commodity with the next, from the first one on.
+fn push_credits(out: &mut String, credits: usize) -> Result<(), AllocError>
+    requires { credits ≤ 64 }
 {
-    for g in 1..commodities {
-        let before = g - 1;
+    for g in 0..credits {
+        let next = g + 1;
         let ratio = 10_000 + 900 * g;
-        write!(out, "I,5000,G{before},A,{ratio},G{g},B,20000\n")?;
+        write!(out, "I,5000,G{g},A,{ratio},G{next},B,20000\n")?;
     }
     Ok(())
 }
 
-/// The file of a set of a shape, with a spot month charge on the first tier of each commodity, and a spread of each
-/// commodity with the next.
+/// The file of a set of a shape, with a spot month charge on the first tier of each commodity. It is a set where there
+/// are no more than 4,096 contracts, and fewer spreads between commodities than commodities.
 pub fn set_file(alloc: Global, shape: Shape) -> Result<String, AllocError>
-    requires commodities { shape.commodities ≤ 64 }
+    requires some { 0 < shape.months }
     requires months { shape.months ≤ 64 }
+    requires contracts { shape.contracts ≤ 256 }
     requires spreads { shape.spreads ≤ 32 }
+    requires credits { shape.credits ≤ 64 }
 {
     let mut out = String::new(alloc);
     out.push_str("H,2,RUN\n")?;
@@ -81,8 +114,9 @@ pub fn set_file(alloc: Global, shape: Shape) -> Result<String, AllocError>
     }
     for g in 0..shape.commodities {
         push_months(&mut out, g, shape.months)?;
+        push_contracts(&mut out, g, shape.months, shape.contracts)?;
         push_spreads(&mut out, g, shape.spreads)?;
     }
-    push_credits(&mut out, shape.commodities)?;
+    push_credits(&mut out, shape.credits)?;
     Ok(out)
 }

@@ -1,52 +1,60 @@
-//! Measures what a change of a month delta costs in the kept stages, and a change of a net delta in the kept credits, in
-//! sets with few and many spreads. Does nothing without the word `measure`.
+//! Measures what a change of a month delta costs in the kept stages, and a change of a commodity's numbers in the kept
+//! credits, in sets of different sizes and with few and many spreads, and what the whole calculation worked out anew
+//! costs on the same nets. Does nothing without the word `measure`.
 #![tactic(auto)]
 
+mod credit_run;
 mod files;
+mod nets;
+mod plain_run;
 mod runs;
 #[cfg(test)]
 mod tests;
+mod tier_run;
 
-ghost use Rattle.std.specs.Prelude.{◌<◌, ◌≤◌, ◌^◌, unsigned_abs, IfOk};
-ghost use Rattle.mgn_inter.specs.Credited.{AreCreditsOf};
+ghost use Rattle.std.specs.Prelude.{◌≡◌, ◌<◌, ◌≤◌, length, All, IfOk};
+ghost use Rattle.mgn_params.specs.Positions.{IsNet};
 ghost use Rattle.mgn_tiers.specs.Tiers.{AreTiersOf};
 
 use anyhow::{Result, bail};
 use files::{Shape, set_file};
 use mgn_inter::InterCredits;
-use mgn_num::{Cents, Tenk};
+use mgn_num::Quantity;
 use mgn_params::{ParamSet, read_set};
 use mgn_tiers::TierStages;
-use runs::{change, charges, refresh};
+use nets::mixed_nets;
 use std::alloc::Global;
 use std::env;
 use std::rt::{Clock, Env};
-use std::time::Instant;
+use tier_run::open_all;
 
-/// As many changes of each kind are measured in each set.
-const CHANGES: usize = 1_000_000;
+/// As many changes of each kind are measured in each set, or a few more.
+const CHANGES: usize = 1_048_576;
 
-const SHAPES: [Shape; 4] = [
-    Shape {
-        commodities: 2,
-        months: 4,
-        spreads: 1,
-    },
-    Shape {
-        commodities: 2,
-        months: 12,
-        spreads: 8,
-    },
-    Shape {
-        commodities: 16,
-        months: 12,
-        spreads: 8,
-    },
-    Shape {
-        commodities: 64,
-        months: 12,
-        spreads: 32,
-    },
+/// As many requirements are worked out anew.
+const ANEW: usize = 100;
+
+/// The measured sets: commodities; months, contracts and spreads in each; spreads between commodities. First sets that
+/// grow, whose changes meet the same stages; then such sets with more months, where stages are formed; then sets with
+/// more spreads in commodities, and with more between them.
+const SETS: [(usize, usize, usize, usize, usize); 17] = [
+    (1, 1, 1, 8, 0),
+    (1, 1, 16, 8, 0),
+    (1, 1, 256, 8, 0),
+    (256, 1, 1, 8, 0),
+    (256, 1, 16, 8, 0),
+    (1, 4, 16, 8, 0),
+    (1, 4, 256, 8, 0),
+    (256, 4, 16, 8, 0),
+    (64, 12, 12, 1, 15),
+    (64, 12, 12, 8, 15),
+    (64, 12, 12, 32, 15),
+    (2, 12, 12, 8, 1),
+    (16, 12, 12, 8, 15),
+    (64, 12, 12, 8, 63),
+    (256, 12, 12, 8, 1),
+    (256, 12, 12, 8, 15),
+    (256, 12, 12, 8, 63),
 ];
 
 fn is_asked(rt: &(impl Env + Alloc)) -> Result<bool> {
@@ -58,11 +66,10 @@ fn is_asked(rt: &(impl Env + Alloc)) -> Result<bool> {
     Ok(false)
 }
 
-fn set_of(alloc: Global, shape: Shape) -> Result<ParamSet>
-    requires commodities { shape.commodities ≤ 64 }
-    requires months { shape.months ≤ 64 }
-    requires spreads { shape.spreads ≤ 32 }
-{
+fn set_of(alloc: Global, shape: Shape) -> Result<ParamSet> {
+    if !shape.is_within_limits() {
+        bail!("the set would be too large");
+    }
     let file = set_file(alloc, shape)?;
     let Ok(set) = read_set(alloc, file.as_bytes()) else {
         bail!("the set is not read");
@@ -70,55 +77,42 @@ fn set_of(alloc: Global, shape: Shape) -> Result<ParamSet>
     Ok(set)
 }
 
-// A delta of one contract or three, long in one round over the months and short in the next.
-fn delta_of(k: usize, months: usize) -> Tenk
-    requires { 0 < months }
-    ensures { unsigned_abs result ≤ 10 ^ 6 }
+// Picoseconds of a change and its two questions, of a refresh and its question and of a requirement worked out anew, and
+// what all answers come to.
+#[derive(Clone, Copy)]
+struct Costs {
+    change: u128,
+    refresh: u128,
+    anew: u128,
+    answers: i128,
+}
+
+// What one of so many calls took, in picoseconds.
+fn each(nanoseconds: u128, calls: usize) -> u128 {
+    nanoseconds.saturating_mul(1_000) / calls.max(1) as u128
+}
+
+// Measures changes. The rounds are even in number and so leave the month deltas as they were.
+fn measure_changes(
+    clock: &impl Clock,
+    set: &ParamSet,
+    nets: &[Quantity],
+    tiers: &mut TierStages,
+) -> Result<(u128, i128)>
+    requires one_each { length nets.now ≡ length set.now.contracts }
+    requires nets { All IsNet nets.now }
+    requires tiers { AreTiersOf set.now tiers.old }
+    ensures { AreTiersOf set.now tiers.new }
 {
-    let size = 10_000 + 20_000 * (k % 2) as i128;
-    if (k / months) % 2 == 0 {
-        Tenk::new(size)
-    } else {
-        Tenk::new(-size)
-    }
+    let count = set.contract_count().max(1);
+    let rounds = 2 * (CHANGES / 2 / count + 1);
+    open_all(set, nets, tiers);
+    let (nanoseconds, answers) = tier_run::measure(clock, set, nets, tiers, rounds)?;
+    Ok((each(nanoseconds, rounds.saturating_mul(count)), answers))
 }
 
-// The nanoseconds of all changes, each with its two questions, and a sum of the answers.
-fn measure_tiers(clock: &impl Clock, alloc: Global, set: &ParamSet) -> Result<(u128, i128)> {
-    let mut tiers = TierStages::new(alloc, set)?;
-    let months = set.month_count();
-    if months == 0 {
-        bail!("the set has no month");
-    }
-    let mut answers = 0i128;
-    let start = Instant::now(clock)?;
-    for k in 0..CHANGES {
-        let month = k % months;
-        change(set, &mut tiers, month, delta_of(k, months), k);
-        answers = answers.wrapping_add(charges(set, &tiers, month));
-    }
-    Ok((start.elapsed(clock)?.as_nanos(), answers))
-}
-
-// Stages where the commodities are long and short in turn.
-fn spread_deltas(alloc: Global, set: &ParamSet) -> Result<TierStages>
-    ensures { IfOk result (AreTiersOf set.now) }
-{
-    let mut tiers = TierStages::new(alloc, set)?;
-    for m in 0..set.month_count() {
-        change(
-            set,
-            &mut tiers,
-            m,
-            delta_of(set.month_at(m).commodity, 1),
-            m,
-        );
-    }
-    Ok(tiers)
-}
-
-// The nanoseconds of all changes of the commodities' numbers in turn, each with its question, and a sum of the answers.
-fn measure_credits(
+// Measures refreshes of the commodities that have spreads with others; of all where none has.
+fn measure_refreshes(
     clock: &impl Clock,
     alloc: Global,
     set: &ParamSet,
@@ -126,40 +120,61 @@ fn measure_credits(
 ) -> Result<(u128, i128)>
     requires { AreTiersOf set.now tiers.now }
 {
-    let mut credits = InterCredits::new(alloc, set)?;
-    let commodities = set.commodity_count();
-    if commodities == 0 {
+    let all = set.commodity_count();
+    let named = match set.credits().len() {
+        0 => all,
+        spreads => all.min(spreads + 1),
+    };
+    if named == 0 {
         bail!("the set has no commodity");
     }
-    let mut answers = 0i128;
-    let start = Instant::now(clock)?;
-    for k in 0..CHANGES {
-        let g = k % commodities;
-        let risk = Cents::new(600 + 2 * (k % 64) as i128);
-        refresh(set, tiers, &mut credits, g, risk);
-        answers = answers.wrapping_add(credits.credit(g).amount());
-    }
-    Ok((start.elapsed(clock)?.as_nanos(), answers))
+    let mut credits = InterCredits::new(alloc, set)?;
+    let (nanoseconds, answers) = credit_run::measure(
+        clock,
+        set,
+        tiers,
+        &mut credits,
+        named,
+        CHANGES,
+    )?;
+    Ok((each(nanoseconds, CHANGES), answers))
 }
 
-// What one of the changes took, in picoseconds.
-fn each(nanoseconds: u128) -> u128 {
-    nanoseconds.saturating_mul(1_000) / CHANGES as u128
+fn measure(clock: &impl Clock, alloc: Global, set: &ParamSet) -> Result<Costs> {
+    let nets = mixed_nets(alloc, set)?;
+    let mut tiers = TierStages::new(alloc, set)?;
+    let (change, first) = measure_changes(clock, set, &nets, &mut tiers)?;
+    let (refresh, second) = measure_refreshes(clock, alloc, set, &tiers)?;
+    let (anew, third) = plain_run::measure(clock, alloc, set, &nets, ANEW)?;
+    Ok(Costs {
+        change,
+        refresh,
+        anew: each(anew, ANEW),
+        answers: first.wrapping_add(second).wrapping_add(third),
+    })
 }
 
-fn report(rt: &(impl Clock + Print), alloc: Global, set: &ParamSet) -> Result<()> {
-    let (staged, first) = measure_tiers(rt, alloc, set)?;
-    let tiers = spread_deltas(alloc, set)?;
-    let (credited, second) = measure_credits(rt, alloc, set, &tiers)?;
-    let answers = first.wrapping_add(second);
-    let spreads = set.spreads().len();
-    let credits = set.credits().len();
+fn report_shape(rt: &impl Print, shape: Shape) -> Result<()> {
     println!(rt;
-        "{spreads} spreads, {} ps; {credits} between commodities, {} ps ({answers})",
-        each(staged),
-        each(credited)
+        "{} commodities with {} months, {} contracts, {} spreads; {} spreads between:",
+        shape.commodities, shape.months, shape.contracts, shape.spreads, shape.credits
     )?;
     Ok(())
+}
+
+fn report_costs(rt: &impl Print, costs: Costs) -> Result<()> {
+    println!(rt;
+        "  change {}, refresh {}, anew {} (answers {})",
+        costs.change, costs.refresh, costs.anew, costs.answers
+    )?;
+    Ok(())
+}
+
+fn report(rt: &(impl Clock + Print), alloc: Global, shape: Shape) -> Result<()> {
+    let set = set_of(alloc, shape)?;
+    let costs = measure(rt, alloc, &set)?;
+    report_shape(rt, shape)?;
+    report_costs(rt, costs)
 }
 
 fn main(rt: HostRuntime) -> Result<()> {
@@ -167,11 +182,17 @@ fn main(rt: HostRuntime) -> Result<()> {
         return Ok(());
     }
     println!(rt;
-        "a change of a month delta with two questions, and of a commodity's numbers with one:"
+        "picoseconds: a change of a month delta with two questions, a refresh of a commodity with one, all anew"
     )?;
-    for shape in SHAPES {
-        let set = set_of(rt.alloc(), shape)?;
-        report(&rt, rt.alloc(), &set)?;
+    for (commodities, months, contracts, spreads, credits) in SETS {
+        let shape = Shape {
+            commodities,
+            months,
+            contracts,
+            spreads,
+            credits,
+        };
+        report(&rt, rt.alloc(), shape)?;
     }
     Ok(())
 }

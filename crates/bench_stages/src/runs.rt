@@ -1,29 +1,63 @@
-//! Changes of month deltas and net deltas, in turn.
+//! Changes of month deltas and of commodities' numbers, in turn.
 
-ghost use Rattle.std.specs.Prelude.{ℕ, ◌+◌, ◌*◌, ◌<◌, ◌≤◌, ◌^◌, pos, ◌≤ℤ◌, length, unsigned_abs};
+ghost use Rattle.std.specs.Prelude.{◌+ℤ◌, ◌*◌, ◌<◌, ◌≤◌, ◌^◌, pos, ◌≤ℤ◌, length, unsigned_abs, IsTrue};
 ghost use Rattle.mgn_inter.specs.Credited.{AreCreditsOf};
 ghost use Rattle.mgn_inter.specs.Sizes.{IsRisk};
+ghost use Rattle.mgn_params.specs.MonthDeltas.{net_delta_by};
 ghost use Rattle.mgn_params.specs.Scan.{value_at};
+ghost use Rattle.mgn_params.specs.Tables.{month_at};
+ghost use Rattle.mgn_tiers.specs.Sizes.{IsDelta};
 ghost use Rattle.mgn_tiers.specs.Tiers.{AreTiersOf};
 
 use mgn_inter::InterCredits;
-use mgn_num::{Cents, Tenk};
+use mgn_num::{Cents, Quantity, Tenk};
 use mgn_params::ParamSet;
 use mgn_tiers::TierStages;
 
-/// Adds to the delta of a month, after so many changes. A change that would take the net delta far is not made.
-pub fn change(set: &ParamSet, tiers: &mut TierStages, month: usize, delta: Tenk, changes: usize)
-    requires of_set { AreTiersOf set.now tiers.old }
+/// What a month delta and a net delta are at most in size.
+const LARGEST_DELTA: u128 = 256_000_000_000_000;
+
+/// Whether the delta of a month and the net delta of its commodity stay within their limit by a change.
+pub fn is_within_limits(set: &ParamSet, tiers: &TierStages, month: usize, delta: Tenk) -> bool
+    requires of_set { AreTiersOf set.now tiers.now }
     requires month { month < length set.now.months }
-    requires small { (m : ℕ) → unsigned_abs (value_at tiers.old.deltas m) ≤ changes * 10 ^ 6 }
-    requires few { changes ≤ 10 ^ 7 }
-    requires delta { unsigned_abs delta ≤ 10 ^ 6 }
-    ensures of_set { AreTiersOf set.now tiers.new }
-    ensures small { (m : ℕ) → unsigned_abs (value_at tiers.new.deltas m) ≤ (changes + 1) * 10 ^ 6 }
+    requires delta { unsigned_abs delta ≤ 10 ^ 30 }
+    ensures month_delta { IsTrue result → IsDelta (value_at tiers.now.deltas month +ℤ delta) }
+    ensures net_delta { IsTrue result → IsDelta (net_delta_by set.now.months tiers.now.deltas (month_at set.now.months month).commodity +ℤ delta) }
 {
     set.limits();
-    let net = tiers.net_delta(set.month_at(month).commodity);
-    if net.size() < 100_000_000_000_000 {
+    let own = tiers.month_delta(month).plus(delta);
+    let net = tiers.net_delta(set.month_at(month).commodity).plus(delta);
+    own.size() <= LARGEST_DELTA && net.size() <= LARGEST_DELTA
+}
+
+// A quantity of contracts at a scaled delta for each.
+fn scaled(quantity: Quantity, delta: &i64) -> Tenk
+    requires quantity { unsigned_abs quantity ≤ 2 * 10 ^ 7 }
+    requires delta { unsigned_abs delta.now ≤ 10 ^ 5 }
+    ensures { unsigned_abs result ≤ 2 * 10 ^ 12 }
+{
+    Tenk::product(quantity, *delta)
+}
+
+/// What the month delta of a contract changes by with its net.
+pub fn delta_of(set: &ParamSet, contract: usize, quantity: Quantity) -> Tenk
+    requires contract { contract < length set.now.contracts }
+    requires quantity { unsigned_abs quantity ≤ 2 * 10 ^ 7 }
+    ensures { unsigned_abs result ≤ 2 * 10 ^ 12 }
+{
+    set.limits();
+    scaled(quantity, &set.contract_at(contract).delta)
+}
+
+/// Adds to the delta of a month. A change that would take a delta past its limit is not made.
+pub fn change(set: &ParamSet, tiers: &mut TierStages, month: usize, delta: Tenk)
+    requires of_set { AreTiersOf set.now tiers.old }
+    requires month { month < length set.now.months }
+    requires delta { unsigned_abs delta ≤ 10 ^ 30 }
+    ensures { AreTiersOf set.now tiers.new }
+{
+    if is_within_limits(set, tiers, month, delta) {
         tiers.add(set, month, delta);
     }
 }

@@ -1,5 +1,4 @@
-ghost use Rattle.std.specs.Prelude.{◌≡◌, ℕ, ◌+◌, ◌*◌, ◌<◌, ◌≤◌, ◌^◌, unsigned_abs, length};
-ghost use Rattle.mgn_params.specs.Scan.{value_at};
+ghost use Rattle.std.specs.Prelude.{◌<◌, length};
 ghost use Rattle.mgn_tiers.specs.Tiers.{AreTiersOf};
 
 use super::*;
@@ -31,26 +30,18 @@ const CHAIN: &str =
 // A month and what its delta changes by; then the charge, the spot month charge and the net delta of its commodity.
 type Case = (usize, i64, i128, i128, i128);
 
-// Adds to the delta of a month, where each month delta is small after so many changes.
-fn change(
-    rt: &impl Abort,
-    tiers: &mut TierStages,
-    set: &ParamSet,
-    month: usize,
-    delta: i64,
-    changes: usize,
-)
+// Adds to the delta of a month.
+fn change(rt: &impl Abort, tiers: &mut TierStages, set: &ParamSet, month: usize, delta: i64)
     requires of_set { AreTiersOf set.now tiers.old }
-    requires small { (m : ℕ) → unsigned_abs (value_at tiers.old.deltas m) ≤ changes * 10 ^ 6 }
-    requires few { changes < 1000 }
     requires month { month < length set.now.months }
-    ensures of_set { AreTiersOf set.now tiers.new }
-    ensures small { (m : ℕ) → unsigned_abs (value_at tiers.new.deltas m) ≤ (changes + 1) * 10 ^ 6 }
+    ensures { AreTiersOf set.now tiers.new }
 {
     set.limits();
     assert!(rt; -1_000_000 < delta && delta < 1_000_000);
     let delta = Tenk::new(i128::from(delta));
-    let net = tiers.net_delta(set.month_at(month).commodity);
+    let own = tiers.month_delta(month).plus(delta);
+    let net = tiers.net_delta(set.month_at(month).commodity).plus(delta);
+    assert!(rt; own.size() < 1_000_000_000);
     assert!(rt; net.size() < 1_000_000_000);
     tiers.add(set, month, delta);
 }
@@ -73,14 +64,13 @@ fn check_changes(
     cases: &[Case],
 ) -> Result<(), Fail> {
     let mut tiers = TierStages::new(alloc, set)?;
-    assert!(rt; cases.len() < 1000);
-    for i in 0..cases.len() {
-        let month = cases[i].0;
+    for case in cases {
+        let month = case.0;
         assert!(rt; month < set.month_count());
-        change(rt, &mut tiers, set, month, cases[i].1, i);
+        change(rt, &mut tiers, set, month, case.1);
         let commodity = set.month_at(month).commodity;
         assert!(rt; commodity < set.commodity_count());
-        expect(rt, &tiers, set, commodity, &cases[i]);
+        expect(rt, &tiers, set, commodity, case);
     }
     Ok(())
 }
@@ -154,4 +144,25 @@ fn later_stages_meet_what_is_left(rt: HostRuntime) -> Result<(), Fail> {
         (0, -30000, 140, 0, -10000),
     ];
     check(&rt, rt.alloc(), CHAIN, &cases)
+}
+
+// Changes two of the three months, and asks for the deltas of all.
+fn check_months(rt: &impl Abort, alloc: Global, set: &ParamSet) -> Result<(), Fail> {
+    let mut tiers = TierStages::new(alloc, set)?;
+    assert_eq!(rt; set.month_count(), 3);
+    change(rt, &mut tiers, set, 1, 20_000);
+    change(rt, &mut tiers, set, 2, -5_000);
+    change(rt, &mut tiers, set, 1, -90_000);
+    assert_eq!(rt; tiers.month_delta(0).parts(), 0);
+    assert_eq!(rt; tiers.month_delta(1).parts(), -70_000);
+    assert_eq!(rt; tiers.month_delta(2).parts(), -5_000);
+    Ok(())
+}
+
+#[test]
+fn deltas_of_months(rt: HostRuntime) -> Result<(), Fail> {
+    let set = read_set(rt.alloc(), ONE.as_bytes())
+        .ok()
+        .ok_or("the set is not read")?;
+    check_months(&rt, rt.alloc(), &set)
 }

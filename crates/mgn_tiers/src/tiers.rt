@@ -69,6 +69,15 @@ impl TierStages {
         move_delta(&mut self.runs[place.commodity], place.tier, old, new);
     }
 
+    /// The delta of the month at a place, in ten-thousandths: what the changes so far add up to.
+    pub fn month_delta(&self, month: usize) -> Tenk
+        requires { month < length self.now.deltas }
+        ensures value { result ≡ value_at self.now.deltas month }
+        ensures small { IsDelta result }
+    {
+        delta_at(&self.deltas, month).tenk()
+    }
+
     /// What the intracommodity spreads of the commodity at a place charge, in cents (CME SPAN).
     pub fn charge(&self, g: usize) -> Cents
         requires { (set : Tables) × AreTiersOf set self.now × (g < length set.commodities) }

@@ -1,0 +1,13 @@
+use Rattle.std.proofs.Common.{◌≡◌, All, length}
+use Rattle.mgn_inter.specs.Credited.{AreCreditsOf}
+use Rattle.mgn_params.specs.Positions.{IsNet}
+use Rattle.mgn_tiers.specs.Tiers.{AreTiersOf}
+use Rattle.bench_stages.proofs.tests.limits.bring_all.Given as goal
+
+abbrev pub invariant-loop-i : goal.invariant-loop-i
+invariant-loop-i g l = record {
+  one_each : length l.nets ≡ length l.set.contracts;
+  nets : All IsNet l.nets;
+  tiers : AreTiersOf l.set l.tiers;
+  credits : AreCreditsOf l.set l.credits;
+}
