@@ -25,6 +25,7 @@ pub fn measure(
     requires credits { AreCreditsOf set.now credits.old }
     requires some { 0 < commodities }
     requires within { commodities ≤ length set.now.commodities }
+    ensures { AreCreditsOf set.now credits.new }
 {
     let mut answers: i128 = 0;
     let start = Instant::now(clock)?;

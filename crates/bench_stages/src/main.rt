@@ -3,6 +3,7 @@
 //! costs on the same nets. Does nothing without the word `measure`.
 #![tactic(auto)]
 
+mod costs;
 mod credit_run;
 mod files;
 mod nets;
@@ -12,27 +13,13 @@ mod runs;
 mod tests;
 mod tier_run;
 
-ghost use Rattle.std.specs.Prelude.{◌≡◌, ◌<◌, ◌≤◌, length, All, IfOk};
-ghost use Rattle.mgn_params.specs.Positions.{IsNet};
-ghost use Rattle.mgn_tiers.specs.Tiers.{AreTiersOf};
-
 use anyhow::{Result, bail};
+use costs::{Costs, measure};
 use files::{Shape, set_file};
-use mgn_inter::InterCredits;
-use mgn_num::Quantity;
 use mgn_params::{ParamSet, read_set};
-use mgn_tiers::TierStages;
-use nets::mixed_nets;
 use std::alloc::Global;
 use std::env;
 use std::rt::{Clock, Env};
-use tier_run::open_all;
-
-/// As many changes of each kind are measured in each set, or a few more.
-const CHANGES: usize = 1_048_576;
-
-/// As many requirements are worked out anew.
-const ANEW: usize = 100;
 
 /// The measured sets: commodities; months, contracts and spreads in each; spreads between commodities. First sets that
 /// grow, whose changes meet the same stages; then such sets with more months, where stages are formed; then sets with
@@ -77,86 +64,9 @@ fn set_of(alloc: Global, shape: Shape) -> Result<ParamSet> {
     Ok(set)
 }
 
-// Picoseconds of a change and its two questions, of a refresh and its question and of a requirement worked out anew, and
-// what all answers come to.
-#[derive(Clone, Copy)]
-struct Costs {
-    change: u128,
-    refresh: u128,
-    anew: u128,
-    answers: i128,
-}
-
-// What one of so many calls took, in picoseconds.
-fn each(nanoseconds: u128, calls: usize) -> u128 {
-    nanoseconds.saturating_mul(1_000) / calls.max(1) as u128
-}
-
-// Measures changes. The rounds are even in number and so leave the month deltas as they were.
-fn measure_changes(
-    clock: &impl Clock,
-    set: &ParamSet,
-    nets: &[Quantity],
-    tiers: &mut TierStages,
-) -> Result<(u128, i128)>
-    requires one_each { length nets.now ≡ length set.now.contracts }
-    requires nets { All IsNet nets.now }
-    requires tiers { AreTiersOf set.now tiers.old }
-    ensures { AreTiersOf set.now tiers.new }
-{
-    let count = set.contract_count().max(1);
-    let rounds = 2 * (CHANGES / 2 / count + 1);
-    open_all(set, nets, tiers);
-    let (nanoseconds, answers) = tier_run::measure(clock, set, nets, tiers, rounds)?;
-    Ok((each(nanoseconds, rounds.saturating_mul(count)), answers))
-}
-
-// Measures refreshes of the commodities that have spreads with others; of all where none has.
-fn measure_refreshes(
-    clock: &impl Clock,
-    alloc: Global,
-    set: &ParamSet,
-    tiers: &TierStages,
-) -> Result<(u128, i128)>
-    requires { AreTiersOf set.now tiers.now }
-{
-    let all = set.commodity_count();
-    let named = match set.credits().len() {
-        0 => all,
-        spreads => all.min(spreads + 1),
-    };
-    if named == 0 {
-        bail!("the set has no commodity");
-    }
-    let mut credits = InterCredits::new(alloc, set)?;
-    let (nanoseconds, answers) = credit_run::measure(
-        clock,
-        set,
-        tiers,
-        &mut credits,
-        named,
-        CHANGES,
-    )?;
-    Ok((each(nanoseconds, CHANGES), answers))
-}
-
-fn measure(clock: &impl Clock, alloc: Global, set: &ParamSet) -> Result<Costs> {
-    let nets = mixed_nets(alloc, set)?;
-    let mut tiers = TierStages::new(alloc, set)?;
-    let (change, first) = measure_changes(clock, set, &nets, &mut tiers)?;
-    let (refresh, second) = measure_refreshes(clock, alloc, set, &tiers)?;
-    let (anew, third) = plain_run::measure(clock, alloc, set, &nets, ANEW)?;
-    Ok(Costs {
-        change,
-        refresh,
-        anew: each(anew, ANEW),
-        answers: first.wrapping_add(second).wrapping_add(third),
-    })
-}
-
 fn report_shape(rt: &impl Print, shape: Shape) -> Result<()> {
     println!(rt;
-        "{} commodities with {} months, {} contracts, {} spreads; {} spreads between:",
+        "commodities {}: months {}, contracts {}, spreads {}; spreads between: {}",
         shape.commodities, shape.months, shape.contracts, shape.spreads, shape.credits
     )?;
     Ok(())
