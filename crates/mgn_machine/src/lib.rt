@@ -2,7 +2,11 @@
 #![tactic(auto)]
 
 pub mod account;
+#[cfg(test)]
+mod account_tests;
 pub mod change;
+#[cfg(test)]
+mod change_tests;
 pub mod command;
 pub mod entry;
 pub mod holding;

@@ -1,4 +1,4 @@
-//! Nets and answers on plain values. Accounts, changes and rows are tested through the book.
+//! Nets and answers on plain values. Rows are tested through the book.
 
 use crate::{Answer, Entry, Item, Nets, Refusal, Reply};
 use mgn_num::Quantity;

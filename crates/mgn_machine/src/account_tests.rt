@@ -1,0 +1,149 @@
+//! An account with one thing in it at a time: a lot, a hold.
+ghost use Rattle.std.specs.Prelude.{◌<◌, IfOk, length};
+ghost use Rattle.mgn_lots.specs.Lots.{IsLot};
+ghost use Rattle.mgn_holds.specs.Holds.{IsHeld};
+
+use crate::Account;
+use mgn_holds::Held;
+use mgn_holds::fills::covers;
+use mgn_ids::{AccountName, ContractName, IdFault, LotId, LotQuantity, OrderId, Premium};
+use mgn_lots::{Lot, Mark, RemoveFault};
+use std::alloc::{AllocError, Global};
+use std::test::Fail;
+
+fn opened(alloc: Global) -> Result<Account, IdFault> {
+    Ok(Account::open(alloc, AccountName::read(b"A1")?, 3))
+}
+
+// A lot traded at 60 cents.
+pub(crate) fn lot_of(number: &[u8], quantity: &[u8]) -> Result<Lot, IdFault>
+    ensures { IfOk result IsLot }
+{
+    Ok(Lot {
+        number: LotId::read(number)?,
+        contract: ContractName::read(b"AAAC")?,
+        quantity: LotQuantity::read(quantity)?.quantity(),
+        premium: Premium::read(b"60")?.cents(),
+        mark: Mark::Traded,
+    })
+}
+
+// Adds a lot where it is new and there is room.
+fn add(account: &mut Account, lot: &Lot) -> Result<(), AllocError>
+    requires { IsLot lot.now }
+{
+    if account.has_lot(lot.number) {
+        return Ok(());
+    }
+    if account.is_full() {
+        return Ok(());
+    }
+    account.add_lot(lot)
+}
+
+// An account with lot 7, of 10 contracts.
+fn with_lot(alloc: Global) -> Result<Account, Fail> {
+    let mut account = opened(alloc)?;
+    let lot = lot_of(b"7", b"10")?;
+    add(&mut account, &lot)?;
+    Ok(account)
+}
+
+// A hold with a limit of 60 cents.
+pub(crate) fn held_of(order: &[u8], quantity: &[u8]) -> Result<Held, IdFault>
+    ensures { IfOk result IsHeld }
+{
+    Ok(Held {
+        order: OrderId::read(order)?,
+        contract: ContractName::read(b"AAAC")?,
+        quantity: LotQuantity::read(quantity)?.quantity(),
+        limit: Premium::read(b"60")?.cents(),
+    })
+}
+
+// An account that holds 3 contracts by order 5.
+fn with_hold(alloc: Global) -> Result<Account, Fail> {
+    let mut account = opened(alloc)?;
+    let held = held_of(b"5", b"3")?;
+    if !account.holds_full() {
+        account.add_hold(&held)?;
+    }
+    Ok(account)
+}
+
+// Fills the hold at a place, where it covers the lot and there is room for it.
+fn fill(account: &mut Account, place: usize, lot: &Lot) -> Result<(), AllocError>
+    requires place { place < length account.old.holds }
+    requires lot { IsLot lot.now }
+{
+    if !covers(account.hold_at(place), lot.quantity) {
+        return Ok(());
+    }
+    if account.has_lot(lot.number) {
+        return Ok(());
+    }
+    if account.is_full() {
+        return Ok(());
+    }
+    account.fill(place, lot)
+}
+
+// How many contracts an account holds by an order.
+fn held(account: &Account, order: OrderId) -> i64 {
+    match account.order_place(order) {
+        Some(place) => account.hold_at(place).quantity.contracts(),
+        None => 0,
+    }
+}
+
+// The same after a fill of the order.
+fn held_after(account: &mut Account, order: OrderId, lot: &Lot) -> Result<i64, AllocError>
+    requires { IsLot lot.now }
+{
+    if let Some(place) = account.order_place(order) {
+        fill(account, place, lot)?;
+    }
+    Ok(held(account, order))
+}
+
+#[test]
+fn an_account_opens_empty(rt: HostRuntime) -> Result<(), Fail> {
+    let account = opened(rt.alloc())?;
+    assert_eq!(rt; account.unit(), 3);
+    assert!(rt; !account.is_full() && !account.holds_full());
+    Ok(())
+}
+
+#[test]
+fn a_lot_is_found_and_busted(rt: HostRuntime) -> Result<(), Fail> {
+    let mut account = with_lot(rt.alloc())?;
+    let number = LotId::read(b"7")?;
+    let place = account.traded_place(number)?;
+    assert_eq!(rt; account.lot_at(place).quantity.contracts(), 10);
+    account.bust(place);
+    assert!(rt; account.has_lot(number));
+    assert_eq!(rt; account.traded_place(number), Err(RemoveFault::NoLot));
+    Ok(())
+}
+
+#[test]
+fn a_hold_is_found_and_released(rt: HostRuntime) -> Result<(), Fail> {
+    let mut account = with_hold(rt.alloc())?;
+    let order = OrderId::read(b"5")?;
+    let place = account.order_place(order).ok_or("no hold")?;
+    assert_eq!(rt; account.hold_at(place).quantity.contracts(), 3);
+    assert!(rt; account.has_order(order));
+    account.release(place);
+    assert!(rt; !account.has_order(order));
+    Ok(())
+}
+
+#[test]
+fn a_fill_makes_a_lot_of_a_part_of_a_hold(rt: HostRuntime) -> Result<(), Fail> {
+    let mut account = with_hold(rt.alloc())?;
+    let lot = lot_of(b"8", b"1")?;
+    let order = OrderId::read(b"5")?;
+    assert_eq!(rt; held_after(&mut account, order, &lot)?, 2);
+    assert!(rt; account.has_lot(lot.number));
+    Ok(())
+}
