@@ -4,15 +4,14 @@ use Rattle.std.specs.Prelude.{ℤ, pos, nat_eq, nat_lt, if◌then◌else◌, Opt
 use Rattle.std.specs.List.{sum_by}
 use Rattle.std.proofs.lemmas.Bool.Decides.{nat_tests}
 use Rattle.std.proofs.lemmas.Int.{ints}
-use Rattle.std.proofs.lemmas.List.{get_or_append_left, length-replicate}
-use Rattle.std.proofs.lemmas.List.Elements.{All-push, All-replicate}
+use Rattle.std.proofs.lemmas.List.{get_or_append_left}
+use Rattle.std.proofs.lemmas.List.Elements.{All-push}
 use Rattle.std.proofs.lemmas.List.Sums.{sum_by-cons}
 use Rattle.std.proofs.lemmas.Simd.{splat_is_map}
 use Rattle.std.proofs.Math.Seq.{get_or-append_seam}
 use Rattle.mgn_num.proofs.SignedLemmas.{signed_sum_by-cons}
 use Rattle.mgn_params.specs.declared.tables.Class.{Class}
 use Rattle.mgn_params.specs.declared.tables.Contract.{Contract}
-use Rattle.mgn_params.specs.Positions.{IsNet}
 use Rattle.mgn_params.specs.Tables.{Tables}
 use Rattle.mgn_params.proofs.FlatLemmas.{requirement_flat_replicate}
 use Rattle.mgn_coll.specs.Posted.{class_value}
@@ -22,7 +21,8 @@ use Rattle.mgn_machine.specs.declared.row.Row.{Row}
 use Rattle.mgn_machine.specs.State.{AccountState, IsAccount, fresh}
 use Rattle.mgn_machine.specs.Portfolios.{Portfolio, OnlyLots, WithBuys, WithSales, WithAll, account_net, account_size, account_worth, in_unit, unit_sum, row_by}
 use Rattle.mgn_machine.specs.Refusals.{IsKnown}
-use Rattle.mgn_machine.specs.Rows.{IsRow, IsSide, priced, row_of, side_of, no_row, no_side}
+use Rattle.mgn_machine.specs.Rows.{priced, row_of, side_of, no_row, no_side}
+use Rattle.mgn_machine.proofs.Flat.{flat_row}
 use Rattle.mgn_book.specs.Floors.{floor, IsKept, IsUnitRow}
 
 -- A unit that no account has.
@@ -54,27 +54,6 @@ none-row_of set' accounts u apart = λ i. record {
   buys = none-side set' accounts u WithBuys apart i;
   sales = none-side set' accounts u WithSales apart i;
   all = none-side set' accounts u WithAll apart i;
-}
-
-flat : (set' : Tables) → All IsNet (replicate (length set'.contracts) (pos 0))
-flat set' = All-replicate IsNet (length set'.contracts) (pos 0) (omega arith)
-
-flat-side : (set' : Tables) → IsSide set' (no_side set')
-flat-side set' = record {
-  one_each = length-replicate (length set'.contracts) (pos 0);
-  nets = flat set';
-  worth = omega arith;
-  requirement = omega arith;
-}
-
-flat-row : (set' : Tables) → IsRow set' (no_row set')
-flat-row set' = record {
-  one_each = length-replicate (length set'.contracts) (pos 0);
-  sizes = flat set';
-  lots = flat-side set';
-  buys = flat-side set';
-  sales = flat-side set';
-  all = flat-side set';
 }
 
 -- An account in which there is nothing counts for nothing.
@@ -172,7 +151,7 @@ kept-unit set' origins accounts rows closed version kept few = record {
     at u d less false e =
         let here : u ≡ length rows = grind (arith, nat_tests) in
         subst (λ (v : ℕ). IsUnitRow set' accounts v (get_or (rows ++ no_row set' ∷ []) v d)) (sym here)
-        (subst (λ (r : Row). IsUnitRow set' accounts (length rows) r) (sym (get_or-append_seam rows (no_row set') [] d)) record { is = none-row_of set' accounts (length rows) kept.within; limits = flat-row set' })
+        (subst (λ (r : Row). IsUnitRow set' accounts (length rows) r) (sym (get_or-append_seam rows (no_row set') [] d)) record { is = none-row_of set' accounts (length rows) kept.within; limits = flat_row set' })
 
 -- an origin more, whose unit is there if it has one
 pub kept-origin : (set' : Tables) (origins : List Origin) (accounts : List AccountState) (rows : List Row) (closed : Bool) (version : ℕ) (o : Origin) → IsKept set' (floor origins accounts rows closed version) → IfSome o.unit (λ u. u < length rows) → IsKept set' (floor (origins ++ o ∷ []) accounts rows closed version)

@@ -8,3 +8,4 @@ pub mod AtLimit
 pub mod Histories
 pub mod Short
 pub mod Versions
+pub mod Flat

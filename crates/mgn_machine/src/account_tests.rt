@@ -1,15 +1,23 @@
-//! An account with one thing in it at a time: a lot, a hold.
+//! An account with one thing in it at a time: collateral, a lot, a hold.
 ghost use Rattle.std.specs.Prelude.{◌<◌, IfOk, length};
 ghost use Rattle.mgn_lots.specs.Lots.{IsLot};
 ghost use Rattle.mgn_holds.specs.Holds.{IsHeld};
 
 use crate::Account;
+use mgn_coll::PostFault;
 use mgn_holds::Held;
 use mgn_holds::fills::covers;
-use mgn_ids::{AccountName, ContractName, IdFault, LotId, LotQuantity, OrderId, Premium};
+use mgn_ids::{
+    AccountName, ClassName, ContractName, IdFault, LotId, LotQuantity, OrderId, Premium, Units,
+};
 use mgn_lots::{Lot, Mark, RemoveFault};
+use mgn_params::{ParamSet, read_set};
 use std::alloc::{AllocError, Global};
+use std::process::Abort;
 use std::test::Fail;
+
+// One collateral class: 99.50 for a unit, with a haircut of 3 hundredths.
+const BILLS: &[u8] = b"H,1,BILLS\nV,BILL,9950,300\n";
 
 fn opened(alloc: Global) -> Result<Account, IdFault> {
     Ok(Account::open(alloc, AccountName::read(b"A1")?, 3))
@@ -106,6 +114,34 @@ fn held_after(account: &mut Account, order: OrderId, lot: &Lot) -> Result<i64, A
     Ok(held(account, order))
 }
 
+// So many of BILL.
+fn bills(units: &[u8]) -> Result<(ClassName, Units), IdFault> {
+    Ok((ClassName::read(b"BILL")?, Units::read(units)?))
+}
+
+// What posting units would come to: how many are posted, and what they are worth in cents.
+fn would_post(
+    account: &Account,
+    set: &ParamSet,
+    class: &ClassName,
+    units: Units,
+) -> Result<(u64, i128), PostFault> {
+    let amount = account.amount_posted(set, class, units)?;
+    Ok((amount, account.value_with(set, class, amount).amount()))
+}
+
+// Posts units.
+fn post(
+    account: &mut Account,
+    set: &ParamSet,
+    class: &ClassName,
+    units: Units,
+) -> Result<(), PostFault> {
+    let amount = account.amount_posted(set, class, units)?;
+    account.write_amount(class, amount)?;
+    Ok(())
+}
+
 #[test]
 fn an_account_opens_empty(rt: HostRuntime) -> Result<(), Fail> {
     let account = opened(rt.alloc())?;
@@ -114,10 +150,26 @@ fn an_account_opens_empty(rt: HostRuntime) -> Result<(), Fail> {
     Ok(())
 }
 
+// What 3 bills come to before they are posted, and after.
+fn check_bills(rt: &impl Abort, set: &ParamSet, account: &mut Account) -> Result<(), Fail> {
+    let (bill, three) = bills(b"3")?;
+    assert_eq!(rt; would_post(account, set, &bill, three), Ok((3, 28_954)));
+    post(account, set, &bill, three)?;
+    account.collateral_limits();
+    assert_eq!(rt; account.collateral_value(set).amount(), 28_954);
+    assert_eq!(rt; account.amount_left(set, &bill, three), Ok(0));
+    Ok(())
+}
+
 #[test]
-fn a_lot_is_found_and_busted(rt: HostRuntime) -> Result<(), Fail> {
-    let mut account = with_lot(rt.alloc())?;
-    let number = LotId::read(b"7")?;
+fn posted_collateral_counts(rt: HostRuntime) -> Result<(), Fail> {
+    let set = read_set(rt.alloc(), BILLS)?;
+    let mut account = opened(rt.alloc())?;
+    check_bills(&rt, &set, &mut account)
+}
+
+// Busts lot 7.
+fn check_lot(rt: &impl Abort, account: &mut Account, number: LotId) -> Result<(), RemoveFault> {
     let place = account.traded_place(number)?;
     assert_eq!(rt; account.lot_at(place).quantity.contracts(), 10);
     account.bust(place);
@@ -127,14 +179,42 @@ fn a_lot_is_found_and_busted(rt: HostRuntime) -> Result<(), Fail> {
 }
 
 #[test]
+fn a_lot_is_found_and_busted(rt: HostRuntime) -> Result<(), Fail> {
+    let mut account = with_lot(rt.alloc())?;
+    let number = LotId::read(b"7")?;
+    check_lot(&rt, &mut account, number)?;
+    Ok(())
+}
+
+// Releases order 5.
+fn check_hold(rt: &impl Abort, account: &mut Account, order: OrderId) {
+    assert!(rt; account.has_order(order));
+    if let Some(place) = account.order_place(order) {
+        account.release(place);
+    }
+    assert!(rt; !account.has_order(order));
+}
+
+#[test]
 fn a_hold_is_found_and_released(rt: HostRuntime) -> Result<(), Fail> {
     let mut account = with_hold(rt.alloc())?;
     let order = OrderId::read(b"5")?;
-    let place = account.order_place(order).ok_or("no hold")?;
-    assert_eq!(rt; account.hold_at(place).quantity.contracts(), 3);
-    assert!(rt; account.has_order(order));
-    account.release(place);
-    assert!(rt; !account.has_order(order));
+    assert_eq!(rt; held(&account, order), 3);
+    check_hold(&rt, &mut account, order);
+    Ok(())
+}
+
+// Fills one contract of order 5.
+fn check_fill(
+    rt: &impl Abort,
+    account: &mut Account,
+    order: OrderId,
+    lot: &Lot,
+) -> Result<(), AllocError>
+    requires { IsLot lot.now }
+{
+    assert_eq!(rt; held_after(account, order, lot)?, 2);
+    assert!(rt; account.has_lot(lot.number));
     Ok(())
 }
 
@@ -143,7 +223,6 @@ fn a_fill_makes_a_lot_of_a_part_of_a_hold(rt: HostRuntime) -> Result<(), Fail> {
     let mut account = with_hold(rt.alloc())?;
     let lot = lot_of(b"8", b"1")?;
     let order = OrderId::read(b"5")?;
-    assert_eq!(rt; held_after(&mut account, order, &lot)?, 2);
-    assert!(rt; account.has_lot(lot.number));
+    check_fill(&rt, &mut account, order, &lot)?;
     Ok(())
 }

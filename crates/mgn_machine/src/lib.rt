@@ -14,6 +14,8 @@ pub mod nets;
 pub mod origin;
 pub mod reply;
 pub mod row;
+#[cfg(test)]
+mod row_tests;
 pub mod rows;
 #[cfg(test)]
 mod tests;
