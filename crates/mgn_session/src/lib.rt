@@ -10,6 +10,8 @@ pub mod plain;
 pub mod run;
 pub mod script;
 #[cfg(test)]
+mod script_tests;
+#[cfg(test)]
 mod tests;
 mod work;
 

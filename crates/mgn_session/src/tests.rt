@@ -10,11 +10,17 @@ use std::io::{ErrorKind, Read, Write};
 
 // Answers each command with its number, and an ASK with a refusal.
 #[derive(Drop)]
-struct Listed {
+pub(crate) struct Listed {
     items: Vec<Item>,
 }
 
 impl Listed {
+    pub(crate) fn new(alloc: Global) -> Listed {
+        Listed {
+            items: Vec::new(alloc),
+        }
+    }
+
     fn keep(&mut self, place: u64, command: &Command, reply: &Reply) -> bool
         ensures { self.new.items.items ≡ self.old.items.items ++ (if result then record { place = place; command = command.now; reply = reply.now } ∷ [] else []) }
     {
@@ -56,10 +62,10 @@ impl Exec for Listed {
 
 // Gives a text in pieces of a few bytes, and then fails or ends.
 #[derive(Drop)]
-struct Pieces<'a> {
-    left: &'a [u8],
-    size: usize,
-    fails: bool,
+pub(crate) struct Pieces<'a> {
+    pub(crate) left: &'a [u8],
+    pub(crate) size: usize,
+    pub(crate) fails: bool,
 }
 
 impl Read for Pieces<'_> {
@@ -76,10 +82,10 @@ impl Read for Pieces<'_> {
 
 // Takes a few bytes at a time, and fails once it has room for no more.
 #[derive(Drop)]
-struct Narrow {
-    taken: Vec<u8>,
-    size: usize,
-    room: usize,
+pub(crate) struct Narrow {
+    pub(crate) taken: Vec<u8>,
+    pub(crate) size: usize,
+    pub(crate) room: usize,
 }
 
 impl Write for Narrow {
@@ -118,9 +124,7 @@ fn run(
         size,
         room,
     });
-    let mut exec = Listed {
-        items: Vec::new(alloc),
-    };
+    let mut exec = Listed::new(alloc);
     let ended = run_lines(alloc, &mut reader, &mut writer, &mut exec);
     let read_failed = reader.failed();
     let write_failed = writer.failed();
