@@ -2,9 +2,9 @@
 """Times `spand script` on a long input, beside `cat` and a plain echo of lines.
 
 Usage: bench/script.py [LINES [PROGRAM]]; 600,000 lines and the program that `rt run` or `rt ci` leaves by default.
-It needs a C compiler, `cc`, for the echo. Each program is run three times from a file to a file, and the fastest run
-counts. The memory of a line is what the program holds at most, less what it holds for an empty input, by the lines that
-it keeps.
+It needs a C compiler, `cc`, for the echo. The three programs run in turn, seven times from a file to a file, and of
+each the fastest run counts. The memory of a line is what the program holds at most, less what it holds for an empty
+input, by the lines that it keeps.
 """
 import os
 import pathlib
@@ -71,8 +71,10 @@ def run(command, source, target):
     return seconds, used.ru_maxrss * 1024
 
 
-def best(command, source, target):
-    return min(run(command, source, target) for _ in range(3))
+def fastest(commands, source, target):
+    """The seconds of the fastest run of each command, in turn, and the most memory that the last one held."""
+    runs = [[run(command, source, target) for command in commands] for _ in range(7)]
+    return [min(seconds for seconds, _ in of_one) for of_one in zip(*runs)], runs[-1][-1][1]
 
 
 def main():
@@ -87,9 +89,8 @@ def main():
         echo = work / "echo"
         subprocess.run(["cc", "-O2", "-o", echo, HERE / "echo.c"], check=True)
         command = [str(program), "script", "--dir", str(work), "--set", "BENCH"]
-        cat_seconds, _ = best(["cat"], work / "input", work / "output")
-        echo_seconds, _ = best([str(echo)], work / "input", work / "output")
-        seconds, most = best(command, work / "input", work / "output")
+        commands = [["cat"], [str(echo)], command]
+        (cat_seconds, echo_seconds, seconds), most = fastest(commands, work / "input", work / "output")
         refused = sum(line.startswith(b"ERR") for line in open(work / "output", "rb"))
         _, least = run(command, work / "empty", work / "output")
         size = (work / "input").stat().st_size
