@@ -1,11 +1,16 @@
-#!/bin/sh
-# The whole gate: first what `rt ci` does not do, then `rt ci`, whose last line `N passed, M failed` and exit status are
-# this script's. A failure before it stops the gate.
-set -e
-cd "$(dirname -- "$0")/.."
+#!/bin/bash
+# The whole gate: `rt ci`, and then what it does not do, on the executable that it has just proved and built. The last
+# line is that of `rt ci`, `N passed, M failed`, and the exit status its own. Where a later part fails, the last lines are
+# that part's, and the status is 1.
+cd "$(dirname -- "$0")/.." || exit 1
+said=$(mktemp) || exit 1
+trap 'rm -f "$said"' EXIT
 
-(cd crates/spand && rt run -- script --dir data --set FUT < stdin)
-tests/faults.sh
-tests/memory.sh
-tests/examples.sh
-exec rt ci
+rt ci | tee "$said"
+status=${PIPESTATUS[0]}
+[ "$status" -eq 0 ] || exit "$status"
+
+for part in faults memory examples; do
+    "tests/$part.sh" || exit 1
+done
+tail -n 1 "$said"
