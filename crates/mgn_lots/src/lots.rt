@@ -1,11 +1,12 @@
-ghost use Rattle.std.specs.Prelude.{◌≡◌, ◌≢◌, ◌<◌, ◌++◌, ◌∷◌, ◌↔◌, [], Some, None, Ok, Err, length, position, nat_eq, slice_set, OnOk, OnErr, IfOk, IfErr, IfSome, IsOk, IsTrue, true, false, map};
+ghost use Rattle.std.specs.Prelude.{◌≡◌, ◌≢◌, ◌<◌, ◌+◌, ◌^◌, ◌+ℤ◌, unsigned_abs, ◌++◌, ◌∷◌, ◌↔◌, [], Some, None, Ok, Err, length, position, nat_eq, slice_set, OnOk, OnErr, IfOk, IfErr, IfSome, IsOk, IsTrue, true, false, map};
 ghost use Rattle.std.specs.List.{list_any};
 ghost use Rattle.std.specs.Option.{option_map, option_copied};
 ghost use Rattle.std.specs.Str.{bytes_eq};
-ghost use Rattle.indexmap.specs.IndexMap.{get};
+ghost use Rattle.indexmap.specs.IndexMap.{get, spare, Updates};
+ghost use Rattle.mgn_num.specs.Amount.{IsQuantity};
 ghost use Rattle.mgn_lots.specs.Lots.{IsLot, lot_at, busted, numbers_of, live_quantity, net, gross, is_live};
 ghost use Rattle.mgn_lots.specs.Refusals.{has_number, is_full, added, Explains, place_of_lot, traded_place, removed};
-ghost use Rattle.mgn_lots.specs.Positions.{or_flat, position_of};
+ghost use Rattle.mgn_lots.specs.Positions.{or_flat, position_of, position_with};
 
 use crate::fault::{AddFault, RemoveFault};
 use crate::lot::{Lot, Mark};
@@ -151,10 +152,9 @@ impl Lots {
         requires reserved { self.old.reserved ≡ true }
         ensures { self.new.lots ≡ self.old.lots ++ lot.now ∷ [] }
     {
-        let position = position_in(&self.positions, &lot.contract).with(live_quantity(lot));
         self.lots.push_reserved(*lot);
         let _ = self.numbers.insert(lot.number);
-        let _ = self.positions.insert(lot.contract, position);
+        add_to_position(&mut self.positions, lot.contract, live_quantity(lot));
     }
 
     /// Adds a lot of a new number. Where memory is refused nothing has changed.
@@ -250,4 +250,22 @@ fn position_in(positions: &IndexMap<ContractName, Position>, contract: &Contract
         Some(position) => *position,
         None => Position::flat(),
     }
+}
+
+// A quantity more in a contract, which is found by one hash where it has a position already.
+fn add_to_position(
+    positions: &mut IndexMap<ContractName, Position>,
+    contract: ContractName,
+    quantity: Quantity,
+)
+    requires room { 0 < spare positions.old }
+    requires net { IsQuantity ((or_flat (get bytes_eq positions.old contract)).net +ℤ quantity) }
+    requires gross { (or_flat (get bytes_eq positions.old contract)).gross + unsigned_abs quantity < 2 ^ 64 }
+    ensures { Updates bytes_eq positions.old positions.new contract (Some (position_with (or_flat (get bytes_eq positions.old contract)) quantity)) }
+{
+    if let Some(position) = positions.get_mut(&contract) {
+        *position = position.with(quantity);
+        return;
+    }
+    let _ = positions.insert(contract, Position::flat().with(quantity));
 }

@@ -13,15 +13,17 @@ use Rattle.mgn_params.specs.Credits.{credits_of}
 use Rattle.mgn_params.specs.Deltas.{net_delta}
 use Rattle.mgn_params.specs.Limits.{IsWithinLimits}
 use Rattle.mgn_params.specs.Positions.{Position, positions}
-use Rattle.mgn_params.specs.Requirement.{credit, credits, intra_charge, minimum, price_risk2_of, risk, scan_of, spot_charge}
-use Rattle.mgn_params.specs.Scan.{active, price_risk2, scan_risk, scenario_total, value_at}
+use Rattle.mgn_params.specs.Requirement.{credit, credits, intra_charge, minimum, price_risk2_of, risk, spot_charge}
+use Rattle.mgn_params.specs.Scan.{scenario_total}
 use Rattle.mgn_params.specs.Spot.{spot_charge_of, spot_of}
 use Rattle.mgn_params.specs.Stages.{charges_of, stages_of}
 use Rattle.mgn_params.specs.Tables.{Tables}
 use Rattle.mgn_plain.specs.declared.figure_rows.FigureRows.{FigureRows}
-use Rattle.mgn_plain.specs.Kept.{leg_of, legs_row, total_of, totals_of}
+use Rattle.mgn_plain.specs.declared.scanned.ScanFigures.{ScanFigures}
+use Rattle.mgn_plain.specs.Kept.{leg_of, legs_row, total_of}
 use Rattle.mgn_plain.specs.Parts.{AreCharges, AreChargesFrom, AreCredits, AreCreditsFrom, AreDeltas, AreNetDeltas, AreFigureRows, AreRisks, AreStarts, AreTotals}
 use Rattle.mgn_plain.specs.Rests.{AreCreditNumbers}
+use Rattle.mgn_plain.specs.Scans.{AreScans, AreScansOf, scan_at, scanned}
 use Rattle.mgn_plain.proofs.DeltaLemmas.{net_is, net_small, start_is, start_small, starts_are}
 use Rattle.mgn_params.proofs.ShareLemmas.{scenario_total_small}
 use Rattle.mgn_params.proofs.ScanLemmas.{active_same, scan_risk_same, price_risk2_same, price_risk2_small}
@@ -54,33 +56,48 @@ charges_are t nets deltas starts intra spot limits are from charged =
       spot_small = charged.spot_small;
     }
 
+-- equal totals have equal figures
+scanned_same : (f h : ℕ → ℤ) → ((s : ℕ) → s < 16 → f s ≡ h s) → scanned f ≡ scanned h
+scanned_same f h same = rw (price_risk2_same f h same, scan_risk_same f h same, active_same f h same) refl
+
+-- the scan figures of rows of totals are those of the nets
+pub scans_are : (t : Tables) (nets : List ℤ) (totals : List (List ℤ)) (scans : List ScanFigures) → IsWithinLimits t → AreTotals t nets totals → AreScansOf totals scans → AreScans t nets scans
+scans_are t nets totals scans limits totalled of = record {
+  one_each = of.one_each ∙ totalled.one_row_each;
+  each = λ g h. of.each g (omega (arith, totalled.one_row_each)) ∙ scanned_same (total_of totals g) (scenario_total g (positions t.contracts nets)) (λ s k. totalled.each g s h k);
+  small_scan = λ g h. of.small g (omega (arith, totalled.one_row_each));
+  small_risk = λ g h.
+      let risk = price_risk2_small (total_of totals g) (256 * 10 ^ 15) (λ s k. total_small t nets totals g s limits totalled h k) in
+      let is = ap (λ (x : ScanFigures). unsigned_abs x.price_risk2) (of.each g (omega (arith, totalled.one_row_each))) in
+      omega (arith, is, risk);
+}
+
 -- the numbers that credits are worked out from are within their limits
-pub credit_numbers : (t : Tables) (nets deltas row : List ℤ) (totals : List (List ℤ)) (risks : List ℕ) → IsWithinLimits t → AreDeltas t nets deltas → AreTotals t nets totals → AreNetDeltas t deltas row → AreRisks totals risks → AreCreditNumbers row risks
-credit_numbers t nets deltas row totals risks limits are totalled netted priced = record {
-  one_each = priced.one_each ∙ totalled.one_row_each ∙ sym netted.one_each;
+pub credit_numbers : (t : Tables) (nets deltas row : List ℤ) (scans : List ScanFigures) (risks : List ℕ) → IsWithinLimits t → AreDeltas t nets deltas → AreScans t nets scans → AreNetDeltas t deltas row → AreRisks scans risks → AreCreditNumbers row risks
+credit_numbers t nets deltas row scans risks limits are scanned netted priced = record {
+  one_each = priced.one_each ∙ scanned.one_each ∙ sym netted.one_each;
   small_deltas = λ k d h.
       let low : k < length t.commodities = omega (arith, netted.one_each) in
       let small = net_small t nets k limits are.of_nets in
       rw (get_or_default row k d (pos 0) h) (omega (arith, ints, netted.each k low, net_is t nets deltas k are, small));
   small_risks = λ g.
       ⊎_elim
-      (λ (inside : g < length totals).
-      let low : g < length t.commodities = omega (arith, totalled.one_row_each) in
-      let small = price_risk2_small (total_of totals g) (256 * 10 ^ 15) (λ s h. total_small t nets totals g s limits totalled low h) in
-      omega (arith, priced.each g inside, small))
+      (λ (inside : g < length scans).
+      let low : g < length t.commodities = omega (arith, scanned.one_each) in
+      omega (arith, priced.each g inside, scanned.small_risk g low))
       (λ past. rw (get_or_past risks g 0 (omega (arith, priced.one_each, past))) (omega arith))
-      (cases_lt g (length totals));
+      (cases_lt g (length scans));
 }
 
 -- credits from those numbers are those of the definitions
-pub credits_are : (t : Tables) (nets deltas row : List ℤ) (totals : List (List ℤ)) (risks credited : List ℕ) → AreDeltas t nets deltas → AreTotals t nets totals → AreNetDeltas t deltas row → AreRisks totals risks → AreCreditsFrom t row risks credited → AreCredits t nets credited
+pub credits_are : (t : Tables) (nets deltas row : List ℤ) (scans : List ScanFigures) (risks credited : List ℕ) → AreDeltas t nets deltas → AreScans t nets scans → AreNetDeltas t deltas row → AreRisks scans risks → AreCreditsFrom t row risks credited → AreCredits t nets credited
 unfolding credits
-credits_are t nets deltas row totals risks credited are totalled netted priced from =
+credits_are t nets deltas row scans risks credited are scanned netted priced from =
     let held : List Position = positions t.contracts nets in
     let n = length t.commodities in
     let rests : row ≡ map (net_delta t.months held) (range_with_len 0 n) = fill_by_all (net_delta t.months held) row n (pos 0) netted.one_each (λ g h. netted.each g h ∙ net_is t nets deltas g are) in
     let prices : risks ≡ map (price_risk2_of held) (range_with_len 0 n) =
-    fill_by_all (price_risk2_of held) risks n 0 (priced.one_each ∙ totalled.one_row_each) (λ g h. priced.each g (omega (arith, totalled.one_row_each)) ∙ ap unsigned_abs (price_risk2_same (total_of totals g) (scenario_total g held) (λ s k. totalled.each g s h k))) in
+    fill_by_all (price_risk2_of held) risks n 0 (priced.one_each ∙ scanned.one_each) (λ g h. priced.each g (omega (arith, scanned.one_each)) ∙ ap (λ (x : ScanFigures). unsigned_abs x.price_risk2) (scanned.each g h)) in
     record {
       is = from.is ∙ ap (λ (xs : List ℤ). credits_of xs risks t.credits) rests ∙ ap (λ (xs : List ℕ). credits_of (map (net_delta t.months held) (range_with_len 0 n)) xs t.credits) prices;
       one_each = from.one_each;
@@ -106,19 +123,16 @@ if_ok_along (Ok x) P Q along h = along x h
 if_ok_along (Err e) P Q along h = h
 
 -- the figures from the rows are those of the definitions
-pub figures_are : (t : Tables) (nets : List ℤ) (rows : FigureRows) (row : List ℤ) (g : ℕ) → (scan : ℤ) (a : ℕ) (x i s c m r : ℤ) → AreFigureRows t nets rows → g < length t.commodities → row ≡ totals_of rows.totals.items g → scan ≡ scan_risk (value_at row) → a ≡ active (value_at row) → x ≡ price_risk2 (value_at row) → i ≡ pos (slice_index rows.intra.items g) → s ≡ pos (slice_index rows.spot.items g) → c ≡ pos (slice_index rows.credits.items g) → m ≡ pos (slice_index rows.minimums.items g) → r ≡ int_max (scan +ℤ i +ℤ s -ℤ c) m → let built : CommodityFigures = record { scan = scan; active = a; price_risk2 = x; intra = i; spot = s; credit = c; minimum = m; risk = r } in built ≡ commodity_figures t (positions t.contracts nets) g
+pub figures_are : (t : Tables) (nets : List ℤ) (rows : FigureRows) (g : ℕ) (scan : ScanFigures) (i s c m r : ℤ) → AreFigureRows t nets rows → g < length t.commodities → scan ≡ scan_at rows.scans.items g → i ≡ pos (slice_index rows.intra.items g) → s ≡ pos (slice_index rows.spot.items g) → c ≡ pos (slice_index rows.credits.items g) → m ≡ pos (slice_index rows.minimums.items g) → r ≡ int_max (scan.scan +ℤ i +ℤ s -ℤ c) m → let built : CommodityFigures = record { scan = scan.scan; active = scan.active; price_risk2 = scan.price_risk2; intra = i; spot = s; credit = c; minimum = m; risk = r } in built ≡ commodity_figures t (positions t.contracts nets) g
 unfolding commodity_figures risk
-figures_are t nets rows row g scan a x i s c m r are h read scanned acted priced charged spotted creditted lowest risked =
+figures_are t nets rows g scan i s c m r are h read charged spotted creditted lowest risked =
     let held : List Position = positions t.contracts nets in
-    let same : (k : ℕ) → k < 16 → value_at row k ≡ scenario_total g held k = λ k p. ap (λ (xs : List ℤ). value_at xs k) read ∙ are.totals.each g k h p in
-    let scan_is : scan ≡ scan_of held g = scanned ∙ scan_risk_same (value_at row) (scenario_total g held) same in
-    let active_is : a ≡ active (scenario_total g held) = acted ∙ active_same (value_at row) (scenario_total g held) same in
-    let price_is : x ≡ price_risk2 (scenario_total g held) = priced ∙ price_risk2_same (value_at row) (scenario_total g held) same in
+    let scan_is : scan ≡ scanned (scenario_total g held) = read ∙ are.scans.each g h in
     let intra_is : i ≡ pos (intra_charge t held g) = charged ∙ ap pos (are.charges.intra_is g h) in
     let spot_is : s ≡ pos (spot_charge t held g) = spotted ∙ ap pos (are.charges.spot_is g h) in
     let credit_is : c ≡ pos (credit t held g) = creditted ∙ ap (λ (xs : List ℕ). pos (slice_index xs g)) are.credits.is in
     let minimum_is : m ≡ pos (minimum t held g) = lowest ∙ ap pos (are.minimums.each g h) in
-    rw (risked, scan_is, active_is, price_is, intra_is, spot_is, credit_is, minimum_is) refl
+    rw (risked, scan_is, intra_is, spot_is, credit_is, minimum_is) refl
 
 -- the risk among the figures of a commodity
 pub risk_is : (t : Tables) (held : List Position) (g : ℕ) → (commodity_figures t held g).risk ≡ risk t held g

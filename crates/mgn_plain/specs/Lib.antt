@@ -3,3 +3,4 @@ pub mod Figures
 pub mod Kept
 pub mod Parts
 pub mod Rests
+pub mod Scans

@@ -5,12 +5,14 @@ use Rattle.mgn_params.specs.Credits.{credits_of}
 use Rattle.mgn_params.specs.Deltas.{month_delta}
 use Rattle.mgn_params.specs.Positions.{IsNet, positions}
 use Rattle.mgn_params.specs.Requirement.{credits, intra_charge, minimum, spot_charge}
-use Rattle.mgn_params.specs.Scan.{price_risk2, scenario_total, value_at}
+use Rattle.mgn_params.specs.Scan.{scenario_total, value_at}
 use Rattle.mgn_params.specs.Spot.{spot_of}
 use Rattle.mgn_params.specs.Stages.{charges_of, left_by, stages_of}
 use Rattle.mgn_params.specs.Tables.{Tables}
 use Rattle.mgn_plain.specs.declared.figure_rows.FigureRows.{FigureRows}
+use Rattle.mgn_plain.specs.declared.scanned.ScanFigures.{ScanFigures}
 use Rattle.mgn_plain.specs.Kept.{kept_charge_of, leg_of, legs_row, month_net_share, month_start, total_of}
+use Rattle.mgn_plain.specs.Scans.{AreScans, scan_at}
 
 -- one net for each contract, each at most 10^7 in size
 pub record AreNets (set : Tables) (nets : List ℤ) : Type 0 where
@@ -46,10 +48,10 @@ pub record AreNetDeltas (set : Tables) (deltas row : List ℤ) : Type 0 where
   pub one_each : length row ≡ length set.commodities
   pub each : (g : ℕ) → g < length set.commodities → value_at row g ≡ signed_sum_below (month_net_share set.months deltas g) (length set.months)
 
--- the doubled price risks of rows of totals
-pub record AreRisks (totals : List (List ℤ)) (risks : List ℕ) : Type 0 where
-  pub one_each : length risks ≡ length totals
-  pub each : (g : ℕ) → g < length totals → slice_index risks g ≡ unsigned_abs (price_risk2 (total_of totals g))
+-- the doubled price risks among scan figures
+pub record AreRisks (scans : List ScanFigures) (risks : List ℕ) : Type 0 where
+  pub one_each : length risks ≡ length scans
+  pub each : (g : ℕ) → g < length scans → slice_index risks g ≡ unsigned_abs (scan_at scans g).price_risk2
 
 -- what spreading and spot months charge each commodity, by what its legs start with
 pub record AreChargesFrom (set : Tables) (starts : List (List ℕ)) (intra spot : List ℕ) : Type 0 where
@@ -82,7 +84,7 @@ pub record AreCredits (set : Tables) (nets : List ℤ) (row : List ℕ) : Type 0
 
 -- all rows that the figures of the commodities are worked out from
 pub record AreFigureRows (set : Tables) (nets : List ℤ) (rows : FigureRows) : Type 0 where
-  pub totals : AreTotals set nets rows.totals.items
+  pub scans : AreScans set nets rows.scans.items
   pub charges : AreCharges set nets rows.intra.items rows.spot.items
   pub credits : AreCredits set nets rows.credits.items
   pub minimums : AreMinimums set nets rows.minimums.items

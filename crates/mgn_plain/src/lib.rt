@@ -10,6 +10,7 @@ mod options;
 mod parts;
 mod rows;
 mod scan;
+mod scanned;
 mod spot;
 mod stages;
 mod total;

@@ -2,10 +2,12 @@ ghost use Rattle.std.specs.Prelude.{◌≡◌, ℕ, ◌+◌, ◌*◌, ◌<◌, �
 ghost use Rattle.std.specs.Int.{int_max};
 ghost use Rattle.mgn_params.specs.Tables.{contract_at};
 ghost use Rattle.mgn_params.specs.Positions.{positions, IsNet};
-ghost use Rattle.mgn_params.specs.Scan.{value_at, scenario_share, scenario_total, active, scan_risk, pair_of, price_risk2, price_risk2_at};
+ghost use Rattle.mgn_params.specs.Scan.{value_at, scenario_share, scenario_total, active, pair_of, price_risk2_at};
 ghost use Rattle.mgn_plain.specs.Kept.{total_of, totals_of};
+ghost use Rattle.mgn_plain.specs.Scans.{scan_at, scanned};
 
 use crate::rows::net_at;
+use crate::scanned::ScanFigures;
 use crate::total::Total;
 use mgn_num::{Cents, Quantity};
 use mgn_params::{ParamSet, Work};
@@ -125,20 +127,10 @@ fn doubled_price_risk(totals: &[Total; 16], active: usize) -> Cents
     own.plus(pair).minus(first).minus(second).or_zero()
 }
 
-// The scan risk of a commodity, its active scenario and twice its price risk.
-#[derive(Clone, Copy)]
-pub(crate) struct ScanFigures {
-    pub scan: Cents,
-    pub active: usize,
-    pub price_risk2: Cents,
-}
-
 // The scan figures of the totals of a commodity.
 pub(crate) fn scan_figures(totals: &[Total; 16]) -> ScanFigures
     requires { (s : ℕ) → s < 16 → unsigned_abs (value_at totals.now s) ≤ 256 * 10 ^ 15 }
-    ensures scan { result.scan ≡ scan_risk (value_at totals.now) }
-    ensures active { result.active ≡ active (value_at totals.now) }
-    ensures price_risk2 { result.price_risk2 ≡ price_risk2 (value_at totals.now) }
+    ensures figures { result ≡ scanned (value_at totals.now) }
     ensures small_scan { unsigned_abs result.scan ≤ 256 * 10 ^ 15 }
 {
     let active = active_scenario(totals);
@@ -150,22 +142,41 @@ pub(crate) fn scan_figures(totals: &[Total; 16]) -> ScanFigures
 }
 
 // The totals of a commodity.
-pub(crate) fn totals_row(totals: &[[Total; 16]], commodity: usize) -> &[Total; 16]
+fn totals_row(totals: &[[Total; 16]], commodity: usize) -> &[Total; 16]
     requires { commodity < length totals.now }
     ensures { result.now ≡ totals_of totals.now commodity }
 {
     &totals[commodity]
 }
 
-// Twice the price risk of each commodity.
-pub(crate) fn fill_price_risks(risks: &mut [u128], totals: &[[Total; 16]])
-    requires one_each { length risks.old ≡ length totals.now }
+// The scan figures of each commodity.
+pub(crate) fn fill_scans(scans: &mut [ScanFigures], totals: &[[Total; 16]])
+    requires one_each { length scans.old ≡ length totals.now }
     requires small { (g s : ℕ) → g < length totals.now → s < 16 → unsigned_abs (total_of totals.now g s) ≤ 256 * 10 ^ 15 }
-    ensures one_each { length risks.new ≡ length totals.now }
-    ensures risks { (g : ℕ) → g < length totals.now →
-        slice_index risks.new g ≡ unsigned_abs (price_risk2 (total_of totals.now g)) }
+    ensures one_each { length scans.new ≡ length totals.now }
+    ensures scans { (g : ℕ) → g < length totals.now → scan_at scans.new g ≡ scanned (total_of totals.now g) }
+    ensures small { (g : ℕ) → g < length totals.now → unsigned_abs (scan_at scans.new g).scan ≤ 256 * 10 ^ 15 }
 {
     for g in 0..totals.len() {
-        risks[g] = scan_figures(totals_row(totals, g)).price_risk2.size();
+        scans[g] = scan_figures(totals_row(totals, g));
+    }
+}
+
+// The scan figures of a commodity.
+pub(crate) fn scan_of(scans: &[ScanFigures], commodity: usize) -> ScanFigures
+    requires { commodity < length scans.now }
+    ensures { result ≡ scan_at scans.now commodity }
+{
+    scans[commodity]
+}
+
+// Twice the price risk of each commodity.
+pub(crate) fn fill_price_risks(risks: &mut [u128], scans: &[ScanFigures])
+    requires one_each { length risks.old ≡ length scans.now }
+    ensures one_each { length risks.new ≡ length scans.now }
+    ensures risks { (g : ℕ) → g < length scans.now → slice_index risks.new g ≡ unsigned_abs (scan_at scans.now g).price_risk2 }
+{
+    for g in 0..scans.len() {
+        risks[g] = scan_of(scans, g).price_risk2.size();
     }
 }
