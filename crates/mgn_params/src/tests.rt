@@ -1,5 +1,6 @@
 //! The sets of the worked examples are read, and files with a fault are refused with the record and its cause.
 
+mod rows;
 mod sets;
 
 use crate::{Cause, ParamSet, PutFault, SetFault, SetList, Shelf, Version, read_set};
