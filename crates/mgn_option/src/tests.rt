@@ -58,6 +58,7 @@ fn follow(rt: &impl Abort, set: &ParamSet, sums: &mut OptionSums, change: &Chang
     assert!(rt; net.size() <= 10_000_000);
     sums.add(set, change.contract, quantity);
     assert_eq!(rt; sums.net(change.contract), net);
+    assert_eq!(rt; sums.nets().get(change.contract).copied(), Some(net));
 }
 
 fn amounts_of(sums: &OptionSums) -> [i128; 3]

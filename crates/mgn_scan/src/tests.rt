@@ -78,6 +78,7 @@ fn follow(
     assert!(rt; net.size() <= 10_000_000);
     totals.add(set, change.contract, quantity, work);
     assert_eq!(rt; totals.net(change.contract), net);
+    assert_eq!(rt; totals.nets().get(change.contract).copied(), Some(net));
 }
 
 fn figures_of(totals: &ScanTotals, commodity: usize) -> Scanned
