@@ -5,4 +5,5 @@ pub mod Kept
 pub mod Opened
 pub mod Postings
 pub mod Steps
+pub mod StoredReplies
 pub mod Trades

@@ -2,3 +2,4 @@
 pub mod Floors
 pub mod Days
 pub mod Holding
+pub mod History

@@ -1,13 +1,14 @@
-ghost use Rattle.std.specs.Prelude.{◌≡◌, ◌+◌, ◌<◌, ◌≤◌, ◌++◌, ◌∷◌, [], length, List};
+ghost use Rattle.std.specs.Prelude.{◌≡◌, ◌+◌, ◌≤◌, ◌++◌, ◌∷◌, [], length, List, true};
 ghost use Rattle.mgn_params.specs.Tables.{Tables};
 ghost use Rattle.mgn_machine.specs.History.{calls, entry};
 ghost use Rattle.mgn_book.specs.Days.{Stands, Committed, opening};
 ghost use Rattle.mgn_book.specs.declared.book.Outcome.TheVariants.{Done};
 
+use crate::history::History;
 use crate::register::Register;
 use crate::step::step;
 use mgn_ids::SessionNo;
-use mgn_machine::{Command, Entry, Reply};
+use mgn_machine::{Command, Reply};
 use mgn_params::Shelf;
 use std::alloc::Global;
 use std::marker::Model;
@@ -32,7 +33,7 @@ pub enum Outcome {
 #[derive(Drop)]
 pub struct Book {
     register: Register,
-    history: Vec<Entry>,
+    history: History,
     counts: [u64; 16],
 }
 
@@ -41,9 +42,9 @@ impl Model for Book {
 
     ghost Value = { Day };
 
-    ghost view = { λ b. record { floor = b.register; history = b.history.items } };
+    ghost view = { λ b. record { floor = b.register; history = b.history.entries } };
 
-    ghost invariant = { λ b. IsBook record { floor = b.register; history = b.history.items } b.counts };
+    ghost invariant = { λ b. IsBook record { floor = b.register; history = b.history.entries } b.counts };
 }
 
 impl Book {
@@ -54,7 +55,7 @@ impl Book {
     {
         Book {
             register: Register::new(alloc, shelf.first()),
-            history: Vec::new(alloc),
+            history: History::new(alloc),
             counts: [0; 16],
         }
     }
@@ -100,7 +101,7 @@ impl Book {
         if self.history.len() >= MOST_ENTRIES {
             return Outcome::Full;
         }
-        if self.history.reserve(1).is_err() {
+        if self.history.reserve().is_err() {
             return Outcome::Memory;
         }
         let Some(set) = shelf.get(self.register.version()) else {
@@ -117,21 +118,16 @@ impl Book {
 
 // Writes an entry where there is room for it.
 fn write(
-    history: &mut Vec<Entry>,
+    history: &mut History,
     session: SessionNo,
     number: u64,
     command: &Command,
     reply: &Reply,
 ) -> Outcome
-    requires room { length history.old.items < history.old.cap }
-    ensures outcome { result ≡ Done (length history.new.items) reply.now }
-    ensures entry { history.new.items ≡ history.old.items ++ entry session number command.now reply.now ∷ [] }
+    requires room { history.old.reserved ≡ true }
+    ensures outcome { result ≡ Done (length history.new.entries) reply.now }
+    ensures entry { history.new.entries ≡ history.old.entries ++ entry session number command.now reply.now ∷ [] }
 {
-    history.push_reserved(Entry {
-        session,
-        number,
-        command: *command,
-        reply: *reply,
-    });
+    history.push(session, number, command, reply);
     Outcome::Done(history.len() as u64, *reply)
 }

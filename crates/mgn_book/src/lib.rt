@@ -4,6 +4,7 @@
 pub mod book;
 pub mod changes;
 pub mod fault;
+mod history;
 pub mod holds;
 pub mod origins;
 pub mod register;

@@ -7,5 +7,5 @@ pub returns-clause-few : goal.returns-clause-few
 returns-clause-few c =
     let b = c.self.inside in
     let inside : c.number.result - 1 < 16 = omega (arith, c.number.ensures.small.low, c.number.ensures.small.high) in
-    let count : slice_index_or b.counts (c.number.result - 1) 0 ≡ calls ((c.number.result - 1) + 1) b.history.items = c.self.invariant.counts_are (c.number.result - 1) inside in
-    omega (arith, count, c.self.invariant.stands.few, calls-few ((c.number.result - 1) + 1) b.history.items)
+    let count : slice_index_or b.counts (c.number.result - 1) 0 ≡ calls ((c.number.result - 1) + 1) b.history.entries = c.self.invariant.counts_are (c.number.result - 1) inside in
+    omega (arith, count, c.self.invariant.stands.few, calls-few ((c.number.result - 1) + 1) b.history.entries)

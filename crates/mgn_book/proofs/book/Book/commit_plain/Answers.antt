@@ -13,22 +13,22 @@ pub returns-clause-stands : goal.returns-clause-stands
 returns-clause-stands g c =
     let b = c.self.inside in
     let sets : List Tables = g.S.Shelf.sets c.args.shelf.now in
-    let old : Day = record { floor = b.register; history = b.history.items } in
+    let old : Day = record { floor = b.register; history = b.history.entries } in
     let stands : Stands sets old = search rules in
-    let number : c.args.number ≡ calls c.args.session b.history.items + 1 = search rules in
+    let number : c.args.number ≡ calls c.args.session b.history.entries + 1 = search rules in
     let kept : IsKept (set_at sets b.register.state.version) c.step.new.register = search rules in
-    let few : length b.history.items < 1000000 = search rules in
+    let few : length b.history.entries < 1000000 = search rules in
     let stepped : (c.step.new.register.state, c.in-Ok.reply) ≡ step_under (set_at sets b.register.state.version) b.register.state c.args.command.now = search rules in
-    let pushed : c.write.new.history.items ≡ b.history.items ++ entry c.args.session c.args.number c.args.command.now c.in-Ok.reply ∷ [] = search rules in
-    stands-next sets old c.step.new.register (entry c.args.session c.args.number c.args.command.now c.in-Ok.reply) c.write.new.history.items stands stepped (ap (λ x. x.0.version) stepped ∙ keeps_version (set_at sets b.register.state.version) b.register.state c.args.command.now) number kept few pushed
+    let pushed : c.write.new.history.entries ≡ b.history.entries ++ entry c.args.session c.args.number c.args.command.now c.in-Ok.reply ∷ [] = search rules in
+    stands-next sets old c.step.new.register (entry c.args.session c.args.number c.args.command.now c.in-Ok.reply) c.write.new.history.entries stands stepped (ap (λ x. x.0.version) stepped ∙ keeps_version (set_at sets b.register.state.version) b.register.state c.args.command.now) number kept few pushed
 
 pub invariant_of-self-2 : goal.invariant_of-self-2
 invariant_of-self-2 g c =
     let b = c.self.inside in
-    let old : Day = record { floor = b.register; history = b.history.items } in
-    let are : AreCounts b.counts b.history.items = c.self.invariant.counts_are in
-    let number : c.args.number ≡ calls c.args.session b.history.items + 1 = search rules in
-    let pushed : c.write.new.history.items ≡ b.history.items ++ entry c.args.session c.args.number c.args.command.now c.in-Ok.reply ∷ [] = search rules in
+    let old : Day = record { floor = b.register; history = b.history.entries } in
+    let are : AreCounts b.counts b.history.entries = c.self.invariant.counts_are in
+    let number : c.args.number ≡ calls c.args.session b.history.entries + 1 = search rules in
+    let pushed : c.write.new.history.entries ≡ b.history.entries ++ entry c.args.session c.args.number c.args.command.now c.in-Ok.reply ∷ [] = search rules in
     let low : 1 ≤ c.args.session = search rules in
     let high : c.args.session ≤ 16 = search rules in
-    rw c.number.ensures.value (is_book-next b.counts (g.S.Shelf.sets c.args.shelf.now) old c.step.new.register (entry c.args.session c.args.number c.args.command.now c.in-Ok.reply) c.write.new.history.items are c.self.invariant.long low high number pushed (returns-clause-stands g c))
+    rw c.number.ensures.value (is_book-next b.counts (g.S.Shelf.sets c.args.shelf.now) old c.step.new.register (entry c.args.session c.args.number c.args.command.now c.in-Ok.reply) c.write.new.history.entries are c.self.invariant.long low high number pushed (returns-clause-stands g c))
