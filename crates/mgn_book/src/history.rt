@@ -9,7 +9,7 @@ use std::marker::Model;
 
 // A reply, with the place of its figures in a list of them.
 #[derive(Clone, Copy)]
-pub(crate) enum Stored {
+pub(crate) enum StoredReply {
     Done,
     At(usize),
     Refused(Refusal),
@@ -17,18 +17,18 @@ pub(crate) enum Stored {
 
 // An entry without its figures, which few entries have, and which would take as much memory as all the rest of it.
 #[derive(Clone, Copy)]
-pub(crate) struct Line {
+pub(crate) struct StoredEntry {
     pub session: SessionNo,
     pub number: u64,
     pub command: Command,
-    pub reply: Stored,
+    pub reply: StoredReply,
 }
 
 /// The entries of a book, in order of their commits. Contracts see the list of the entries, and whether memory for the
 /// next one is reserved.
 #[derive(Drop)]
 pub(crate) struct History {
-    lines: Vec<Line>,
+    entries: Vec<StoredEntry>,
     figures: Vec<Figures>,
 }
 
@@ -38,9 +38,9 @@ impl Model for History {
 
     ghost Value = { EntryList };
 
-    ghost view = { λ h. record { entries = map (entry_of h.figures.items) h.lines.items; reserved = nat_lt (vec_len h.lines) (vec_capacity h.lines) && nat_lt (vec_len h.figures) (vec_capacity h.figures) } };
+    ghost view = { λ h. record { entries = map (entry_of h.figures.items) h.entries.items; reserved = nat_lt (vec_len h.entries) (vec_capacity h.entries) && nat_lt (vec_len h.figures) (vec_capacity h.figures) } };
 
-    ghost invariant = { λ h. AreShown (length h.figures.items) h.lines.items };
+    ghost invariant = { λ h. AreShown (length h.figures.items) h.entries.items };
 }
 
 impl History {
@@ -49,7 +49,7 @@ impl History {
         ensures { result.entries ≡ [] }
     {
         History {
-            lines: Vec::new(alloc),
+            entries: Vec::new(alloc),
             figures: Vec::new(alloc),
         }
     }
@@ -58,7 +58,7 @@ impl History {
     pub fn len(&self) -> usize
         ensures { result ≡ length self.now.entries }
     {
-        self.lines.len()
+        self.entries.len()
     }
 
     /// Reserves memory for one more entry, whatever its reply. The entries stay, also where memory is refused.
@@ -66,7 +66,7 @@ impl History {
         ensures entries { self.new.entries ≡ self.old.entries }
         ensures ok { OnOk result (self.new.reserved ≡ true) }
     {
-        self.lines.reserve(1)?;
+        self.entries.reserve(1)?;
         self.figures.reserve(1)
     }
 
@@ -76,7 +76,7 @@ impl History {
         ensures { self.new.entries ≡ self.old.entries ++ entry session number command.now reply.now ∷ [] }
     {
         let reply = store(&mut self.figures, reply);
-        self.lines.push_reserved(Line {
+        self.entries.push_reserved(StoredEntry {
             session,
             number,
             command: *command,
@@ -86,18 +86,18 @@ impl History {
 }
 
 // Puts the figures of a reply at the end of a list, where it has any.
-fn store(figures: &mut Vec<Figures>, reply: &Reply) -> Stored
+fn store(figures: &mut Vec<Figures>, reply: &Reply) -> StoredReply
     requires room { vec_len figures.old < vec_capacity figures.old }
     ensures grown { figures.new.items ≡ figures.old.items ++ figures_of reply.now }
     ensures needed { needed result ≤ length figures.new.items }
     ensures reply { reply_of figures.new.items result ≡ reply.now }
 {
     match *reply {
-        Reply::Done => Stored::Done,
+        Reply::Done => StoredReply::Done,
         Reply::Figures(told) => {
             figures.push_reserved(told);
-            Stored::At(figures.len() - 1)
+            StoredReply::At(figures.len() - 1)
         }
-        Reply::Refused(why) => Stored::Refused(why),
+        Reply::Refused(why) => StoredReply::Refused(why),
     }
 }

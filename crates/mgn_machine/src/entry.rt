@@ -2,7 +2,7 @@ use crate::command::Command;
 use crate::reply::Reply;
 use mgn_ids::SessionNo;
 
-/// One committed command, as the history keeps it.
+/// One committed command, as contracts see it in the history.
 #[derive(Clone, Copy)]
 pub struct Entry {
     /// The session that asked.
