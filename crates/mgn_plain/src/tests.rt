@@ -2,7 +2,7 @@ ghost use Rattle.std.specs.Prelude.{◌≤◌, ◌^◌, unsigned_abs};
 
 use super::*;
 use mgn_num::Quantity;
-use mgn_params::{Work, read_set};
+use mgn_params::{ParamSet, Work, read_set};
 use std::alloc::{AllocError, Global};
 use std::process::Abort;
 use std::test::Fail;
@@ -45,11 +45,13 @@ fn net(rt: &impl Abort, contracts: i64) -> Quantity
     Quantity::new(contracts)
 }
 
-// The requirement of four nets under the set of a text.
-fn asked(rt: &impl Abort, alloc: Global, text: &str, nets: [i64; 4]) -> Result<i128, Fail> {
-    let set = read_set(alloc, text.as_bytes())
-        .ok()
-        .ok_or("the set is not read")?;
+// The requirement of four nets under a set.
+fn asked(
+    rt: &impl Abort,
+    alloc: Global,
+    set: &ParamSet,
+    nets: [i64; 4],
+) -> Result<i128, AllocError> {
     assert_eq!(rt; set.contract_count(), 4);
     let nets = [
         net(rt, nets[0]),
@@ -58,19 +60,33 @@ fn asked(rt: &impl Abort, alloc: Global, text: &str, nets: [i64; 4]) -> Result<i
         net(rt, nets[3]),
     ];
     let mut work = Work::new();
-    Ok(requirement(alloc, &set, &nets, &mut work)?.amount())
+    Ok(requirement(alloc, set, &nets, &mut work)?.amount())
 }
 
-// Whether each list of nets has the requirement beside it, under the set of a text.
+// Whether each list of nets has the requirement beside it, under a set.
+fn check_all(
+    rt: &impl Abort,
+    alloc: Global,
+    set: &ParamSet,
+    cases: &[([i64; 4], i128)],
+) -> Result<(), AllocError> {
+    for (nets, want) in cases {
+        assert_eq!(rt; asked(rt, alloc, set, *nets)?, *want);
+    }
+    Ok(())
+}
+
+// The same under the set of a text.
 fn check(
     rt: &impl Abort,
     alloc: Global,
     text: &str,
     cases: &[([i64; 4], i128)],
 ) -> Result<(), Fail> {
-    for (nets, want) in cases {
-        assert_eq!(rt; asked(rt, alloc, text, *nets)?, *want);
-    }
+    let set = read_set(alloc, text.as_bytes())
+        .ok()
+        .ok_or("the set is not read")?;
+    check_all(rt, alloc, &set, cases)?;
     Ok(())
 }
 
@@ -169,6 +185,42 @@ fn sets_of_spot_months(rt: HostRuntime) -> Result<(), Fail> {
     check(&rt, rt.alloc(), &text, &cases)
 }
 
+// The figures of a commodity whose credit is half of its price risk.
+fn check_credited(rt: &impl Abort, commodity: &CommodityFigures, active: usize) {
+    assert_eq!(rt; (commodity.scan.amount(), commodity.active), (300, active));
+    let figures = (
+        commodity.price_risk2.amount(),
+        commodity.credit.amount(),
+        commodity.risk.amount(),
+    );
+    assert_eq!(rt; figures, (600, 150, 150));
+}
+
+// The figures of a credit between both commodities.
+fn check_figures(rt: &impl Abort, figures: &Figures) -> Result<(), Fail> {
+    let [first, second] = figures.commodities() else {
+        return Err("not two commodities")?;
+    };
+    check_credited(rt, first, 12);
+    check_credited(rt, second, 10);
+    let sums = (
+        figures.option_value().amount(),
+        figures.requirement().amount(),
+    );
+    assert_eq!(rt; sums, (0, 300));
+    Ok(())
+}
+
+// Works them out, and counts the arrays read.
+fn check_work(rt: &impl Abort, alloc: Global, set: &ParamSet) -> Result<(), Fail> {
+    assert_eq!(rt; set.contract_count(), 4);
+    let nets = [net(rt, 1), net(rt, 0), net(rt, 0), net(rt, -2)];
+    let mut work = Work::new();
+    let figures = figures(alloc, set, &nets, &mut work)?;
+    assert_eq!(rt; work.arrays(), 2);
+    check_figures(rt, &figures)
+}
+
 #[test]
 fn figures_of_a_credit(rt: HostRuntime) -> Result<(), Fail> {
     let spread = "S,AAA,1,10000,2,10000,40";
@@ -184,38 +236,5 @@ fn figures_of_a_credit(rt: HostRuntime) -> Result<(), Fail> {
     let set = read_set(rt.alloc(), text.as_bytes())
         .ok()
         .ok_or("the set is not read")?;
-    assert_eq!(rt; set.contract_count(), 4);
-    let nets = [net(&rt, 1), net(&rt, 0), net(&rt, 0), net(&rt, -2)];
-    let mut work = Work::new();
-    let figures = figures(rt.alloc(), &set, &nets, &mut work)?;
-    let [first, second] = figures.commodities() else {
-        return Err("not two commodities")?;
-    };
-    assert_eq!(rt; (first.scan.amount(), first.active), (300, 12));
-    assert_eq!(rt; (second.scan.amount(), second.active), (300, 10));
-    assert_eq!(rt;
-        (
-            first.price_risk2.amount(),
-            first.credit.amount(),
-            first.risk.amount()
-        ),
-        (600, 150, 150)
-    );
-    assert_eq!(rt;
-        (
-            second.price_risk2.amount(),
-            second.credit.amount(),
-            second.risk.amount()
-        ),
-        (600, 150, 150)
-    );
-    assert_eq!(rt;
-        (
-            figures.option_value().amount(),
-            figures.requirement().amount()
-        ),
-        (0, 300)
-    );
-    assert_eq!(rt; work.arrays(), 2);
-    Ok(())
+    check_work(&rt, rt.alloc(), &set)
 }
