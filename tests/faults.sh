@@ -58,6 +58,8 @@ run empty serves
 wants 'no such command' 2 '' some
 run empty script --dir .
 wants 'no set' 2 '' some
+run empty --version
+wants 'its version, and the toolchain that proved it' 0 "spand 0.2.0 ($(rt version))$line" ''
 run empty script --set FUT
 wants 'no folder' 2 '' some
 run empty script --dir . --set FUT --port 80

@@ -14,7 +14,7 @@ use std::time::Instant;
 pub struct Costs {
     pub add: u128,
     pub find: u128,
-    pub remove: u128,
+    pub bust: u128,
 }
 
 /// The numbers from 1 on.
@@ -50,7 +50,7 @@ pub fn template() -> Result<Lot>
     })
 }
 
-/// Adds, finds and removes a lot of each number, in accounts of so many lots each.
+/// Adds, finds and busts a lot of each number, in accounts of so many lots each.
 pub fn measure(
     clock: &impl Clock,
     alloc: Global,
@@ -64,23 +64,35 @@ pub fn measure(
     let mut costs = Costs {
         add: 0,
         find: 0,
-        remove: 0,
+        bust: 0,
     };
     for part in numbers.chunks(size) {
         let mut lots = Lots::new(alloc);
-        let start = Instant::now(clock)?;
-        add_all(&mut lots, part, template)?;
-        costs.add = costs.add.saturating_add(start.elapsed(clock)?.as_nanos());
-        let start = Instant::now(clock)?;
-        find_all(&lots, part)?;
-        costs.find = costs.find.saturating_add(start.elapsed(clock)?.as_nanos());
-        let start = Instant::now(clock)?;
-        remove_all(&mut lots, part)?;
-        costs.remove = costs
-            .remove
-            .saturating_add(start.elapsed(clock)?.as_nanos());
+        measure_part(clock, &mut lots, part, template, &mut costs)?;
     }
     Ok(costs)
+}
+
+// Adds, finds and busts a lot of each number, and adds the nanoseconds of it to the costs.
+fn measure_part(
+    clock: &impl Clock,
+    lots: &mut Lots,
+    part: &[LotId],
+    template: &Lot,
+    costs: &mut Costs,
+) -> Result<()>
+    requires { IsLot template.now }
+{
+    let start = Instant::now(clock)?;
+    add_all(lots, part, template)?;
+    costs.add = costs.add.saturating_add(start.elapsed(clock)?.as_nanos());
+    let start = Instant::now(clock)?;
+    find_all(lots, part)?;
+    costs.find = costs.find.saturating_add(start.elapsed(clock)?.as_nanos());
+    let start = Instant::now(clock)?;
+    bust_all(lots, part)?;
+    costs.bust = costs.bust.saturating_add(start.elapsed(clock)?.as_nanos());
+    Ok(())
 }
 
 fn add_all(lots: &mut Lots, numbers: &[LotId], template: &Lot) -> Result<()>
@@ -94,27 +106,35 @@ fn add_all(lots: &mut Lots, numbers: &[LotId], template: &Lot) -> Result<()>
             premium: template.premium,
             mark: Mark::Traded,
         };
-        if lots.add(&lot).is_err() {
+        if lots.has(lot.number) || lots.is_full() {
             bail!("a lot was refused");
         }
+        lots.add(&lot)?;
     }
     Ok(())
 }
 
 fn find_all(lots: &Lots, numbers: &[LotId]) -> Result<()> {
     for number in numbers {
-        if lots.find(*number).is_none() {
+        let Some(place) = lots.place(*number) else {
             bail!("a lot was not found");
+        };
+        if !lots.at(place).mark.is_live() {
+            bail!("a lot counts no more");
         }
     }
     Ok(())
 }
 
-fn remove_all(lots: &mut Lots, numbers: &[LotId]) -> Result<()> {
+fn bust_all(lots: &mut Lots, numbers: &[LotId]) -> Result<()> {
     for number in numbers {
-        if lots.remove(*number).is_err() {
-            bail!("a lot was not removed");
+        let Some(place) = lots.place(*number) else {
+            bail!("a lot was not found");
+        };
+        if !lots.at(place).mark.is_live() {
+            bail!("a lot counts no more");
         }
+        lots.bust(place);
     }
     Ok(())
 }

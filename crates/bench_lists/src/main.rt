@@ -46,5 +46,5 @@ fn main(rt: HostRuntime) -> Result<()> {
     )?;
     report(&rt, "add", large.add, small.add)?;
     report(&rt, "find", large.find, small.find)?;
-    report(&rt, "remove", large.remove, small.remove)
+    report(&rt, "bust", large.bust, small.bust)
 }

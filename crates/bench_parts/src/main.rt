@@ -1,31 +1,28 @@
 //! Measures what a change of one net costs in the parts that follow it, in sets of different sizes, and what the whole
-//! calculation worked out anew costs on the same nets. Does nothing without the word `measure`.
+//! calculation, recomputed from scratch, costs on the same nets. Does nothing without the word `measure`.
 #![tactic(auto)]
 
-mod files;
 mod option_run;
-mod parts;
 mod plain_run;
 mod scan_run;
 mod side;
-#[cfg(test)]
-mod tests;
 
 ghost use Rattle.std.specs.Prelude.{◌≤◌};
 
 use anyhow::{Result, bail};
-use files::set_file;
 use mgn_option::OptionSums;
-use mgn_params::{ParamSet, read_set};
+use mgn_params::ParamSet;
 use mgn_scan::ScanTotals;
+use mgn_setfile::read_set;
 use std::alloc::Global;
 use std::env;
 use std::rt::{Clock, Env};
+use worked_sets::calls;
 
 /// As many changes are measured in each set.
 const CHANGES: usize = 1_048_576;
 
-/// As many requirements are worked out anew.
+/// As many requirements are recomputed from scratch.
 const ANEW: usize = 100;
 
 /// How many commodities the measured sets have, and how many contracts each of them.
@@ -45,8 +42,8 @@ fn set_of(alloc: Global, commodities: usize, contracts: usize) -> Result<ParamSe
     requires commodities { commodities ≤ 256 }
     requires contracts { contracts ≤ 256 }
 {
-    let file = set_file(alloc, commodities, contracts)?;
-    let Ok(set) = read_set(alloc, &file) else {
+    let file = calls(alloc, commodities, contracts)?;
+    let Ok(set) = read_set(alloc, file.as_bytes()) else {
         bail!("the set is not read");
     };
     Ok(set)

@@ -1,5 +1,5 @@
 ghost use Rattle.std.specs.Prelude.{◌≡◌, length, All};
-ghost use Rattle.mgn_params.specs.Positions.{IsNet};
+ghost use Rattle.mgn_span.specs.Positions.{IsNet};
 
 use anyhow::Result;
 use mgn_num::Quantity;
@@ -9,7 +9,7 @@ use std::alloc::Global;
 use std::rt::Clock;
 use std::time::Instant;
 
-/// The nanoseconds of so many requirements worked out anew, and a sum of them.
+/// The nanoseconds of so many requirements recomputed from scratch, and a sum of them.
 pub fn measure(
     clock: &impl Clock,
     alloc: Global,

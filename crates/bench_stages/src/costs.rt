@@ -1,7 +1,7 @@
-//! What the calls cost that follow a change, and the calculation worked out anew.
+//! What the calls cost that follow a change, and the calculation recomputed from scratch.
 
 ghost use Rattle.std.specs.Prelude.{◌≡◌, length, All};
-ghost use Rattle.mgn_params.specs.Positions.{IsNet};
+ghost use Rattle.mgn_span.specs.Positions.{IsNet};
 ghost use Rattle.mgn_tiers.specs.Tiers.{AreTiersOf};
 
 use crate::nets::mixed_nets;
@@ -18,13 +18,13 @@ use std::rt::Clock;
 /// As many changes of each kind are made in a pass, or a few more.
 const CHANGES: usize = 131_072;
 
-/// As many requirements are worked out anew in a pass.
+/// As many requirements are recomputed from scratch in a pass.
 const ANEW: usize = 16;
 
 /// As many passes are made. The quickest counts, as others on the machine slow some of them.
 const PASSES: usize = 8;
 
-/// Picoseconds of a change and its two questions, of a refresh and its question and of a requirement worked out anew, and
+/// Picoseconds of a change and its two questions, of a refresh and its question and of a requirement recomputed from scratch, and
 /// what all answers come to.
 #[derive(Clone, Copy)]
 pub struct Costs {

@@ -1,25 +1,23 @@
 //! Measures what a change of a month delta costs in the kept stages, and a change of a commodity's numbers in the kept
-//! credits, in sets of different sizes and with few and many spreads, and what the whole calculation worked out anew
+//! credits, in sets of different sizes and with few and many spreads, and what the whole calculation, recomputed from scratch,
 //! costs on the same nets. Does nothing without the word `measure`.
 #![tactic(auto)]
 
 mod costs;
 mod credit_run;
-mod files;
 mod nets;
 mod plain_run;
 mod runs;
-#[cfg(test)]
-mod tests;
 mod tier_run;
 
 use anyhow::{Result, bail};
 use costs::{Costs, measure};
-use files::{Shape, set_file};
-use mgn_params::{ParamSet, read_set};
+use mgn_params::ParamSet;
+use mgn_setfile::read_set;
 use std::alloc::Global;
 use std::env;
 use std::rt::{Clock, Env};
+use worked_sets::{Shape, shaped};
 
 /// The measured sets: commodities; months, contracts and spreads in each; spreads between commodities. First sets that
 /// grow, whose changes meet the same stages; then such sets with more months, where stages are formed; then sets with
@@ -57,7 +55,7 @@ fn set_of(alloc: Global, shape: Shape) -> Result<ParamSet> {
     if !shape.is_within_limits() {
         bail!("the set would be too large");
     }
-    let file = set_file(alloc, shape)?;
+    let file = shaped(alloc, shape)?;
     let Ok(set) = read_set(alloc, file.as_bytes()) else {
         bail!("the set is not read");
     };

@@ -1,8 +1,8 @@
 //! The nets that are measured.
 
 ghost use Rattle.std.specs.Prelude.{◌≡◌, ◌<◌, length, All, IfOk};
-ghost use Rattle.mgn_params.specs.Positions.{IsNet};
-ghost use Rattle.mgn_params.specs.Scan.{value_at};
+ghost use Rattle.mgn_span.specs.Positions.{IsNet};
+ghost use Rattle.mgn_span.specs.Scan.{value_at};
 
 use mgn_num::Quantity;
 use mgn_params::ParamSet;

@@ -3,8 +3,8 @@
 ghost use Rattle.std.specs.Prelude.{◌+ℤ◌, ◌*◌, ◌<◌, ◌≤◌, ◌^◌, pos, ◌≤ℤ◌, length, unsigned_abs, IsTrue};
 ghost use Rattle.mgn_inter.specs.Credited.{AreCreditsOf};
 ghost use Rattle.mgn_inter.specs.Sizes.{IsRisk};
-ghost use Rattle.mgn_params.specs.MonthDeltas.{net_delta_by};
-ghost use Rattle.mgn_params.specs.Scan.{value_at};
+ghost use Rattle.mgn_span.specs.MonthDeltas.{net_delta_by};
+ghost use Rattle.mgn_span.specs.Scan.{value_at};
 ghost use Rattle.mgn_params.specs.Tables.{month_at};
 ghost use Rattle.mgn_tiers.specs.Sizes.{IsDelta};
 ghost use Rattle.mgn_tiers.specs.Tiers.{AreTiersOf};

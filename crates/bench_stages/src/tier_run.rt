@@ -1,5 +1,5 @@
 ghost use Rattle.std.specs.Prelude.{◌≡◌, ◌*◌, ◌<◌, ◌≤◌, ◌^◌, length, unsigned_abs, All};
-ghost use Rattle.mgn_params.specs.Positions.{IsNet};
+ghost use Rattle.mgn_span.specs.Positions.{IsNet};
 ghost use Rattle.mgn_tiers.specs.Tiers.{AreTiersOf};
 
 use crate::nets::net_at;

@@ -1,29 +1,30 @@
 -- What taking a lot back owes: rows that are kept.
-use Rattle.std.proofs.Common.{◌≡◌, ℕ, ◌<◌, List, length, set, get_or, sym, ap, ◌∙◌, subst, arith, Bool, true, false}
+use Rattle.std.proofs.Common.{◌≡◌, ℕ, ◌<◌, List, length, set, get_or, refl, sym, ap, ◌∙◌, subst, arith, Bool, true, false}
 use Rattle.std.specs.Prelude.{pos, neg_ℤ, ◌+ℤ◌, ◌≤ℤ◌, unsigned_abs, Ok}
 use Rattle.std.proofs.lemmas.Int.{ints}
 use Rattle.std.proofs.lemmas.List.Elements.{All-set, All-get_or}
 use Rattle.mgn_params.specs.Limits.{IsWithinLimits}
-use Rattle.mgn_params.specs.Positions.{IsNet}
+use Rattle.mgn_span.specs.Positions.{IsNet}
 use Rattle.mgn_params.specs.Tables.{Tables}
 use Rattle.mgn_lots.specs.declared.lot.Lot.{Lot}
 use Rattle.mgn_lots.specs.Lots.{IsLot, is_live, lot_at, no_lot, busted}
 use Rattle.mgn_machine.specs.declared.origin.Origin.{Origin}
-use Rattle.mgn_machine.specs.declared.row.Row.{Row}
-use Rattle.mgn_machine.specs.declared.row.Priced.{Priced}
+use Rattle.mgn_unit.specs.declared.row.Row.{Row}
+use Rattle.mgn_unit.specs.declared.row.Priced.{Priced}
 use Rattle.mgn_machine.specs.State.{AccountState, with_bust}
 use Rattle.mgn_machine.specs.Portfolios.{account_size, unit_sum}
 use Rattle.mgn_machine.specs.Refusals.{contract_of, has_contract, IsKnown}
-use Rattle.mgn_machine.specs.Rows.{IsRoomy, Prices, bust_change, row_with}
-use Rattle.mgn_machine.proofs.AccountMoves.{bust-moves, bust-limits}
-use Rattle.mgn_machine.proofs.Bounded.{unit-within}
-use Rattle.mgn_machine.proofs.Moved.{Stands}
-use Rattle.mgn_machine.proofs.Sums.{row_by-at}
-use Rattle.mgn_book.specs.Floors.{Floor, floor, IsKept, IsUnitRow}
+use Rattle.mgn_unit.specs.Rows.{IsRoomy, Prices, row_with}
+use Rattle.mgn_unit.specs.Changes.{bust_change}
+use Rattle.mgn_unit.proofs.AccountMoves.{bust-moves, bust-limits}
+use Rattle.mgn_unit.proofs.Bounded.{unit-within}
+use Rattle.mgn_unit.proofs.Moved.{Stands}
+use Rattle.mgn_unit.proofs.Sums.{row_by-at}
+use Rattle.mgn_book.specs.BookStates.{BookState, book_state, IsKept, IsUnitRow}
 use Rattle.mgn_book.proofs.Kept.{contract-stands, stands-inside, row-there, room-by, sizes-more, kept-moved, account-limits, account-known}
 
--- what is known where a live lot is about to be taken back
-pub record Busting (set' : Tables) (f : Floor) (k at i : ℕ) (a : AccountState) (r : Row) : Type 0 where
+-- what is known where a live lot is about to be busted
+pub record Busting (set' : Tables) (f : BookState) (k at i : ℕ) (a : AccountState) (r : Row) : Type 0 where
   pub within : IsWithinLimits set'
   pub kept : IsKept set' f
   pub account : k < length f.state.accounts
@@ -37,7 +38,7 @@ pub record Busting (set' : Tables) (f : Floor) (k at i : ℕ) (a : AccountState)
 size-positive : (accounts : List AccountState) (u : ℕ) (contract : List ℕ) → pos 0 ≤ℤ unit_sum u (account_size contract) accounts
 size-positive accounts u contract = omega (arith, ints, unit-within u (λ (a : AccountState). pos 0) (account_size contract) accounts (λ a. omega (arith, ints)))
 
-pub bust-roomy : (set' : Tables) (f : Floor) (k at i : ℕ) (a : AccountState) (r : Row) → Busting set' f k at i a r → IsRoomy (bust_change i (lot_at a.lots at)) r
+pub bust-roomy : (set' : Tables) (f : BookState) (k at i : ℕ) (a : AccountState) (r : Row) → Busting set' f k at i a r → IsRoomy (bust_change i (lot_at a.lots at)) r
 bust-roomy set' f k at i a r busting =
     room-by set' f k a (with_bust a at) x.contract (bust_change i x) r busting.kept busting.account busting.was busting.row stands
     (bust-moves set' a i at busting.lot busting.live)
@@ -64,15 +65,15 @@ bust-roomy set' f k at i a r busting =
     less : IsNet (get_or r.sizes i (pos 0) +ℤ neg_ℤ (pos (unsigned_abs x.quantity)))
     less = omega (arith, ints, size, small, limits.most, size-positive f.state.accounts a.unit x.contract)
 
-pub bust-kept : (set' : Tables) (origins : List Origin) (accounts : List AccountState) (rows : List Row) (closed : Bool) (version : ℕ) (k at i : ℕ) (a b : AccountState) (r row : Row) (priced : Priced) → Busting set' (floor origins accounts rows closed version) k at i a r → Prices set' (bust_change i (lot_at a.lots at)) r priced → row ≡ row_with set' (bust_change i (lot_at a.lots at)) r → b ≡ with_bust a at → IsKept set' (floor origins (set accounts k b) (set rows a.unit row) closed version)
+pub bust-kept : (set' : Tables) (origins : List Origin) (accounts : List AccountState) (rows : List Row) (closed : Bool) (version : ℕ) (k at i : ℕ) (a b : AccountState) (r row : Row) (priced : Priced) → Busting set' (book_state origins accounts rows closed version) k at i a r → Prices set' (bust_change i (lot_at a.lots at)) r priced → row ≡ row_with set' (bust_change i (lot_at a.lots at)) r → b ≡ with_bust a at → IsKept set' (book_state origins (set accounts k b) (set rows a.unit row) closed version)
 bust-kept set' origins accounts rows closed version k at i a b r row priced busting prices is done =
-    subst (λ (x : Row × AccountState). IsKept set' (floor origins (set accounts k x.1) (set rows a.unit x.0) closed version)) (λ j. (sym is j, sym done j))
-    (kept-moved set' origins accounts rows closed version k a (with_bust a at) x.contract (bust_change i x) r priced busting.within busting.kept busting.account busting.was busting.row
+    subst (λ (x : Row × AccountState). IsKept set' (book_state origins (set accounts k x.1) (set rows a.unit x.0) closed version)) (λ j. (sym is j, sym done j))
+    (kept-moved set' origins accounts rows closed version k a (with_bust a at) x.contract (bust_change i x) r priced busting.within busting.kept busting.account busting.was busting.row refl
     (bust-limits a at (account-limits set' f k a busting.kept busting.account busting.was) busting.lot) known
     (contract-stands set' x.contract i busting.within busting.stands) (bust-moves set' a i at busting.lot busting.live) (bust-roomy set' f k at i a r busting) prices)
   where
-    f : Floor
-    f = floor origins accounts rows closed version
+    f : BookState
+    f = book_state origins accounts rows closed version
 
     x : Lot
     x = lot_at a.lots at

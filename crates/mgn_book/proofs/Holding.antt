@@ -1,43 +1,44 @@
 -- What the commands on holds owe: room for their sizes, and rows that are kept.
-use Rattle.std.proofs.Common.{◌≡◌, ℕ, ◌<◌, ◌≤◌, ◌^◌, List, length, set, get_or, sym, ap, ◌∙◌, subst, arith, Bool, true, false, length-set}
+use Rattle.std.proofs.Common.{◌≡◌, ℕ, ◌<◌, ◌≤◌, ◌^◌, List, length, set, get_or, refl, sym, ap, ◌∙◌, subst, arith, Bool, true, false, length-set}
 use Rattle.std.specs.Prelude.{if◌then◌else◌, ℤ, pos, neg_ℤ, ◌+ℤ◌, ◌≤ℤ◌, unsigned_abs, Result, Ok, Err, int_lt}
 use Rattle.std.proofs.lemmas.Int.{ints}
 use Rattle.std.proofs.lemmas.Bool.Decides.{nat_tests}
 use Rattle.std.proofs.lemmas.List.{get_or_default, set-get_or}
 use Rattle.std.proofs.lemmas.List.Elements.{All-push, All-get_or}
 use Rattle.mgn_params.specs.Limits.{IsWithinLimits}
-use Rattle.mgn_params.specs.Positions.{IsNet}
+use Rattle.mgn_span.specs.Positions.{IsNet}
 use Rattle.mgn_params.specs.Tables.{Tables}
 use Rattle.mgn_lots.specs.declared.lot.Lot.{Lot}
-use Rattle.mgn_lots.specs.Lots.{IsLot, is_live}
-use Rattle.mgn_lots.specs.Refusals.{is_full}
+use Rattle.mgn_lots.specs.Lots.{IsLot, is_live, is_full}
 use Rattle.mgn_holds.specs.declared.held.Held.{Held}
-use Rattle.mgn_holds.specs.Holds.{IsHeld, hold_at, no_hold}
-use Rattle.mgn_holds.specs.Refusals.{is_full as holds_full, covers}
-use Rattle.mgn_machine.specs.declared.change.Change.{Change}
+use Rattle.mgn_holds.specs.Holds.{IsHeld, hold_at, no_hold, is_full as holds_full, covers}
+use Rattle.mgn_unit.specs.declared.change.Change.{Change}
 use Rattle.mgn_machine.specs.declared.origin.Origin.{Origin}
 use Rattle.mgn_machine.specs.declared.reply.Refusal.{Refusal}
 use Rattle.mgn_machine.specs.declared.reply.Refusal.TheVariants.{NoRoom}
-use Rattle.mgn_machine.specs.declared.row.Row.{Row}
-use Rattle.mgn_machine.specs.declared.row.Priced.{Priced}
+use Rattle.mgn_unit.specs.declared.row.Row.{Row}
+use Rattle.mgn_unit.specs.declared.row.Priced.{Priced}
 use Rattle.mgn_machine.specs.State.{State, AccountState, IsAccount, no_account, account_at, put, traded_lot}
 use Rattle.mgn_machine.specs.Portfolios.{account_size}
+use Rattle.mgn_machine.specs.Room.{unit_room}
 use Rattle.mgn_machine.specs.Refusals.{◌>>=◌, if_room, contract_of, has_contract, is_over, unit_size, IsKnown}
-use Rattle.mgn_machine.specs.Rows.{IsRoomy, Prices, Moves, row_of, row_with}
-use Rattle.mgn_machine.specs.Holding.{entered, is_short, hold_places, new_hold, with_hold, without_hold, fill_of, hold_change, release_change, fill_change}
-use Rattle.mgn_machine.proofs.Bounded.{unit-within}
-use Rattle.mgn_machine.proofs.HoldMoves.{hold-moves, release-moves, hold-limits, release-limits, All-removed}
-use Rattle.mgn_machine.proofs.FillMoves.{fill-moves, fill-limits, All-filled}
-use Rattle.mgn_machine.proofs.Moved.{Stands, row-moved}
-use Rattle.mgn_machine.proofs.Sums.{row_by-at}
+use Rattle.mgn_unit.specs.Rows.{IsRoomy, Prices, row_of, row_with, lacks_room}
+use Rattle.mgn_unit.specs.Changes.{Moves, hold_change, release_change, fill_change}
+use Rattle.mgn_machine.specs.Holding.{entered, hold_places, new_hold, with_hold, without_hold, fill_of}
+use Rattle.mgn_unit.proofs.Bounded.{unit-within}
+use Rattle.mgn_unit.proofs.HoldMoves.{hold-moves, release-moves, hold-limits, release-limits, All-removed}
+use Rattle.mgn_unit.proofs.FillMoves.{fill-moves, fill-limits, All-filled}
+use Rattle.mgn_unit.proofs.Moved.{Stands, row-moved}
+use Rattle.mgn_unit.proofs.Sums.{row_by-at}
+use Rattle.mgn_unit.proofs.Least.{room_of_row}
 use Rattle.mgn_book.specs.declared.fault.Fault.{Fault}
 use Rattle.mgn_book.specs.declared.fault.Fault.TheVariants.{Refused, Memory}
-use Rattle.mgn_book.specs.Floors.{Floor, floor, IsKept, IsUnitRow, Steps}
-use Rattle.mgn_book.specs.Holding.{AsksRoom}
+use Rattle.mgn_book.specs.BookStates.{BookState, book_state, IsKept, IsUnitRow, AsksMemory, Steps}
+use Rattle.mgn_book.specs.RoomAsked.{AsksRoom}
 use Rattle.mgn_book.proofs.Kept.{contract-stands, stands-inside, row-there, room-by, sizes-more, own-moved, kept-changed, account-limits, account-known, stands-known}
 
 -- what is known where one contract of an account is about to change: the account and its row as they were read
-pub record Reads (set' : Tables) (f : Floor) (k i : ℕ) (a : AccountState) (r : Row) (contract : List ℕ) : Type 0 where
+pub record Reads (set' : Tables) (f : BookState) (k i : ℕ) (a : AccountState) (r : Row) (contract : List ℕ) : Type 0 where
   pub within : IsWithinLimits set'
   pub kept : IsKept set' f
   pub account : k < length f.state.accounts
@@ -45,22 +46,22 @@ pub record Reads (set' : Tables) (f : Floor) (k i : ℕ) (a : AccountState) (r :
   pub row : r ≡ get_or f.rows a.unit r
   pub stands : contract_of set' contract ≡ Ok i
 
-stands : (set' : Tables) (f : Floor) (k i : ℕ) (a : AccountState) (r : Row) (contract : List ℕ) → Reads set' f k i a r contract → Stands set' contract i
+stands : (set' : Tables) (f : BookState) (k i : ℕ) (a : AccountState) (r : Row) (contract : List ℕ) → Reads set' f k i a r contract → Stands set' contract i
 stands set' f k i a r contract reads = contract-stands set' contract i reads.within reads.stands
 
-pub account-read : (set' : Tables) (f : Floor) (k i : ℕ) (a : AccountState) (r : Row) (contract : List ℕ) → Reads set' f k i a r contract → a ≡ account_at f.state.accounts k
+pub account-read : (set' : Tables) (f : BookState) (k i : ℕ) (a : AccountState) (r : Row) (contract : List ℕ) → Reads set' f k i a r contract → a ≡ account_at f.state.accounts k
 account-read set' f k i a r contract reads = reads.was ∙ get_or_default f.state.accounts k a no_account reads.account
 
-old-row : (set' : Tables) (f : Floor) (k i : ℕ) (a : AccountState) (r : Row) (contract : List ℕ) → Reads set' f k i a r contract → IsUnitRow set' f.state.accounts a.unit r
+old-row : (set' : Tables) (f : BookState) (k i : ℕ) (a : AccountState) (r : Row) (contract : List ℕ) → Reads set' f k i a r contract → IsUnitRow set' f.state.accounts a.unit r
 old-row set' f k i a r contract reads = row-there set' f k a r reads.kept reads.account reads.was reads.row
 
 -- The size of the unit in the contract.
 
-row-size : (set' : Tables) (f : Floor) (k i : ℕ) (a : AccountState) (r : Row) (contract : List ℕ) → Reads set' f k i a r contract → get_or r.sizes i (pos 0) ≡ unit_size f.state a.unit contract
+row-size : (set' : Tables) (f : BookState) (k i : ℕ) (a : AccountState) (r : Row) (contract : List ℕ) → Reads set' f k i a r contract → get_or r.sizes i (pos 0) ≡ unit_size f.state a.unit contract
 row-size set' f k i a r contract reads =
     ap (λ (x : Row). get_or x.sizes i (pos 0)) (old-row set' f k i a r contract reads).is ∙ row_by-at set'.contracts f.state.accounts a.unit account_size contract i (stands set' f k i a r contract reads).here
 
-row-small : (set' : Tables) (f : Floor) (k i : ℕ) (a : AccountState) (r : Row) (contract : List ℕ) → Reads set' f k i a r contract → IsNet (get_or r.sizes i (pos 0))
+row-small : (set' : Tables) (f : BookState) (k i : ℕ) (a : AccountState) (r : Row) (contract : List ℕ) → Reads set' f k i a r contract → IsNet (get_or r.sizes i (pos 0))
 row-small set' f k i a r contract reads =
     let old = old-row set' f k i a r contract reads in
     old.limits.sizes i (pos 0) (omega (arith, old.limits.one_each, stands-inside set' contract i (stands set' f k i a r contract reads)))
@@ -79,41 +80,42 @@ not_moved size small = omega (arith, ints)
 
 -- Any change of one contract.
 
-changed-roomy : (set' : Tables) (f : Floor) (k : ℕ) (a b : AccountState) (r : Row) (contract : List ℕ) (change : Change) → Reads set' f k change.contract a r contract → Moves set' contract change a b → IsNet (get_or r.sizes change.contract (pos 0) +ℤ change.size) → IsRoomy change r
+changed-roomy : (set' : Tables) (f : BookState) (k : ℕ) (a b : AccountState) (r : Row) (contract : List ℕ) (change : Change) → Reads set' f k change.contract a r contract → Moves set' contract change a b → IsNet (get_or r.sizes change.contract (pos 0) +ℤ change.size) → IsRoomy change r
 changed-roomy set' f k a b r contract change reads moves size =
     room-by set' f k a b contract change r reads.kept reads.account reads.was reads.row (stands set' f k change.contract a r contract reads) moves
     (sizes-more r.sizes change.contract change.size (old-row set' f k change.contract a r contract reads).limits.sizes size)
 
-changed-row : (set' : Tables) (f : Floor) (k : ℕ) (a b : AccountState) (r : Row) (contract : List ℕ) (change : Change) → Reads set' f k change.contract a r contract → Moves set' contract change a b → row_with set' change r ≡ row_of set' (set f.state.accounts k b) a.unit
+changed-row : (set' : Tables) (f : BookState) (k : ℕ) (a b : AccountState) (r : Row) (contract : List ℕ) (change : Change) → Reads set' f k change.contract a r contract → Moves set' contract change a b → row_with set' change r ≡ row_of set' (set f.state.accounts k b) a.unit
 changed-row set' f k a b r contract change reads moves =
     let there = account-read set' f k change.contract a r contract reads in
     ap (λ (x : Row). row_with set' change x) (old-row set' f k change.contract a r contract reads).is
     ∙ sym (row-moved set' f.state.accounts k a.unit b contract change (stands set' f k change.contract a r contract reads) record { inside = reads.account; was = ap (λ (x : AccountState). x.unit) (sym there); now = moves.unit }
     (subst (λ (x : AccountState). Moves set' contract change x b) there moves))
 
-changed-kept : (set' : Tables) (origins : List Origin) (accounts : List AccountState) (rows : List Row) (closed : Bool) (version : ℕ) (k : ℕ) (a b now : AccountState) (r row : Row) (contract : List ℕ) (change : Change) (priced : Priced) → Reads set' (floor origins accounts rows closed version) k change.contract a r contract → Moves set' contract change a b → IsRoomy change r → Prices set' change r priced → IsAccount b → IsKnown set' b → row ≡ row_with set' change r → now ≡ b → IsKept set' (floor origins (set accounts k now) (set rows a.unit row) closed version)
-changed-kept set' origins accounts rows closed version k a b now r row contract change priced reads moves room prices limits known is added =
-    subst (λ (x : Row × AccountState). IsKept set' (floor origins (set accounts k x.1) (set rows a.unit x.0) closed version)) (λ j. (sym is j, sym added j))
+changed-kept : (set' : Tables) (origins : List Origin) (accounts : List AccountState) (rows : List Row) (closed : Bool) (version : ℕ) (k : ℕ) (a b now : AccountState) (r row : Row) (contract : List ℕ) (change : Change) (priced : Priced) → Reads set' (book_state origins accounts rows closed version) k change.contract a r contract → Moves set' contract change a b → b.origin ≡ a.origin → IsRoomy change r → Prices set' change r priced → IsAccount b → IsKnown set' b → row ≡ row_with set' change r → now ≡ b → IsKept set' (book_state origins (set accounts k now) (set rows a.unit row) closed version)
+changed-kept set' origins accounts rows closed version k a b now r row contract change priced reads moves origin room prices limits known is added =
+    subst (λ (x : Row × AccountState). IsKept set' (book_state origins (set accounts k x.1) (set rows a.unit x.0) closed version)) (λ j. (sym is j, sym added j))
     (kept-changed set' origins accounts rows closed version k a b (row_with set' change r) record {
       kept = reads.kept;
       account = reads.account;
       was = reads.was;
       unit = moves.unit;
+      origin = origin;
       limits = limits;
       known = known;
-      own = own-moved set' (floor origins accounts rows closed version) k a b contract change r priced reads.within reads.kept reads.account reads.was reads.row limits
-          (stands set' (floor origins accounts rows closed version) k change.contract a r contract reads) moves room prices;
+      own = own-moved set' (book_state origins accounts rows closed version) k a b contract change r priced reads.within reads.kept reads.account reads.was reads.row limits
+          (stands set' (book_state origins accounts rows closed version) k change.contract a r contract reads) moves room prices;
     })
 
-was-limits : (set' : Tables) (f : Floor) (k i : ℕ) (a : AccountState) (r : Row) (contract : List ℕ) → Reads set' f k i a r contract → IsAccount a
+was-limits : (set' : Tables) (f : BookState) (k i : ℕ) (a : AccountState) (r : Row) (contract : List ℕ) → Reads set' f k i a r contract → IsAccount a
 was-limits set' f k i a r contract reads = account-limits set' f k a reads.kept reads.account reads.was
 
-was-known : (set' : Tables) (f : Floor) (k i : ℕ) (a : AccountState) (r : Row) (contract : List ℕ) → Reads set' f k i a r contract → IsKnown set' a
+was-known : (set' : Tables) (f : BookState) (k i : ℕ) (a : AccountState) (r : Row) (contract : List ℕ) → Reads set' f k i a r contract → IsKnown set' a
 was-known set' f k i a r contract reads = account-known set' f k a reads.kept reads.account reads.was
 
 -- HOLD
 
-pub hold-roomy : (set' : Tables) (f : Floor) (k i : ℕ) (a : AccountState) (r : Row) (order : ℕ) (contract : List ℕ) (quantity : ℤ) (limit : ℕ) → Reads set' f k i a r contract → is_over f.state k contract quantity ≡ false → IsRoomy (hold_change i quantity limit) r
+pub hold-roomy : (set' : Tables) (f : BookState) (k i : ℕ) (a : AccountState) (r : Row) (order : ℕ) (contract : List ℕ) (quantity : ℤ) (limit : ℕ) → Reads set' f k i a r contract → is_over f.state k contract quantity ≡ false → IsRoomy (hold_change i quantity limit) r
 hold-roomy set' f k i a r order contract quantity limit reads over =
     changed-roomy set' f k a (with_hold a (new_hold order contract quantity limit)) r contract (hold_change i quantity limit) reads (hold-moves set' a order contract i quantity limit)
     (subst (λ (z : ℤ). IsNet (z +ℤ pos (unsigned_abs quantity))) (sym size) (not_over (unit_size f.state a.unit contract) (unsigned_abs quantity) (subst IsNet size (row-small set' f k i a r contract reads)) room))
@@ -124,18 +126,18 @@ hold-roomy set' f k i a r order contract quantity limit reads over =
     room : int_lt (pos (10 ^ 7)) (unit_size f.state a.unit contract +ℤ pos (unsigned_abs quantity)) ≡ false
     room = ap (λ (x : AccountState). int_lt (pos (10 ^ 7)) (unit_size f.state x.unit contract +ℤ pos (unsigned_abs quantity))) (account-read set' f k i a r contract reads) ∙ over
 
-pub hold-row : (set' : Tables) (f : Floor) (k i : ℕ) (a : AccountState) (r : Row) (order : ℕ) (contract : List ℕ) (quantity : ℤ) (limit : ℕ) → Reads set' f k i a r contract → row_with set' (hold_change i quantity limit) r ≡ row_of set' (set f.state.accounts k (with_hold a (new_hold order contract quantity limit))) a.unit
+pub hold-row : (set' : Tables) (f : BookState) (k i : ℕ) (a : AccountState) (r : Row) (order : ℕ) (contract : List ℕ) (quantity : ℤ) (limit : ℕ) → Reads set' f k i a r contract → row_with set' (hold_change i quantity limit) r ≡ row_of set' (set f.state.accounts k (with_hold a (new_hold order contract quantity limit))) a.unit
 hold-row set' f k i a r order contract quantity limit reads =
     changed-row set' f k a (with_hold a (new_hold order contract quantity limit)) r contract (hold_change i quantity limit) reads (hold-moves set' a order contract i quantity limit)
 
-pub hold-kept : (set' : Tables) (origins : List Origin) (accounts : List AccountState) (rows : List Row) (closed : Bool) (version : ℕ) (k i : ℕ) (a now : AccountState) (r row : Row) (order : ℕ) (contract : List ℕ) (quantity : ℤ) (limit : ℕ) (priced : Priced) → Reads set' (floor origins accounts rows closed version) k i a r contract → IsRoomy (hold_change i quantity limit) r → Prices set' (hold_change i quantity limit) r priced → IsHeld (new_hold order contract quantity limit) → holds_full a.holds ≡ false → row ≡ row_with set' (hold_change i quantity limit) r → now ≡ with_hold a (new_hold order contract quantity limit) → IsKept set' (floor origins (set accounts k now) (set rows a.unit row) closed version)
+pub hold-kept : (set' : Tables) (origins : List Origin) (accounts : List AccountState) (rows : List Row) (closed : Bool) (version : ℕ) (k i : ℕ) (a now : AccountState) (r row : Row) (order : ℕ) (contract : List ℕ) (quantity : ℤ) (limit : ℕ) (priced : Priced) → Reads set' (book_state origins accounts rows closed version) k i a r contract → IsRoomy (hold_change i quantity limit) r → Prices set' (hold_change i quantity limit) r priced → IsHeld (new_hold order contract quantity limit) → holds_full a.holds ≡ false → row ≡ row_with set' (hold_change i quantity limit) r → now ≡ with_hold a (new_hold order contract quantity limit) → IsKept set' (book_state origins (set accounts k now) (set rows a.unit row) closed version)
 hold-kept set' origins accounts rows closed version k i a now r row order contract quantity limit priced reads room prices held few is added =
-    changed-kept set' origins accounts rows closed version k a (with_hold a x) now r row contract (hold_change i quantity limit) priced reads (hold-moves set' a order contract i quantity limit) room prices
+    changed-kept set' origins accounts rows closed version k a (with_hold a x) now r row contract (hold_change i quantity limit) priced reads (hold-moves set' a order contract i quantity limit) refl room prices
     (hold-limits a x (was-limits set' f k i a r contract reads) held (grind (arith, nat_tests, few)))
     known is added
   where
-    f : Floor
-    f = floor origins accounts rows closed version
+    f : BookState
+    f = book_state origins accounts rows closed version
 
     x : Held
     x = new_hold order contract quantity limit
@@ -151,8 +153,17 @@ hold-kept set' origins accounts rows closed version k i a now r row order contra
 
 -- what is answered, once the places and the room are known
 
-asked-room : (set' : Tables) (u : ℕ) (s : State) (b : Bool) → is_short (row_of set' s.accounts u) ≡ b → if_room set' u s ≡ (if b then Err NoRoom else Ok s)
-asked-room set' u s b is = ap (λ (t : Bool). if t then Err NoRoom else Ok s) is
+asked-room : (set' : Tables) (u : ℕ) (s : State) (b : Bool) → lacks_room (row_of set' s.accounts u) ≡ b → if_room set' u s ≡ (if b then Err NoRoom else Ok s)
+asked-room set' u s b is =
+    ap (λ (t : Bool). if t then Err NoRoom else Ok s) (sym (ap (λ (z : ℤ). int_lt z (pos 0)) (room_of_row set' s.accounts u)) ∙ is)
+
+-- it is the room alone that may be wanted
+room-asked : (u : ℕ) (set' : Tables) (s : State) → AsksMemory (if_room set' u s)
+room-asked u set' s = by (int_lt (unit_room set' s.accounts u) (pos 0))
+  where
+    by : (b : Bool) → AsksMemory (if b then Err NoRoom else Ok s)
+    by true = refl
+    by false = tt
 
 -- the state that a hold leads to
 abbrev pub state-held : State → ℕ × ℕ → ℕ → List ℕ → ℤ → ℕ → State
@@ -162,11 +173,11 @@ entered-by : (set' : Tables) (s : State) (at : ℕ × ℕ) (account : List ℕ) 
 entered-by set' s at account order contract quantity limit places =
     ap (λ (x : Result (ℕ × ℕ) Refusal). x >>= (λ at. if_room set' (account_at s.accounts at.0).unit (state-held s at order contract quantity limit))) places
 
-pub entered-done : (set' : Tables) (s : State) (at : ℕ × ℕ) (account : List ℕ) (order : ℕ) (contract : List ℕ) (quantity : ℤ) (limit : ℕ) → hold_places set' s account order contract quantity limit ≡ Ok at → is_short (row_of set' (state-held s at order contract quantity limit).accounts (account_at s.accounts at.0).unit) ≡ false → entered set' s account order contract quantity limit ≡ Ok (state-held s at order contract quantity limit)
+pub entered-done : (set' : Tables) (s : State) (at : ℕ × ℕ) (account : List ℕ) (order : ℕ) (contract : List ℕ) (quantity : ℤ) (limit : ℕ) → hold_places set' s account order contract quantity limit ≡ Ok at → lacks_room (row_of set' (state-held s at order contract quantity limit).accounts (account_at s.accounts at.0).unit) ≡ false → entered set' s account order contract quantity limit ≡ Ok (state-held s at order contract quantity limit)
 entered-done set' s at account order contract quantity limit places room =
     entered-by set' s at account order contract quantity limit places ∙ asked-room set' (account_at s.accounts at.0).unit (state-held s at order contract quantity limit) false room
 
-pub entered-short : (set' : Tables) (s : State) (at : ℕ × ℕ) (account : List ℕ) (order : ℕ) (contract : List ℕ) (quantity : ℤ) (limit : ℕ) → hold_places set' s account order contract quantity limit ≡ Ok at → is_short (row_of set' (state-held s at order contract quantity limit).accounts (account_at s.accounts at.0).unit) ≡ true → entered set' s account order contract quantity limit ≡ Err NoRoom
+pub entered-short : (set' : Tables) (s : State) (at : ℕ × ℕ) (account : List ℕ) (order : ℕ) (contract : List ℕ) (quantity : ℤ) (limit : ℕ) → hold_places set' s account order contract quantity limit ≡ Ok at → lacks_room (row_of set' (state-held s at order contract quantity limit).accounts (account_at s.accounts at.0).unit) ≡ true → entered set' s account order contract quantity limit ≡ Err NoRoom
 entered-short set' s at account order contract quantity limit places room =
     entered-by set' s at account order contract quantity limit places ∙ asked-room set' (account_at s.accounts at.0).unit (state-held s at order contract quantity limit) true room
 
@@ -178,7 +189,7 @@ there a j inside = sym (get_or_default a.holds j (hold_at a.holds j) no_hold ins
 held-limits : (a : AccountState) (j : ℕ) → IsAccount a → j < length a.holds → IsHeld (hold_at a.holds j)
 held-limits a j limits inside = All-get_or IsHeld a.holds j no_hold inside limits.holds
 
-pub release-roomy : (set' : Tables) (f : Floor) (k i j : ℕ) (a : AccountState) (r : Row) → Reads set' f k i a r (hold_at a.holds j).contract → j < length a.holds → IsRoomy (release_change i (hold_at a.holds j).quantity (hold_at a.holds j).limit) r
+pub release-roomy : (set' : Tables) (f : BookState) (k i j : ℕ) (a : AccountState) (r : Row) → Reads set' f k i a r (hold_at a.holds j).contract → j < length a.holds → IsRoomy (release_change i (hold_at a.holds j).quantity (hold_at a.holds j).limit) r
 release-roomy set' f k i j a r reads inside =
     changed-roomy set' f k a (without_hold a j) r x.contract (release_change i x.quantity x.limit) reads (release-moves set' a i j x inside (there a j inside))
     (not_under (get_or r.sizes i (pos 0)) (unsigned_abs x.quantity) (row-small set' f k i a r x.contract reads)
@@ -187,14 +198,14 @@ release-roomy set' f k i j a r reads inside =
     x : Held
     x = hold_at a.holds j
 
-pub release-kept : (set' : Tables) (origins : List Origin) (accounts : List AccountState) (rows : List Row) (closed : Bool) (version : ℕ) (k i j : ℕ) (a now : AccountState) (r row : Row) (priced : Priced) → Reads set' (floor origins accounts rows closed version) k i a r (hold_at a.holds j).contract → j < length a.holds → IsRoomy (release_change i (hold_at a.holds j).quantity (hold_at a.holds j).limit) r → Prices set' (release_change i (hold_at a.holds j).quantity (hold_at a.holds j).limit) r priced → row ≡ row_with set' (release_change i (hold_at a.holds j).quantity (hold_at a.holds j).limit) r → now ≡ without_hold a j → IsKept set' (floor origins (set accounts k now) (set rows a.unit row) closed version)
+pub release-kept : (set' : Tables) (origins : List Origin) (accounts : List AccountState) (rows : List Row) (closed : Bool) (version : ℕ) (k i j : ℕ) (a now : AccountState) (r row : Row) (priced : Priced) → Reads set' (book_state origins accounts rows closed version) k i a r (hold_at a.holds j).contract → j < length a.holds → IsRoomy (release_change i (hold_at a.holds j).quantity (hold_at a.holds j).limit) r → Prices set' (release_change i (hold_at a.holds j).quantity (hold_at a.holds j).limit) r priced → row ≡ row_with set' (release_change i (hold_at a.holds j).quantity (hold_at a.holds j).limit) r → now ≡ without_hold a j → IsKept set' (book_state origins (set accounts k now) (set rows a.unit row) closed version)
 release-kept set' origins accounts rows closed version k i j a now r row priced reads inside room prices is released =
-    changed-kept set' origins accounts rows closed version k a (without_hold a j) now r row x.contract (release_change i x.quantity x.limit) priced reads (release-moves set' a i j x inside (there a j inside)) room prices
+    changed-kept set' origins accounts rows closed version k a (without_hold a j) now r row x.contract (release_change i x.quantity x.limit) priced reads (release-moves set' a i j x inside (there a j inside)) refl room prices
     (release-limits a j (was-limits set' f k i a r x.contract reads) inside)
     record { lots = before.lots; holds = All-removed (λ (y : Held). has_contract set' y.contract ≡ true) a.holds j before.holds } is released
   where
-    f : Floor
-    f = floor origins accounts rows closed version
+    f : BookState
+    f = book_state origins accounts rows closed version
 
     x : Held
     x = hold_at a.holds j
@@ -204,19 +215,19 @@ release-kept set' origins accounts rows closed version k i j a now r row priced 
 
 -- FILL
 
-pub fill-roomy : (set' : Tables) (f : Floor) (k i j lot : ℕ) (a : AccountState) (r : Row) (quantity : ℤ) (premium : ℕ) → Reads set' f k i a r (hold_at a.holds j).contract → j < length a.holds → covers (hold_at a.holds j) quantity ≡ true → IsRoomy (fill_change i quantity (hold_at a.holds j).limit premium) r
+pub fill-roomy : (set' : Tables) (f : BookState) (k i j lot : ℕ) (a : AccountState) (r : Row) (quantity : ℤ) (premium : ℕ) → Reads set' f k i a r (hold_at a.holds j).contract → j < length a.holds → covers (hold_at a.holds j) quantity ≡ true → IsRoomy (fill_change i quantity (hold_at a.holds j).limit premium) r
 fill-roomy set' f k i j lot a r quantity premium reads inside c =
     changed-roomy set' f k a (fill_of a j lot quantity premium) r (hold_at a.holds j).contract (fill_change i quantity (hold_at a.holds j).limit premium) reads (fill-moves set' a i j lot quantity premium inside c)
     (not_moved (get_or r.sizes i (pos 0)) (row-small set' f k i a r (hold_at a.holds j).contract reads))
 
-pub fill-kept : (set' : Tables) (origins : List Origin) (accounts : List AccountState) (rows : List Row) (closed : Bool) (version : ℕ) (k i j lot : ℕ) (a now : AccountState) (r row : Row) (quantity : ℤ) (premium : ℕ) (priced : Priced) → Reads set' (floor origins accounts rows closed version) k i a r (hold_at a.holds j).contract → j < length a.holds → covers (hold_at a.holds j) quantity ≡ true → IsRoomy (fill_change i quantity (hold_at a.holds j).limit premium) r → Prices set' (fill_change i quantity (hold_at a.holds j).limit premium) r priced → IsLot (traded_lot lot (hold_at a.holds j).contract quantity premium) → is_full a.lots ≡ false → row ≡ row_with set' (fill_change i quantity (hold_at a.holds j).limit premium) r → now ≡ fill_of a j lot quantity premium → IsKept set' (floor origins (set accounts k now) (set rows a.unit row) closed version)
+pub fill-kept : (set' : Tables) (origins : List Origin) (accounts : List AccountState) (rows : List Row) (closed : Bool) (version : ℕ) (k i j lot : ℕ) (a now : AccountState) (r row : Row) (quantity : ℤ) (premium : ℕ) (priced : Priced) → Reads set' (book_state origins accounts rows closed version) k i a r (hold_at a.holds j).contract → j < length a.holds → covers (hold_at a.holds j) quantity ≡ true → IsRoomy (fill_change i quantity (hold_at a.holds j).limit premium) r → Prices set' (fill_change i quantity (hold_at a.holds j).limit premium) r priced → IsLot (traded_lot lot (hold_at a.holds j).contract quantity premium) → is_full a.lots ≡ false → row ≡ row_with set' (fill_change i quantity (hold_at a.holds j).limit premium) r → now ≡ fill_of a j lot quantity premium → IsKept set' (book_state origins (set accounts k now) (set rows a.unit row) closed version)
 fill-kept set' origins accounts rows closed version k i j lot a now r row quantity premium priced reads inside c room prices is_lot few is filled =
-    changed-kept set' origins accounts rows closed version k a (fill_of a j lot quantity premium) now r row x.contract (fill_change i quantity x.limit premium) priced reads (fill-moves set' a i j lot quantity premium inside c) room prices
+    changed-kept set' origins accounts rows closed version k a (fill_of a j lot quantity premium) now r row x.contract (fill_change i quantity x.limit premium) priced reads (fill-moves set' a i j lot quantity premium inside c) refl room prices
     (fill-limits a j lot quantity premium (was-limits set' f k i a r x.contract reads) inside c is_lot (grind (arith, nat_tests, few)))
     known is filled
   where
-    f : Floor
-    f = floor origins accounts rows closed version
+    f : BookState
+    f = book_state origins accounts rows closed version
 
     x : Held
     x = hold_at a.holds j
@@ -232,37 +243,38 @@ fill-kept set' origins accounts rows closed version k i j lot a now r row quanti
 
 -- Where nothing has changed.
 
-pub same-floor : (origins : List Origin) (accounts : List AccountState) (rows : List Row) (closed : Bool) (version : ℕ) (k u : ℕ) (a now : AccountState) (r row : Row) → a ≡ get_or accounts k a → r ≡ get_or rows u r → now ≡ a → row ≡ r → floor origins (set accounts k now) (set rows u row) closed version ≡ floor origins accounts rows closed version
-same-floor origins accounts rows closed version k u a now r row was is same same_row =
+pub same-state : (origins : List Origin) (accounts : List AccountState) (rows : List Row) (closed : Bool) (version : ℕ) (k u : ℕ) (a now : AccountState) (r row : Row) → a ≡ get_or accounts k a → r ≡ get_or rows u r → now ≡ a → row ≡ r → book_state origins (set accounts k now) (set rows u row) closed version ≡ book_state origins accounts rows closed version
+same-state origins accounts rows closed version k u a now r row was is same same_row =
     let one : set accounts k now ≡ accounts = ap (λ (x : AccountState). set accounts k x) (same ∙ was) ∙ set-get_or accounts k a in
     let other : set rows u row ≡ rows = ap (λ (x : Row). set rows u x) (same_row ∙ is) ∙ set-get_or rows u r in
-    λ i. floor origins (one i) (other i) closed version
+    λ i. book_state origins (one i) (other i) closed version
 
 -- The set has the contract of a hold.
 
-pub held-known : (set' : Tables) (f : Floor) (k j : ℕ) → IsKept set' f → k < length f.state.accounts → j < length (account_at f.state.accounts k).holds → has_contract set' (hold_at (account_at f.state.accounts k).holds j).contract ≡ true
+pub held-known : (set' : Tables) (f : BookState) (k j : ℕ) → IsKept set' f → k < length f.state.accounts → j < length (account_at f.state.accounts k).holds → has_contract set' (hold_at (account_at f.state.accounts k).holds j).contract ≡ true
 held-known set' f k j kept inside held =
     All-get_or (λ (y : Held). has_contract set' y.contract ≡ true) (account_at f.state.accounts k).holds j no_hold held (All-get_or (IsKnown set') f.state.accounts k no_account inside kept.known).holds
 
 -- What a hold is answered.
 
-new-state : (origins : List Origin) (accounts : List AccountState) (rows : List Row) (closed : Bool) (version : ℕ) (k u : ℕ) (row : Row) (b now : AccountState) → b ≡ now → put (floor origins accounts rows closed version).state k b ≡ (floor origins (set accounts k now) (set rows u row) closed version).state
+new-state : (origins : List Origin) (accounts : List AccountState) (rows : List Row) (closed : Bool) (version : ℕ) (k u : ℕ) (row : Row) (b now : AccountState) → b ≡ now → put (book_state origins accounts rows closed version).state k b ≡ (book_state origins (set accounts k now) (set rows u row) closed version).state
 new-state origins accounts rows closed version k u row b now is =
     λ i. record { origins = origins; accounts = set accounts k (is i); units = sym (length-set rows u row) i; closed = closed; version = version }
 
-held-short : (set' : Tables) (f : Floor) (at : ℕ × ℕ) (a : AccountState) (r : Row) (order : ℕ) (contract : List ℕ) (quantity : ℤ) (limit : ℕ) (b : Bool) → Reads set' f at.0 at.1 a r contract → is_short (row_with set' (hold_change at.1 quantity limit) r) ≡ b → is_short (row_of set' (state-held f.state at order contract quantity limit).accounts (account_at f.state.accounts at.0).unit) ≡ b
+held-short : (set' : Tables) (f : BookState) (at : ℕ × ℕ) (a : AccountState) (r : Row) (order : ℕ) (contract : List ℕ) (quantity : ℤ) (limit : ℕ) (b : Bool) → Reads set' f at.0 at.1 a r contract → lacks_room (row_with set' (hold_change at.1 quantity limit) r) ≡ b → lacks_room (row_of set' (state-held f.state at order contract quantity limit).accounts (account_at f.state.accounts at.0).unit) ≡ b
 held-short set' f at a r order contract quantity limit b reads is =
-    subst (λ (x : AccountState). is_short (row_of set' (set f.state.accounts at.0 (with_hold x (new_hold order contract quantity limit))) x.unit) ≡ b) (account-read set' f at.0 at.1 a r contract reads)
-    (ap is_short (sym (hold-row set' f at.0 at.1 a r order contract quantity limit reads)) ∙ is)
+    subst (λ (x : AccountState). lacks_room (row_of set' (set f.state.accounts at.0 (with_hold x (new_hold order contract quantity limit))) x.unit) ≡ b) (account-read set' f at.0 at.1 a r contract reads)
+    (ap lacks_room (sym (hold-row set' f at.0 at.1 a r order contract quantity limit reads)) ∙ is)
 
-pub hold-done : (set' : Tables) (origins : List Origin) (accounts : List AccountState) (rows : List Row) (closed : Bool) (version : ℕ) (at : ℕ × ℕ) (u : ℕ) (a now : AccountState) (r row : Row) (account : List ℕ) (order : ℕ) (contract : List ℕ) (quantity : ℤ) (limit : ℕ) → Reads set' (floor origins accounts rows closed version) at.0 at.1 a r contract → hold_places set' (floor origins accounts rows closed version).state account order contract quantity limit ≡ Ok at → is_short (row_with set' (hold_change at.1 quantity limit) r) ≡ false → now ≡ with_hold a (new_hold order contract quantity limit) → entered set' (floor origins accounts rows closed version).state account order contract quantity limit ≡ Ok (floor origins (set accounts at.0 now) (set rows u row) closed version).state
+pub hold-done : (set' : Tables) (origins : List Origin) (accounts : List AccountState) (rows : List Row) (closed : Bool) (version : ℕ) (at : ℕ × ℕ) (u : ℕ) (a now : AccountState) (r row : Row) (account : List ℕ) (order : ℕ) (contract : List ℕ) (quantity : ℤ) (limit : ℕ) → Reads set' (book_state origins accounts rows closed version) at.0 at.1 a r contract → hold_places set' (book_state origins accounts rows closed version).state account order contract quantity limit ≡ Ok at → lacks_room (row_with set' (hold_change at.1 quantity limit) r) ≡ false → now ≡ with_hold a (new_hold order contract quantity limit) → entered set' (book_state origins accounts rows closed version).state account order contract quantity limit ≡ Ok (book_state origins (set accounts at.0 now) (set rows u row) closed version).state
 hold-done set' origins accounts rows closed version at u a now r row account order contract quantity limit reads places room added =
-    let f = floor origins accounts rows closed version in
+    let f = book_state origins accounts rows closed version in
     let x = new_hold order contract quantity limit in
     entered-done set' f.state at account order contract quantity limit places (held-short set' f at a r order contract quantity limit false reads room)
     ∙ ap (λ (s : State). Ok s) (new-state origins accounts rows closed version at.0 u row (with_hold (account_at accounts at.0) x) now (ap (λ (y : AccountState). with_hold y x) (sym (account-read set' f at.0 at.1 a r contract reads)) ∙ sym added))
 
-pub hold-refused : (set' : Tables) (f new : Floor) (at : ℕ × ℕ) (a : AccountState) (r : Row) (account : List ℕ) (order : ℕ) (contract : List ℕ) (quantity : ℤ) (limit : ℕ) (why : Fault) → Reads set' f at.0 at.1 a r contract → hold_places set' f.state account order contract quantity limit ≡ Ok at → AsksRoom {X = Unit {0}} (row_with set' (hold_change at.1 quantity limit) r) (Err why) → new ≡ f → Steps {X = Unit {0}} (entered set' f.state account order contract quantity limit) (Err why) f new
+pub hold-refused : (set' : Tables) (f new : BookState) (at : ℕ × ℕ) (a : AccountState) (r : Row) (account : List ℕ) (order : ℕ) (contract : List ℕ) (quantity : ℤ) (limit : ℕ) (why : Fault) → Reads set' f at.0 at.1 a r contract → hold_places set' f.state account order contract quantity limit ≡ Ok at → AsksRoom {X = Unit {0}} (row_with set' (hold_change at.1 quantity limit) r) (Err why) → new ≡ f → Steps {X = Unit {0}} (entered set' f.state account order contract quantity limit) (Err why) f new
 hold-refused set' f new at a r account order contract quantity limit (Refused why) reads places asks same =
     (entered-short set' f.state at account order contract quantity limit places (held-short set' f at a r order contract quantity limit true reads asks.1) ∙ ap (λ (x : Refusal). Err x) (sym asks.0), same)
-hold-refused set' f new at a r account order contract quantity limit Memory reads places asks same = same
+hold-refused set' f new at a r account order contract quantity limit Memory reads places asks same =
+    (subst AsksMemory (sym (entered-by set' f.state at account order contract quantity limit places)) (room-asked (account_at f.state.accounts at.0).unit set' (state-held f.state at order contract quantity limit)), same)

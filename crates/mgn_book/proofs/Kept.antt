@@ -9,27 +9,28 @@ use Rattle.std.proofs.lemmas.List.Quantifiers.{position-Some}
 use Rattle.std.proofs.Math.Seq.{map-set_same}
 use Rattle.mgn_params.specs.declared.tables.Contract.{Contract}
 use Rattle.mgn_params.specs.Limits.{IsWithinLimits, contract_names}
-use Rattle.mgn_params.specs.Positions.{IsNet}
+use Rattle.mgn_span.specs.Positions.{IsNet}
 use Rattle.mgn_params.specs.Tables.{Tables}
 use Rattle.mgn_lots.specs.Lots.{is_live, lot_at, no_lot}
-use Rattle.mgn_machine.specs.declared.change.Change.{Change}
-use Rattle.mgn_machine.specs.declared.change.Gain.{Gain}
+use Rattle.mgn_unit.specs.declared.change.Change.{Change}
+use Rattle.mgn_unit.specs.declared.change.Gain.{Gain}
 use Rattle.mgn_machine.specs.declared.origin.Origin.{Origin}
 use Rattle.mgn_machine.specs.declared.reply.Refusal.{Refusal}
-use Rattle.mgn_machine.specs.declared.row.Row.{Row}
-use Rattle.mgn_machine.specs.declared.row.Priced.{Priced}
-use Rattle.mgn_machine.specs.declared.row.Side.{Side}
+use Rattle.mgn_unit.specs.declared.row.Row.{Row}
+use Rattle.mgn_unit.specs.declared.row.Priced.{Priced}
+use Rattle.mgn_unit.specs.declared.row.PortfolioRow.{PortfolioRow}
 use Rattle.mgn_machine.specs.State.{AccountState, IsAccount, no_account}
 use Rattle.mgn_machine.specs.Portfolios.{Portfolio, OnlyLots, WithBuys, WithSales, WithAll}
 use Rattle.mgn_machine.specs.Refusals.{found, contract_of, account_names, has_contract, IsKnown}
-use Rattle.mgn_machine.specs.Rows.{IsRow, IsSide, IsRoomy, Prices, PricesSide, Moves, MovesWorth, more_at, row_of, row_with, row_with_worth, side_of, side_with, side_with_worth}
-use Rattle.mgn_machine.proofs.Bounded.{worth-le}
-use Rattle.mgn_machine.proofs.Moved.{Stands, row-moved, row-moved_worth, row-apart, roomy}
-use Rattle.mgn_book.specs.Floors.{Floor, floor, IsKept, IsUnitRow}
+use Rattle.mgn_unit.specs.Rows.{IsRow, IsPortfolioRow, IsRoomy, Prices, PricesPortfolio, more_at, row_of, row_with, row_with_worth, portfolio_of, portfolio_with, portfolio_with_worth}
+use Rattle.mgn_unit.specs.Changes.{Moves, MovesWorth}
+use Rattle.mgn_unit.proofs.Bounded.{worth-le}
+use Rattle.mgn_unit.proofs.Moved.{Stands, row-moved, row-moved_worth, row-apart, roomy}
+use Rattle.mgn_book.specs.BookStates.{BookState, book_state, IsKept, IsUnitRow}
 
 -- The contract of a name.
 
-found-Some : (o : Option ℕ) (why : Refusal) (i : ℕ) → found o why ≡ Ok i → o ≡ Some i
+pub found-Some : (o : Option ℕ) (why : Refusal) (i : ℕ) → found o why ≡ Ok i → o ≡ Some i
 found-Some None why i here = cc
 found-Some (Some j) why i here = cc
 
@@ -43,22 +44,27 @@ stands-inside set' name i stands =
 
 -- What is kept of an account's unit.
 
-pub unit-inside : (set' : Tables) (f : Floor) (k : ℕ) (a : AccountState) → IsKept set' f → k < length f.state.accounts → a ≡ get_or f.state.accounts k a → a.unit < length f.rows
+pub unit-inside : (set' : Tables) (f : BookState) (k : ℕ) (a : AccountState) → IsKept set' f → k < length f.state.accounts → a ≡ get_or f.state.accounts k a → a.unit < length f.rows
 unit-inside set' f k a kept h there =
     subst (λ (x : AccountState). x.unit < length f.rows) (sym (there ∙ get_or_default f.state.accounts k a no_account h))
     (All-get_or (λ (x : AccountState). x.unit < length f.rows) f.state.accounts k no_account h kept.within)
 
-pub row-there : (set' : Tables) (f : Floor) (k : ℕ) (a : AccountState) (r : Row) → IsKept set' f → k < length f.state.accounts → a ≡ get_or f.state.accounts k a → r ≡ get_or f.rows a.unit r → IsUnitRow set' f.state.accounts a.unit r
+pub home-inside : (set' : Tables) (f : BookState) (k : ℕ) (a : AccountState) → IsKept set' f → k < length f.state.accounts → a ≡ get_or f.state.accounts k a → a.origin < length f.state.origins
+home-inside set' f k a kept h there =
+    subst (λ (x : AccountState). x.origin < length f.state.origins) (sym (there ∙ get_or_default f.state.accounts k a no_account h))
+    (All-get_or (λ (x : AccountState). x.origin < length f.state.origins) f.state.accounts k no_account h kept.homes)
+
+pub row-there : (set' : Tables) (f : BookState) (k : ℕ) (a : AccountState) (r : Row) → IsKept set' f → k < length f.state.accounts → a ≡ get_or f.state.accounts k a → r ≡ get_or f.rows a.unit r → IsUnitRow set' f.state.accounts a.unit r
 row-there set' f k a r kept h there is =
     subst (λ (x : Row). IsUnitRow set' f.state.accounts a.unit x) (sym is) (kept.rows a.unit r (unit-inside set' f k a kept h there))
 
 -- The numbers of a row after a change.
 
-side-worth-le : (set' : Tables) (accounts : List AccountState) (u : ℕ) (p : Portfolio) → IsWithinLimits set' → All IsAccount accounts → length accounts ≤ 1024 → unsigned_abs (side_of set' accounts u p).worth ≤ 10 ^ 24
-unfolding side_of
+side-worth-le : (set' : Tables) (accounts : List AccountState) (u : ℕ) (p : Portfolio) → IsWithinLimits set' → All IsAccount accounts → length accounts ≤ 1024 → unsigned_abs (portfolio_of set' accounts u p).worth ≤ 10 ^ 24
+unfolding portfolio_of
 side-worth-le set' accounts u p within limits few = omega (arith, worth-le set' u p accounts within limits few)
 
-side-after : (set' : Tables) (i : ℕ) (gain : Gain) (side : Side) (r : ℤ) → IsSide set' side → All IsNet (more_at side.nets i gain.quantity) → PricesSide set' i gain side r → unsigned_abs (side_with set' i gain side).worth ≤ 10 ^ 24 → IsSide set' (side_with set' i gain side)
+side-after : (set' : Tables) (i : ℕ) (gain : Gain) (side : PortfolioRow) (r : ℤ) → IsPortfolioRow set' side → All IsNet (more_at side.nets i gain.quantity) → PricesPortfolio set' i gain side r → unsigned_abs (portfolio_with set' i gain side).worth ≤ 10 ^ 24 → IsPortfolioRow set' (portfolio_with set' i gain side)
 side-after set' i gain side r is nets priced worth = record {
   one_each = length-set side.nets i (get_or side.nets i (pos 0) +ℤ gain.quantity) ∙ is.one_each;
   nets = nets;
@@ -76,22 +82,23 @@ row-after set' change r priced is room prices lots buys sales all = record {
   all = side-after set' change.contract change.all r.all priced.all is.all room.all prices.all all;
 }
 
--- A floor on which one account and the row of its unit have changed.
+-- A book_state on which one account and the row of its unit have changed.
 
 -- what is known of the account and its row, before and after
-pub record Changes (set' : Tables) (f : Floor) (k : ℕ) (a b : AccountState) (row : Row) : Type 0 where
+pub record Changes (set' : Tables) (f : BookState) (k : ℕ) (a b : AccountState) (row : Row) : Type 0 where
   pub kept : IsKept set' f
   pub account : k < length f.state.accounts
   pub was : a ≡ get_or f.state.accounts k a
   pub unit : b.unit ≡ a.unit
+  pub origin : b.origin ≡ a.origin
   pub limits : IsAccount b
   pub known : IsKnown set' b
   pub own : IsUnitRow set' (set f.state.accounts k b) a.unit row
 
-there : (set' : Tables) (f : Floor) (k : ℕ) (a b : AccountState) (row : Row) → Changes set' f k a b row → a ≡ get_or f.state.accounts k no_account
+there : (set' : Tables) (f : BookState) (k : ℕ) (a b : AccountState) (row : Row) → Changes set' f k a b row → a ≡ get_or f.state.accounts k no_account
 there set' f k a b row changes = changes.was ∙ get_or_default f.state.accounts k a no_account changes.account
 
-pub kept-changed : (set' : Tables) (origins : List Origin) (accounts : List AccountState) (rows : List Row) (closed : Bool) (version : ℕ) (k : ℕ) (a b : AccountState) (row : Row) → Changes set' (floor origins accounts rows closed version) k a b row → IsKept set' (floor origins (set accounts k b) (set rows a.unit row) closed version)
+pub kept-changed : (set' : Tables) (origins : List Origin) (accounts : List AccountState) (rows : List Row) (closed : Bool) (version : ℕ) (k : ℕ) (a b : AccountState) (row : Row) → Changes set' (book_state origins accounts rows closed version) k a b row → IsKept set' (book_state origins (set accounts k b) (set rows a.unit row) closed version)
 kept-changed set' origins accounts rows closed version k a b row changes = record {
   units = refl;
   few_units = omega (arith, long, kept.few_units);
@@ -100,12 +107,13 @@ kept-changed set' origins accounts rows closed version k a b row changes = recor
   known = All-set (IsKnown set') accounts k b changes.known kept.known;
   within = subst (λ (m : ℕ). All (λ (x : AccountState). x.unit < m) (set accounts k b)) (sym long)
       (All-set (λ (x : AccountState). x.unit < length rows) accounts k b (subst (λ (m : ℕ). m < length rows) (sym changes.unit) inside) kept.within);
+  homes = All-set (λ (x : AccountState). x.origin < length origins) accounts k b (subst (λ (m : ℕ). m < length origins) (sym changes.origin) home) kept.homes;
   netted = subst (λ (m : ℕ). All (λ (o : Origin). IfSome o.unit (λ u. u < m)) origins) (sym long) kept.netted;
   rows = λ u d less. at u d (omega (arith, long, less)) (nat_eq u a.unit) refl;
 }
   where
-    f : Floor
-    f = floor origins accounts rows closed version
+    f : BookState
+    f = book_state origins accounts rows closed version
 
     kept : IsKept set' f
     kept = changes.kept
@@ -118,6 +126,9 @@ kept-changed set' origins accounts rows closed version k a b row changes = recor
 
     inside : a.unit < length rows
     inside = unit-inside set' f k a kept changes.account changes.was
+
+    home : a.origin < length origins
+    home = home-inside set' f k a kept changes.account changes.was
 
     at : (u : ℕ) (d : Row) → u < length rows → (t : Bool) → nat_eq u a.unit ≡ t → IsUnitRow set' (set accounts k b) u (get_or (set rows a.unit row) u d)
     at u d less true e =
@@ -134,7 +145,7 @@ kept-changed set' origins accounts rows closed version k a b row changes = recor
         }
 
 -- the row after a change in one contract
-pub own-moved : (set' : Tables) (f : Floor) (k : ℕ) (a b : AccountState) (contract : List ℕ) (change : Change) (r : Row) (priced : Priced) → IsWithinLimits set' → IsKept set' f → k < length f.state.accounts → a ≡ get_or f.state.accounts k a → r ≡ get_or f.rows a.unit r → IsAccount b → Stands set' contract change.contract → Moves set' contract change a b → IsRoomy change r → Prices set' change r priced → IsUnitRow set' (set f.state.accounts k b) a.unit (row_with set' change r)
+pub own-moved : (set' : Tables) (f : BookState) (k : ℕ) (a b : AccountState) (contract : List ℕ) (change : Change) (r : Row) (priced : Priced) → IsWithinLimits set' → IsKept set' f → k < length f.state.accounts → a ≡ get_or f.state.accounts k a → r ≡ get_or f.rows a.unit r → IsAccount b → Stands set' contract change.contract → Moves set' contract change a b → IsRoomy change r → Prices set' change r priced → IsUnitRow set' (set f.state.accounts k b) a.unit (row_with set' change r)
 own-moved set' f k a b contract change r priced within kept h was is limits stands moves room prices = record {
   is = same;
   limits = row-after set' change r priced old.limits room prices (worth OnlyLots (λ (x : Row). x.lots) refl) (worth WithBuys (λ (x : Row). x.buys) refl) (worth WithSales (λ (x : Row). x.sales) refl) (worth WithAll (λ (x : Row). x.all) refl);
@@ -158,24 +169,25 @@ own-moved set' f k a b contract change r priced within kept h was is limits stan
     all : All IsAccount (set accounts k b)
     all = All-set IsAccount accounts k b limits kept.accounts
 
-    worth : (p : Portfolio) (side : Row → Side) → (side (row_of set' (set accounts k b) a.unit) ≡ side_of set' (set accounts k b) a.unit p) → unsigned_abs (side (row_with set' change r)).worth ≤ 10 ^ 24
-    worth p side e = subst (λ (x : Side). unsigned_abs x.worth ≤ 10 ^ 24) (sym (ap side same ∙ e)) (side-worth-le set' (set accounts k b) a.unit p within all few)
+    worth : (p : Portfolio) (side : Row → PortfolioRow) → (side (row_of set' (set accounts k b) a.unit) ≡ portfolio_of set' (set accounts k b) a.unit p) → unsigned_abs (side (row_with set' change r)).worth ≤ 10 ^ 24
+    worth p side e = subst (λ (x : PortfolioRow). unsigned_abs x.worth ≤ 10 ^ 24) (sym (ap side same ∙ e)) (side-worth-le set' (set accounts k b) a.unit p within all few)
 
 -- both together: an account and the row of its unit after a change in one contract
-pub kept-moved : (set' : Tables) (origins : List Origin) (accounts : List AccountState) (rows : List Row) (closed : Bool) (version : ℕ) (k : ℕ) (a b : AccountState) (contract : List ℕ) (change : Change) (r : Row) (priced : Priced) → IsWithinLimits set' → IsKept set' (floor origins accounts rows closed version) → k < length accounts → a ≡ get_or accounts k a → r ≡ get_or rows a.unit r → IsAccount b → IsKnown set' b → Stands set' contract change.contract → Moves set' contract change a b → IsRoomy change r → Prices set' change r priced → IsKept set' (floor origins (set accounts k b) (set rows a.unit (row_with set' change r)) closed version)
-kept-moved set' origins accounts rows closed version k a b contract change r priced within kept h was is limits known stands moves room prices =
+pub kept-moved : (set' : Tables) (origins : List Origin) (accounts : List AccountState) (rows : List Row) (closed : Bool) (version : ℕ) (k : ℕ) (a b : AccountState) (contract : List ℕ) (change : Change) (r : Row) (priced : Priced) → IsWithinLimits set' → IsKept set' (book_state origins accounts rows closed version) → k < length accounts → a ≡ get_or accounts k a → r ≡ get_or rows a.unit r → b.origin ≡ a.origin → IsAccount b → IsKnown set' b → Stands set' contract change.contract → Moves set' contract change a b → IsRoomy change r → Prices set' change r priced → IsKept set' (book_state origins (set accounts k b) (set rows a.unit (row_with set' change r)) closed version)
+kept-moved set' origins accounts rows closed version k a b contract change r priced within kept h was is origin limits known stands moves room prices =
     kept-changed set' origins accounts rows closed version k a b (row_with set' change r) record {
       kept = kept;
       account = h;
       was = was;
       unit = moves.unit;
+      origin = origin;
       limits = limits;
       known = known;
-      own = own-moved set' (floor origins accounts rows closed version) k a b contract change r priced within kept h was is limits stands moves room prices;
+      own = own-moved set' (book_state origins accounts rows closed version) k a b contract change r priced within kept h was is limits stands moves room prices;
     }
 
 -- Where a change of one contract leaves the row within the limits: the sizes tell.
-pub room-by : (set' : Tables) (f : Floor) (k : ℕ) (a b : AccountState) (contract : List ℕ) (change : Change) (r : Row) → IsKept set' f → k < length f.state.accounts → a ≡ get_or f.state.accounts k a → r ≡ get_or f.rows a.unit r → Stands set' contract change.contract → Moves set' contract change a b → All IsNet (more_at r.sizes change.contract change.size) → IsRoomy change r
+pub room-by : (set' : Tables) (f : BookState) (k : ℕ) (a b : AccountState) (contract : List ℕ) (change : Change) (r : Row) → IsKept set' f → k < length f.state.accounts → a ≡ get_or f.state.accounts k a → r ≡ get_or f.rows a.unit r → Stands set' contract change.contract → Moves set' contract change a b → All IsNet (more_at r.sizes change.contract change.size) → IsRoomy change r
 room-by set' f k a b contract change r kept h was is stands moves sizes =
     subst (λ (x : Row). IsRoomy change x) (sym old.is)
     (roomy set' f.state.accounts k a.unit b contract change stands record { inside = h; was = ap (λ (x : AccountState). x.unit) (sym there_is); now = moves.unit }
@@ -199,10 +211,10 @@ sizes-more row i size small more =
 
 -- The row after a change of worth alone.
 
-worth-side : (set' : Tables) (amount : ℤ) (side : Side) → IsSide set' side → unsigned_abs (side_with_worth amount side).worth ≤ 10 ^ 24 → IsSide set' (side_with_worth amount side)
+worth-side : (set' : Tables) (amount : ℤ) (side : PortfolioRow) → IsPortfolioRow set' side → unsigned_abs (portfolio_with_worth amount side).worth ≤ 10 ^ 24 → IsPortfolioRow set' (portfolio_with_worth amount side)
 worth-side set' amount side is worth = record { one_each = is.one_each; nets = is.nets; worth = worth; requirement = is.requirement }
 
-pub own-moved_worth : (set' : Tables) (f : Floor) (k : ℕ) (a b : AccountState) (amount : ℤ) (r : Row) → IsWithinLimits set' → IsKept set' f → k < length f.state.accounts → a ≡ get_or f.state.accounts k a → r ≡ get_or f.rows a.unit r → IsAccount b → MovesWorth set' amount a b → IsUnitRow set' (set f.state.accounts k b) a.unit (row_with_worth amount r)
+pub own-moved_worth : (set' : Tables) (f : BookState) (k : ℕ) (a b : AccountState) (amount : ℤ) (r : Row) → IsWithinLimits set' → IsKept set' f → k < length f.state.accounts → a ≡ get_or f.state.accounts k a → r ≡ get_or f.rows a.unit r → IsAccount b → MovesWorth set' amount a b → IsUnitRow set' (set f.state.accounts k b) a.unit (row_with_worth amount r)
 own-moved_worth set' f k a b amount r within kept h was is limits moves = record {
   is = same;
   limits = record {
@@ -233,8 +245,8 @@ own-moved_worth set' f k a b amount r within kept h was is limits moves = record
     all : All IsAccount (set accounts k b)
     all = All-set IsAccount accounts k b limits kept.accounts
 
-    worth : (p : Portfolio) (side : Row → Side) → (side (row_of set' (set accounts k b) a.unit) ≡ side_of set' (set accounts k b) a.unit p) → unsigned_abs (side (row_with_worth amount r)).worth ≤ 10 ^ 24
-    worth p side e = subst (λ (x : Side). unsigned_abs x.worth ≤ 10 ^ 24) (sym (ap side same ∙ e)) (side-worth-le set' (set accounts k b) a.unit p within all few)
+    worth : (p : Portfolio) (side : Row → PortfolioRow) → (side (row_of set' (set accounts k b) a.unit) ≡ portfolio_of set' (set accounts k b) a.unit p) → unsigned_abs (side (row_with_worth amount r)).worth ≤ 10 ^ 24
+    worth p side e = subst (λ (x : PortfolioRow). unsigned_abs x.worth ≤ 10 ^ 24) (sym (ap side same ∙ e)) (side-worth-le set' (set accounts k b) a.unit p within all few)
 
 -- The names of the accounts stay.
 pub names-kept : (names : List (List ℕ)) (accounts : List AccountState) (k : ℕ) (b d : AccountState) → names ≡ account_names accounts → b.name ≡ (get_or accounts k d).name → names ≡ account_names (set accounts k b)
@@ -242,11 +254,11 @@ names-kept names accounts k b d are same = are ∙ sym (map-set_same (λ (a : Ac
 
 -- An account that is there is within the limits, and the set has its contracts.
 
-pub account-limits : (set' : Tables) (f : Floor) (k : ℕ) (a : AccountState) → IsKept set' f → k < length f.state.accounts → a ≡ get_or f.state.accounts k a → IsAccount a
+pub account-limits : (set' : Tables) (f : BookState) (k : ℕ) (a : AccountState) → IsKept set' f → k < length f.state.accounts → a ≡ get_or f.state.accounts k a → IsAccount a
 account-limits set' f k a kept h was =
     subst IsAccount (sym (was ∙ get_or_default f.state.accounts k a no_account h)) (All-get_or IsAccount f.state.accounts k no_account h kept.accounts)
 
-pub account-known : (set' : Tables) (f : Floor) (k : ℕ) (a : AccountState) → IsKept set' f → k < length f.state.accounts → a ≡ get_or f.state.accounts k a → IsKnown set' a
+pub account-known : (set' : Tables) (f : BookState) (k : ℕ) (a : AccountState) → IsKept set' f → k < length f.state.accounts → a ≡ get_or f.state.accounts k a → IsKnown set' a
 account-known set' f k a kept h was =
     subst (IsKnown set') (sym (was ∙ get_or_default f.state.accounts k a no_account h)) (All-get_or (IsKnown set') f.state.accounts k no_account h kept.known)
 
@@ -255,7 +267,7 @@ pub stands-known : (set' : Tables) (contract : List ℕ) (i : ℕ) → Stands se
 stands-known set' contract i stands = ap is_some stands.here
 
 -- The end of the day.
-pub kept-closed : (set' : Tables) (f : Floor) → IsKept set' f → IsKept set' (floor f.state.origins f.state.accounts f.rows true f.state.version)
+pub kept-closed : (set' : Tables) (f : BookState) → IsKept set' f → IsKept set' (book_state f.state.origins f.state.accounts f.rows true f.state.version)
 kept-closed set' f kept = record {
   units = refl;
   few_units = kept.few_units;
@@ -263,14 +275,15 @@ kept-closed set' f kept = record {
   accounts = kept.accounts;
   known = kept.known;
   within = kept.within;
+  homes = kept.homes;
   netted = kept.netted;
   rows = kept.rows;
 }
 
 -- What was written is what was there.
-pub kept-same : (set' : Tables) (origins : List Origin) (accounts : List AccountState) (rows : List Row) (closed : Bool) (version : ℕ) (k u : ℕ) (a b : AccountState) (r row : Row) → IsKept set' (floor origins accounts rows closed version) → a ≡ get_or accounts k a → b ≡ a → r ≡ get_or rows u r → row ≡ r → IsKept set' (floor origins (set accounts k b) (set rows u row) closed version)
+pub kept-same : (set' : Tables) (origins : List Origin) (accounts : List AccountState) (rows : List Row) (closed : Bool) (version : ℕ) (k u : ℕ) (a b : AccountState) (r row : Row) → IsKept set' (book_state origins accounts rows closed version) → a ≡ get_or accounts k a → b ≡ a → r ≡ get_or rows u r → row ≡ r → IsKept set' (book_state origins (set accounts k b) (set rows u row) closed version)
 kept-same set' origins accounts rows closed version k u a b r row kept was same is unchanged =
-    subst (λ (x : List AccountState × List Row). IsKept set' (floor origins x.0 x.1 closed version)) (λ j. (sym accounts_are j, sym rows_are j)) kept
+    subst (λ (x : List AccountState × List Row). IsKept set' (book_state origins x.0 x.1 closed version)) (λ j. (sym accounts_are j, sym rows_are j)) kept
   where
     accounts_are : set accounts k b ≡ accounts
     accounts_are = ap (λ (x : AccountState). set accounts k x) (same ∙ was) ∙ set-get_or accounts k a
@@ -280,7 +293,7 @@ kept-same set' origins accounts rows closed version k u a b r row kept was same 
 
 -- The contract of a live lot stands in the set.
 
-pub lot-known : (set' : Tables) (f : Floor) (k at : ℕ) (a : AccountState) → IsKept set' f → k < length f.state.accounts → a ≡ get_or f.state.accounts k a → at < length a.lots → is_live (lot_at a.lots at).mark ≡ true → has_contract set' (lot_at a.lots at).contract ≡ true
+pub lot-known : (set' : Tables) (f : BookState) (k at : ℕ) (a : AccountState) → IsKept set' f → k < length f.state.accounts → a ≡ get_or f.state.accounts k a → at < length a.lots → is_live (lot_at a.lots at).mark ≡ true → has_contract set' (lot_at a.lots at).contract ≡ true
 lot-known set' f k at a kept h was inside live = (account-known set' f k a kept h was).lots at no_lot inside live
 
 found-known : (o : Option ℕ) (why problem : Refusal) → is_some o ≡ true → found o why ≡ Err problem → ⊥

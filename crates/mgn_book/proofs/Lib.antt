@@ -1,4 +1,5 @@
 pub mod Busts
+pub mod FilledAtLimit
 pub mod Histories
 pub mod Holding
 pub mod Kept
@@ -7,3 +8,4 @@ pub mod Postings
 pub mod Steps
 pub mod StoredReplies
 pub mod Trades
+pub mod Switches

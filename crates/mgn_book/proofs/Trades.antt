@@ -6,26 +6,26 @@ use Rattle.std.proofs.lemmas.Bool.Decides.{nat_tests}
 use Rattle.std.proofs.lemmas.List.{get_or_default}
 use Rattle.std.proofs.lemmas.List.Elements.{All-push}
 use Rattle.mgn_params.specs.Limits.{IsWithinLimits}
-use Rattle.mgn_params.specs.Positions.{IsNet}
+use Rattle.mgn_span.specs.Positions.{IsNet}
 use Rattle.mgn_params.specs.Tables.{Tables}
 use Rattle.mgn_lots.specs.declared.lot.Lot.{Lot}
-use Rattle.mgn_lots.specs.Lots.{IsLot, is_live}
-use Rattle.mgn_lots.specs.Refusals.{is_full}
+use Rattle.mgn_lots.specs.Lots.{IsLot, is_live, is_full}
 use Rattle.mgn_machine.specs.declared.origin.Origin.{Origin}
-use Rattle.mgn_machine.specs.declared.row.Row.{Row}
-use Rattle.mgn_machine.specs.declared.row.Priced.{Priced}
+use Rattle.mgn_unit.specs.declared.row.Row.{Row}
+use Rattle.mgn_unit.specs.declared.row.Priced.{Priced}
 use Rattle.mgn_machine.specs.State.{AccountState, IsAccount, no_account, traded_lot, with_lot}
 use Rattle.mgn_machine.specs.Portfolios.{account_size}
 use Rattle.mgn_machine.specs.Refusals.{contract_of, has_contract, is_over, unit_size, IsKnown}
-use Rattle.mgn_machine.specs.Rows.{IsRoomy, Prices, lot_change, row_with}
-use Rattle.mgn_machine.proofs.AccountMoves.{traded-moves, lot-limits}
-use Rattle.mgn_machine.proofs.Moved.{Stands}
-use Rattle.mgn_machine.proofs.Sums.{row_by-at}
-use Rattle.mgn_book.specs.Floors.{Floor, floor, IsKept, IsUnitRow}
+use Rattle.mgn_unit.specs.Rows.{IsRoomy, Prices, row_with}
+use Rattle.mgn_unit.specs.Changes.{lot_change}
+use Rattle.mgn_unit.proofs.AccountMoves.{traded-moves, lot-limits}
+use Rattle.mgn_unit.proofs.Moved.{Stands}
+use Rattle.mgn_unit.proofs.Sums.{row_by-at}
+use Rattle.mgn_book.specs.BookStates.{BookState, book_state, IsKept, IsUnitRow}
 use Rattle.mgn_book.proofs.Kept.{contract-stands, stands-inside, row-there, room-by, sizes-more, own-moved, kept-changed, account-limits, account-known, stands-known}
 
 -- what is known where a lot is about to be entered: the account and its row as they were read
-pub record Trading (set' : Tables) (f : Floor) (k i : ℕ) (a : AccountState) (r : Row) (number : ℕ) (contract : List ℕ) (quantity : ℤ) (premium : ℕ) : Type 0 where
+pub record Trading (set' : Tables) (f : BookState) (k i : ℕ) (a : AccountState) (r : Row) (number : ℕ) (contract : List ℕ) (quantity : ℤ) (premium : ℕ) : Type 0 where
   pub within : IsWithinLimits set'
   pub kept : IsKept set' f
   pub account : k < length f.state.accounts
@@ -37,7 +37,7 @@ pub record Trading (set' : Tables) (f : Floor) (k i : ℕ) (a : AccountState) (r
 not_over : (size : ℤ) (more : ℕ) → IsNet size → int_lt (pos (10 ^ 7)) (size +ℤ pos more) ≡ false → IsNet (size +ℤ pos more)
 not_over size more small room = grind (arith, ints, room)
 
-pub trade-roomy : (set' : Tables) (f : Floor) (k i : ℕ) (a : AccountState) (r : Row) (number : ℕ) (contract : List ℕ) (quantity : ℤ) (premium : ℕ) → Trading set' f k i a r number contract quantity premium → IsRoomy (lot_change i quantity premium) r
+pub trade-roomy : (set' : Tables) (f : BookState) (k i : ℕ) (a : AccountState) (r : Row) (number : ℕ) (contract : List ℕ) (quantity : ℤ) (premium : ℕ) → Trading set' f k i a r number contract quantity premium → IsRoomy (lot_change i quantity premium) r
 trade-roomy set' f k i a r number contract quantity premium trading =
     room-by set' f k a (with_lot a (traded_lot number contract quantity premium)) contract (lot_change i quantity premium) r trading.kept trading.account trading.was trading.row stands
     (traded-moves set' a number contract i quantity premium)
@@ -59,22 +59,23 @@ trade-roomy set' f k i a r number contract quantity premium trading =
     room : int_lt (pos (10 ^ 7)) (unit_size f.state a.unit contract +ℤ pos (unsigned_abs quantity)) ≡ false
     room = ap (λ (x : AccountState). int_lt (pos (10 ^ 7)) (unit_size f.state x.unit contract +ℤ pos (unsigned_abs quantity))) (trading.was ∙ get_or_default f.state.accounts k a no_account trading.account) ∙ trading.room
 
-pub trade-kept : (set' : Tables) (origins : List Origin) (accounts : List AccountState) (rows : List Row) (closed : Bool) (version : ℕ) (k i : ℕ) (a b : AccountState) (r row : Row) (number : ℕ) (contract : List ℕ) (quantity : ℤ) (premium : ℕ) (priced : Priced) → Trading set' (floor origins accounts rows closed version) k i a r number contract quantity premium → Prices set' (lot_change i quantity premium) r priced → row ≡ row_with set' (lot_change i quantity premium) r → b ≡ with_lot a (traded_lot number contract quantity premium) → IsLot (traded_lot number contract quantity premium) → is_full a.lots ≡ false → IsKept set' (floor origins (set accounts k b) (set rows a.unit row) closed version)
+pub trade-kept : (set' : Tables) (origins : List Origin) (accounts : List AccountState) (rows : List Row) (closed : Bool) (version : ℕ) (k i : ℕ) (a b : AccountState) (r row : Row) (number : ℕ) (contract : List ℕ) (quantity : ℤ) (premium : ℕ) (priced : Priced) → Trading set' (book_state origins accounts rows closed version) k i a r number contract quantity premium → Prices set' (lot_change i quantity premium) r priced → row ≡ row_with set' (lot_change i quantity premium) r → b ≡ with_lot a (traded_lot number contract quantity premium) → IsLot (traded_lot number contract quantity premium) → is_full a.lots ≡ false → IsKept set' (book_state origins (set accounts k b) (set rows a.unit row) closed version)
 trade-kept set' origins accounts rows closed version k i a b r row number contract quantity premium priced trading prices is added lot few =
-    subst (λ (x : Row × AccountState). IsKept set' (floor origins (set accounts k x.1) (set rows a.unit x.0) closed version)) (λ j. (sym is j, sym added j))
+    subst (λ (x : Row × AccountState). IsKept set' (book_state origins (set accounts k x.1) (set rows a.unit x.0) closed version)) (λ j. (sym is j, sym added j))
     (kept-changed set' origins accounts rows closed version k a (with_lot a (traded_lot number contract quantity premium)) (row_with set' (lot_change i quantity premium) r) record {
       kept = trading.kept;
       account = trading.account;
       was = trading.was;
       unit = refl;
+      origin = refl;
       limits = limits;
       known = known;
       own = own-moved set' f k a (with_lot a (traded_lot number contract quantity premium)) contract (lot_change i quantity premium) r priced trading.within trading.kept trading.account trading.was trading.row limits
           (contract-stands set' contract i trading.within trading.stands) (traded-moves set' a number contract i quantity premium) (trade-roomy set' f k i a r number contract quantity premium trading) prices;
     })
   where
-    f : Floor
-    f = floor origins accounts rows closed version
+    f : BookState
+    f = book_state origins accounts rows closed version
 
     lot_is : Lot
     lot_is = traded_lot number contract quantity premium

@@ -1,15 +1,20 @@
--- How a book keeps its history: the figures of replies stand in a list of their own.
+-- How a book keeps its history: the figures of replies, and the sets that were refused, stand in lists of their own.
 use Rattle.std.specs.Prelude.{ℕ, pos, ◌+◌, ◌≤◌, All, Bool, List, [], ◌∷◌, slice_index_or}
+use Rattle.mgn_params.specs.Tables.{Tables, no_tables}
 use Rattle.mgn_machine.specs.declared.entry.Entry.{Entry}
 use Rattle.mgn_machine.specs.declared.reply.Figures.{Figures}
 use Rattle.mgn_machine.specs.declared.reply.Reply.{Reply}
-use Rattle.mgn_machine.specs.declared.reply.Reply.TheVariants.{Done, Figures as Told, Refused}
+use Rattle.mgn_machine.specs.declared.reply.Reply.TheVariants.{Done, Figures as Told, NewSet, Refused}
+use Rattle.mgn_machine.specs.declared.request.Recorded.{Recorded}
+use Rattle.mgn_machine.specs.declared.request.Recorded.TheVariants.{Asked, InForce, SetRefused}
 use Rattle.mgn_machine.specs.History.{entry}
 use Rattle.mgn_book.specs.declared.history.StoredEntry.{StoredEntry}
 use Rattle.mgn_book.specs.declared.history.StoredReply.{StoredReply}
-use Rattle.mgn_book.specs.declared.history.StoredReply.TheVariants.{Done as StoredDone, At, Refused as StoredRefused}
+use Rattle.mgn_book.specs.declared.history.StoredReply.TheVariants.{Done as StoredDone, At, NewSet as StoredSet, Refused as StoredRefused}
+use Rattle.mgn_book.specs.declared.history.StoredRequest.{StoredRequest}
+use Rattle.mgn_book.specs.declared.history.StoredRequest.TheVariants.{Asked as StoredCommand, InForce as StoredVersion, SetRefused as RefusedAt}
 
--- what contracts see of a history: its entries, and whether the next one needs no memory
+-- what contracts see of a history: its entries, and whether the next one needs no memory but for a refused set
 pub record EntryList : Type 0 where
   pub entries : List Entry
   pub reserved : Bool
@@ -18,7 +23,14 @@ pub record EntryList : Type 0 where
 abbrev pub figures_of : Reply → List Figures
 figures_of Done = []
 figures_of (Told figures) = figures ∷ []
+figures_of (NewSet told) = []
 figures_of (Refused why) = []
+
+-- the sets that a request adds to the list of refused ones
+abbrev pub sets_of : Recorded → List Tables
+sets_of (Asked command) = []
+sets_of (InForce version) = []
+sets_of (SetRefused set) = set ∷ []
 
 -- stands for the figures past the end of the list, which no one asks for
 abbrev pub no_figures : Figures
@@ -28,18 +40,35 @@ no_figures = record { requirement = pos 0; exposure_requirement = pos 0; value =
 abbrev pub reply_of : List Figures → StoredReply → Reply
 reply_of figures StoredDone = Done
 reply_of figures (At place) = Told (slice_index_or figures place no_figures)
+reply_of figures (StoredSet told) = NewSet told
 reply_of figures (StoredRefused why) = Refused why
 
--- how long the list of figures must be for it
-abbrev pub needed : StoredReply → ℕ
-needed StoredDone = 0
-needed (At place) = place + 1
-needed (StoredRefused why) = 0
+-- the request that is stored
+abbrev pub recorded_of : List Tables → StoredRequest → Recorded
+recorded_of refused (StoredCommand command) = Asked command
+recorded_of refused (StoredVersion version) = InForce version
+recorded_of refused (RefusedAt place) = SetRefused (slice_index_or refused place (no_tables []))
+
+-- how long the list of figures must be for a reply, and that of refused sets for a request
+abbrev pub figures_needed : StoredReply → ℕ
+figures_needed StoredDone = 0
+figures_needed (At place) = place + 1
+figures_needed (StoredSet told) = 0
+figures_needed (StoredRefused why) = 0
+
+abbrev pub sets_needed : StoredRequest → ℕ
+sets_needed (StoredCommand command) = 0
+sets_needed (StoredVersion version) = 0
+sets_needed (RefusedAt place) = place + 1
 
 -- the entry of what is stored
-abbrev pub entry_of : List Figures → StoredEntry → Entry
-entry_of figures stored = entry stored.session stored.number stored.command (reply_of figures stored.reply)
+abbrev pub entry_of : List Figures → List Tables → StoredEntry → Entry
+entry_of figures refused stored = entry stored.session stored.number (recorded_of refused stored.request) (reply_of figures stored.reply)
 
--- the list of figures is long enough for all that is stored
-abbrev pub AreShown : ℕ → List StoredEntry → Type 0
-AreShown count entries = All (λ (stored : StoredEntry). needed stored.reply ≤ count) entries
+-- both lists are long enough for what is stored
+pub record IsShown (figures refused : ℕ) (stored : StoredEntry) : Type 0 where
+  pub reply : figures_needed stored.reply ≤ figures
+  pub request : sets_needed stored.request ≤ refused
+
+abbrev pub AreShown : ℕ → ℕ → List StoredEntry → Type 0
+AreShown figures refused entries = All (IsShown figures refused) entries

@@ -1,5 +1,7 @@
 -- The state with its rows, and days of them.
-pub mod Floors
-pub mod Days
-pub mod Holding
+pub mod BookStates
+pub mod BookViews
+pub mod RoomAsked
+pub mod FilledAtLimit
 pub mod History
+pub mod Switches

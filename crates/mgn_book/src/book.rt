@@ -1,15 +1,19 @@
 ghost use Rattle.std.specs.Prelude.{◌≡◌, ◌+◌, ◌≤◌, ◌++◌, ◌∷◌, [], length, List, true};
 ghost use Rattle.mgn_params.specs.Tables.{Tables};
+ghost use Rattle.mgn_machine.specs.declared.request.Recorded.TheVariants.{Asked};
+ghost use Rattle.mgn_machine.specs.declared.request.Request.TheVariants.{Do, Switch};
 ghost use Rattle.mgn_machine.specs.History.{calls, entry};
-ghost use Rattle.mgn_book.specs.Days.{Stands, Committed, opening};
+ghost use Rattle.mgn_book.specs.BookViews.{Committed, Shelves, Stands, opening};
 ghost use Rattle.mgn_book.specs.declared.book.Outcome.TheVariants.{Done};
 
+use crate::fault::Fault;
 use crate::history::History;
+use crate::in_force::switch_set;
 use crate::register::Register;
 use crate::step::step;
 use mgn_ids::SessionNo;
 use mgn_machine::{Command, Reply};
-use mgn_params::Shelf;
+use mgn_params::{ParamSet, Shelf};
 use std::alloc::Global;
 use std::marker::Model;
 
@@ -27,7 +31,7 @@ pub enum Outcome {
     Memory,
 }
 
-/// The state of the machine, a row for each margin unit, and the history. Contracts see the day: the floor of state and
+/// The state of the machine, a row for each margin unit, and the history. Contracts see the view: the book of state and
 /// rows, and the list of the entries. The type says that the day stands: its history is legal, and leads to this state
 /// with these rows. Under which sets, each call says of the shelf that it is given.
 #[derive(Drop)]
@@ -38,18 +42,19 @@ pub struct Book {
 }
 
 impl Model for Book {
-    ghost use Rattle.mgn_book.specs.Days.{Day, IsBook};
+    ghost use Rattle.mgn_book.specs.BookViews.{BookView, IsBook};
 
-    ghost Value = { Day };
+    ghost Value = { BookView };
 
-    ghost view = { λ b. record { floor = b.register; history = b.history.entries } };
+    ghost view = { λ b. record { book = b.register; history = b.history.entries } };
 
-    ghost invariant = { λ b. IsBook record { floor = b.register; history = b.history.entries } b.counts };
+    ghost invariant = { λ b. IsBook record { book = b.register; history = b.history.entries } b.counts };
 }
 
 impl Book {
-    /// The book before its first command, under the first set of a shelf. Takes no memory.
+    /// The book before its first command, under the set of a shelf that has no other yet. Takes no memory.
     pub fn new<S: Shelf>(alloc: Global, shelf: &S) -> Book
+        requires { length (S.sets shelf.now) ≡ 1 }
         ensures opening { result ≡ opening }
         ensures stands { Stands (S.sets shelf.now) result }
     {
@@ -96,7 +101,7 @@ impl Book {
         requires stands { Stands (S.sets shelf.now) self.old }
         requires number { number ≡ calls session self.old.history + 1 }
         ensures stands { Stands (S.sets shelf.now) self.new }
-        ensures committed { Committed (S.sets shelf.now) self.old session number command.now result self.new }
+        ensures committed { Committed (S.sets shelf.now) self.old session number (Do command.now) result self.new }
     {
         if self.history.len() >= MOST_ENTRIES {
             return Outcome::Full;
@@ -109,10 +114,54 @@ impl Book {
         };
         let reply = match step(&mut self.register, alloc, set, command) {
             Ok(reply) => reply,
-            Err(_) => return Outcome::Memory,
+            Err(Fault::Memory) => return Outcome::Memory,
+            Err(Fault::Refused(_)) => unreachable!(),
         };
         self.counts[session.number() as usize - 1] = number;
         write(&mut self.history, session, number, command, &reply)
+    }
+
+    /// One switch to a set and its entry: it comes into force under the next version, or it is refused. `Full` where the
+    /// history has 1,000,000 entries, `Memory` where memory is refused; then nothing has changed, in the book and on the
+    /// shelf.
+    pub fn commit_switch<S: Shelf>(
+        &mut self,
+        alloc: Global,
+        session: SessionNo,
+        number: u64,
+        set: ParamSet,
+        shelf: &mut S,
+    ) -> Outcome
+        requires stands { Stands (S.sets shelf.old) self.old }
+        requires number { number ≡ calls session self.old.history + 1 }
+        ensures place { S.place shelf.new ≡ S.place shelf.old }
+        ensures stands { Stands (S.sets shelf.new) self.new }
+        ensures committed { Committed (S.sets shelf.new) self.old session number (Switch set) result self.new }
+        ensures sets { Shelves (S.sets shelf.old) (Switch set) result (S.sets shelf.new) }
+    {
+        if MOST_ENTRIES <= self.history.len() {
+            return Outcome::Full;
+        }
+        if self.history.reserve().is_err() {
+            return Outcome::Memory;
+        }
+        let switched = switch_set(
+            alloc,
+            &mut self.register,
+            &mut self.history,
+            session,
+            number,
+            set,
+            shelf,
+        );
+        let reply = match switched {
+            Ok(reply) => reply,
+            Err(Fault::Memory) => return Outcome::Memory,
+            Err(Fault::Refused(_)) => unreachable!(),
+        };
+        let own = session.number() as usize - 1;
+        self.counts[own] = number;
+        Outcome::Done(self.history.len() as u64, reply)
     }
 }
 
@@ -125,8 +174,9 @@ fn write(
     reply: &Reply,
 ) -> Outcome
     requires room { history.old.reserved ≡ true }
+    requires number { number ≤ 1000000 }
     ensures outcome { result ≡ Done (length history.new.entries) reply.now }
-    ensures entry { history.new.entries ≡ history.old.entries ++ entry session number command.now reply.now ∷ [] }
+    ensures entry { history.new.entries ≡ history.old.entries ++ entry session number (Asked command.now) reply.now ∷ [] }
 {
     history.push(session, number, command, reply);
     Outcome::Done(history.len() as u64, *reply)

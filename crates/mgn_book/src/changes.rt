@@ -1,19 +1,19 @@
-ghost use Rattle.std.specs.Prelude.{◌≡◌, ◌<◌, ◌≤◌, ◌-ℤ◌, pos, Ok, OnOk, OnErr, false, true, length};
-ghost use Rattle.mgn_lots.specs.Refusals.{has_number, is_full};
+ghost use Rattle.std.specs.Prelude.{◌≡◌, ◌≢◌, ◌<◌, ◌≤◌, ◌-ℤ◌, pos, Ok, Err, IsOk, OnOk, OnErr, false, true, length};
+ghost use Rattle.mgn_lots.specs.Lots.{has_number, is_full, IsLot, is_live, lot_at};
 ghost use Rattle.mgn_machine.specs.State.{account_at, put, with_lot, with_bust, with_amount, traded_lot};
-ghost use Rattle.mgn_coll.specs.Posted.{IsPosted, most_of, value};
-ghost use Rattle.mgn_machine.specs.Rows.{IsRow, IsChange, IsRoomy, Prices, row_with, row_with_worth};
-ghost use Rattle.mgn_machine.specs.declared.row.Priced.{Priced};
+ghost use Rattle.mgn_coll.specs.Posted.{IsPosted, amount_of, most_of, value};
+ghost use Rattle.mgn_unit.specs.Rows.{IsRow, IsChange, IsRoomy, Prices, row_with, row_with_worth};
+ghost use Rattle.mgn_unit.specs.declared.row.Priced.{Priced};
 ghost use Rattle.mgn_machine.specs.Step.{traded, undone, posted, drawn};
-ghost use Rattle.mgn_lots.specs.Lots.{IsLot, is_live, lot_at};
-ghost use Rattle.mgn_book.specs.Floors.{IsKept, Steps};
+ghost use Rattle.mgn_book.specs.BookStates.{IsKept, Steps};
 
 use crate::fault::Fault;
 use crate::register::Register;
 use mgn_ids::{AccountName, ClassName, ContractName, LotId, LotQuantity, Premium, Units};
 use mgn_lots::{Lot, Mark};
-use mgn_machine::{Account, Change, Refusal, Row};
+use mgn_machine::Refusal;
 use mgn_params::{ParamSet, Work};
+use mgn_unit::{Account, Change, Row};
 use std::alloc::{AllocError, Global};
 
 // A lot as it is traded.
@@ -69,7 +69,7 @@ impl Register {
         Ok(())
     }
 
-    /// A traded lot is taken back.
+    /// A traded lot is busted.
     pub fn bust(
         &mut self,
         alloc: Global,
@@ -119,7 +119,7 @@ impl Register {
         }
     }
 
-    /// Cash or units of a class are drawn, where the unit has room without them.
+    /// Cash or units of a class are drawn, where the unit has room without them. It takes no memory.
     pub fn draw(
         &mut self,
         set: &ParamSet,
@@ -130,17 +130,18 @@ impl Register {
         requires kept { IsKept set.now self.old }
         ensures kept { IsKept set.now self.new }
         ensures steps { Steps (drawn set.now self.old.state account class.now units) result self.old self.new }
+        ensures no_memory { result ≢ Err Fault.Memory }
     {
         let (place, amount) = match self.draw_place(set, account, class, units) {
             Ok(found) => found,
             Err(why) => return Err(Fault::Refused(why)),
         };
-        if self.is_short_with(set, place, class, amount) {
+        if self.lacks_room_with(set, place, class, amount) {
             return Err(Fault::Refused(Refusal::NoRoom));
         }
         match self.write_amount(set, place, class, amount) {
             Ok(()) => Ok(()),
-            Err(_) => Err(Fault::Memory),
+            Err(_) => unreachable!(),
         }
     }
 
@@ -158,6 +159,7 @@ impl Register {
         ensures kept { IsKept set.now self.new }
         ensures written { OnOk result (self.new.state ≡ put self.old.state place (with_amount (account_at self.old.state.accounts place) class.now amount)) }
         ensures same { OnErr result (self.new ≡ self.old) }
+        ensures posted { 1 ≤ amount_of class.now (account_at self.old.state.accounts place).collateral → IsOk result }
     {
         set.limits();
         let owner = &mut self.accounts[place];
@@ -167,7 +169,7 @@ impl Register {
     }
 }
 
-// A live lot of an account taken back, and its change in the row of the unit; at an error nothing has changed in either.
+// A live lot of an account busted, and its change in the row of the unit; at an error nothing has changed in either.
 fn bust_lot(
     alloc: Global,
     set: &ParamSet,
@@ -209,10 +211,10 @@ fn write_amount(
     ensures gained { OnOk result (row.new ≡ row_with_worth (pos (value set.now.classes owner.new.collateral) -ℤ pos (value set.now.classes owner.old.collateral)) row.old) }
     ensures same_account { OnErr result (owner.new ≡ owner.old) }
     ensures same_row { OnErr result (row.new ≡ row.old) }
+    ensures posted { 1 ≤ amount_of class.now owner.old.collateral → IsOk result }
 {
     let before = owner.collateral_value(set);
     owner.write_amount(class, amount)?;
-    owner.collateral_limits();
     let after = owner.collateral_value(set);
     row.gain_worth(set, after.minus(before));
     Ok(())

@@ -1,26 +1,38 @@
-ghost use Rattle.std.specs.Prelude.{◌≡◌, ◌<◌, ◌≤◌, ◌++◌, ◌∷◌, [], length, vec_capacity, vec_len, IsOk, OnOk, true};
+ghost use Rattle.std.specs.Prelude.{◌≡◌, ◌<◌, ◌≤◌, ◌++◌, ◌∷◌, [], length, vec_capacity, vec_len, IfOk, IsOk, OnErr, OnOk, ℕ, true};
+ghost use Rattle.mgn_machine.specs.declared.request.Recorded.TheVariants.{Asked, InForce};
 ghost use Rattle.mgn_machine.specs.History.{entry};
-ghost use Rattle.mgn_book.specs.History.{figures_of, needed, reply_of};
+ghost use Rattle.mgn_book.specs.History.{figures_needed, figures_of, recorded_of, reply_of, sets_needed, sets_of};
 
 use mgn_ids::SessionNo;
-use mgn_machine::{Command, Figures, Refusal, Reply};
+use mgn_machine::{Command, Figures, NewSet, Recorded, Refusal, Reply};
+use mgn_params::{ParamSet, Version};
 use std::alloc::{AllocError, Global};
 use std::marker::Model;
+
+// A request, with the place of its set in a list of them where it was refused.
+#[derive(Clone, Copy)]
+pub(crate) enum StoredRequest {
+    Asked(Command),
+    InForce(Version),
+    SetRefused(usize),
+}
 
 // A reply, with the place of its figures in a list of them.
 #[derive(Clone, Copy)]
 pub(crate) enum StoredReply {
     Done,
     At(usize),
+    NewSet(NewSet),
     Refused(Refusal),
 }
 
-// An entry without its figures, which few entries have, and which would take as much memory as all the rest of it.
+// An entry without its figures and its set, which few entries have, and which would take more memory than all the rest
+// of it.
 #[derive(Clone, Copy)]
 pub(crate) struct StoredEntry {
     pub session: SessionNo,
-    pub number: u64,
-    pub command: Command,
+    pub number: u32,
+    pub request: StoredRequest,
     pub reply: StoredReply,
 }
 
@@ -30,6 +42,7 @@ pub(crate) struct StoredEntry {
 pub(crate) struct History {
     entries: Vec<StoredEntry>,
     figures: Vec<Figures>,
+    refused: Vec<ParamSet>,
 }
 
 impl Model for History {
@@ -38,9 +51,9 @@ impl Model for History {
 
     ghost Value = { EntryList };
 
-    ghost view = { λ h. record { entries = map (entry_of h.figures.items) h.entries.items; reserved = nat_lt (vec_len h.entries) (vec_capacity h.entries) && nat_lt (vec_len h.figures) (vec_capacity h.figures) } };
+    ghost view = { λ h. record { entries = map (entry_of h.figures.items h.refused.items) h.entries.items; reserved = nat_lt (vec_len h.entries) (vec_capacity h.entries) && nat_lt (vec_len h.figures) (vec_capacity h.figures) } };
 
-    ghost invariant = { λ h. AreShown (length h.figures.items) h.entries.items };
+    ghost invariant = { λ h. AreShown (length h.figures.items) (length h.refused.items) h.entries.items };
 }
 
 impl History {
@@ -51,6 +64,7 @@ impl History {
         History {
             entries: Vec::new(alloc),
             figures: Vec::new(alloc),
+            refused: Vec::new(alloc),
         }
     }
 
@@ -70,18 +84,66 @@ impl History {
         self.figures.reserve(1)
     }
 
-    /// Writes an entry for which memory is reserved.
+    /// Writes the entry of a command for which memory is reserved.
     pub fn push(&mut self, session: SessionNo, number: u64, command: &Command, reply: &Reply)
         requires reserved { self.old.reserved ≡ true }
-        ensures { self.new.entries ≡ self.old.entries ++ entry session number command.now reply.now ∷ [] }
+        requires number { number ≤ 1000000 }
+        ensures { self.new.entries ≡ self.old.entries ++ entry session number (Asked command.now) reply.now ∷ [] }
     {
         let reply = store(&mut self.figures, reply);
         self.entries.push_reserved(StoredEntry {
             session,
-            number,
-            command: *command,
+            number: number as u32,
+            request: StoredRequest::Asked(*command),
             reply,
         });
+    }
+
+    /// Writes the entry of a switch for which memory is reserved. A set that was refused is kept, and where there is no
+    /// memory for that nothing has changed.
+    pub fn push_switch(
+        &mut self,
+        session: SessionNo,
+        number: u64,
+        request: Recorded,
+        reply: &Reply,
+    ) -> Result<(), AllocError>
+        requires reserved { self.old.reserved ≡ true }
+        requires number { number ≤ 1000000 }
+        ensures ok { OnOk result (self.new.entries ≡ self.old.entries ++ entry session number request reply.now ∷ []) }
+        ensures err { OnErr result (self.new.entries ≡ self.old.entries) }
+        ensures in_force { (version : ℕ) → request ≡ InForce version → IsOk result }
+    {
+        let request = store_request(&mut self.refused, request)?;
+        let reply = store(&mut self.figures, reply);
+        self.entries.push_reserved(StoredEntry {
+            session,
+            number: number as u32,
+            request,
+            reply,
+        });
+        Ok(())
+    }
+}
+
+// Puts a set that was refused at the end of a list. Without memory for that the list is as it was.
+fn store_request(
+    refused: &mut Vec<ParamSet>,
+    request: Recorded,
+) -> Result<StoredRequest, AllocError>
+    ensures grown { OnOk result (refused.new.items ≡ refused.old.items ++ sets_of request) }
+    ensures needed { IfOk result (λ stored. sets_needed stored ≤ length refused.new.items) }
+    ensures request { IfOk result (λ stored. recorded_of refused.new.items stored ≡ request) }
+    ensures err { OnErr result (refused.new.items ≡ refused.old.items) }
+    ensures in_force { (version : ℕ) → request ≡ InForce version → IsOk result }
+{
+    match request {
+        Recorded::Asked(command) => Ok(StoredRequest::Asked(command)),
+        Recorded::InForce(version) => Ok(StoredRequest::InForce(version)),
+        Recorded::SetRefused(set) => {
+            refused.push(set)?;
+            Ok(StoredRequest::SetRefused(refused.len() - 1))
+        }
     }
 }
 
@@ -89,7 +151,7 @@ impl History {
 fn store(figures: &mut Vec<Figures>, reply: &Reply) -> StoredReply
     requires room { vec_len figures.old < vec_capacity figures.old }
     ensures grown { figures.new.items ≡ figures.old.items ++ figures_of reply.now }
-    ensures needed { needed result ≤ length figures.new.items }
+    ensures needed { figures_needed result ≤ length figures.new.items }
     ensures reply { reply_of figures.new.items result ≡ reply.now }
 {
     match *reply {
@@ -98,6 +160,7 @@ fn store(figures: &mut Vec<Figures>, reply: &Reply) -> StoredReply
             figures.push_reserved(told);
             StoredReply::At(figures.len() - 1)
         }
+        Reply::NewSet(told) => StoredReply::NewSet(told),
         Reply::Refused(why) => StoredReply::Refused(why),
     }
 }

@@ -1,26 +1,24 @@
 ghost use Rattle.std.specs.Prelude.{◌≡◌, ◌<◌, ◌≤◌, ◌^◌, IfOk, IfErr, OnOk, OnErr, Ok, false, true, length};
 ghost use Rattle.mgn_params.specs.Limits.{IsWithinLimits};
-ghost use Rattle.mgn_lots.specs.Lots.{IsLot};
-ghost use Rattle.mgn_lots.specs.Refusals.{has_number, is_full};
-ghost use Rattle.mgn_holds.specs.Holds.{IsHeld, has_order, hold_at, place_of_order};
-ghost use Rattle.mgn_holds.specs.Refusals.{is_full as holds_full, covers, meets_limit};
-ghost use Rattle.mgn_machine.specs.declared.row.Priced.{Priced};
+ghost use Rattle.mgn_lots.specs.Lots.{IsLot, has_number, is_full};
+ghost use Rattle.mgn_holds.specs.Holds.{IsHeld, has_order, hold_at, place_of_order, is_full as holds_full, covers, meets_limit};
+ghost use Rattle.mgn_unit.specs.declared.row.Priced.{Priced};
 ghost use Rattle.mgn_machine.specs.State.{account_at};
 ghost use Rattle.mgn_machine.specs.Refusals.{contract_of, is_over, found};
-ghost use Rattle.mgn_machine.specs.Rows.{IsRow, IsChange, IsRoomy, Prices, row_with};
+ghost use Rattle.mgn_unit.specs.Rows.{IsRow, IsChange, IsRoomy, Prices, row_with};
 ghost use Rattle.mgn_machine.specs.Holding.{entered, filled, released, hold_places, fill_places, release_places, new_hold, with_hold, without_hold, with_fill, premium_fits_at};
-ghost use Rattle.mgn_book.specs.Floors.{IsKept, Steps};
-ghost use Rattle.mgn_book.specs.Holding.{AsksRoom};
+ghost use Rattle.mgn_book.specs.BookStates.{IsKept, Steps};
+ghost use Rattle.mgn_book.specs.RoomAsked.{AsksRoom};
 
 use crate::changes::traded_lot;
 use crate::fault::Fault;
 use crate::register::{Register, contract_of, is_over, known_contract, premium_fits, refuse_if};
 use mgn_holds::Held;
-use mgn_holds::fills::{covers, meets_limit};
 use mgn_ids::{AccountName, ContractName, LotId, LotQuantity, OrderId, Premium};
 use mgn_lots::Lot;
-use mgn_machine::{Account, Change, Refusal, Row};
+use mgn_machine::Refusal;
 use mgn_params::{ParamSet, Work};
+use mgn_unit::{Account, Change, Row};
 use std::alloc::{AllocError, Global};
 
 // An order as it is entered.
@@ -75,6 +73,7 @@ impl Register {
         ensures account { IfOk result (λ at. at.0 < length self.now.state.accounts) }
         ensures contract { IfOk result (λ at. at.1 < length set.now.contracts) }
         ensures stands { IfOk result (λ at. contract_of set.now contract ≡ Ok at.1) }
+        ensures fresh { IfOk result (λ at. has_order (account_at self.now.state.accounts at.0).holds order ≡ false) }
         ensures few { IfOk result (λ at. holds_full (account_at self.now.state.accounts at.0).holds ≡ false) }
         ensures room { IfOk result (λ at. is_over self.now.state at.0 contract quantity ≡ false) }
     {
@@ -173,10 +172,10 @@ impl Register {
         refuse_if(owner.has_lot(lot), Refusal::Duplicate)?;
         let hold = order_place(owner, order)?;
         let held = owner.hold_at(hold);
-        refuse_if(!meets_limit(held, premium.cents()), Refusal::Premium)?;
+        refuse_if(!held.meets_limit(premium.cents()), Refusal::Premium)?;
         let i = contract_of(set, held.contract);
         refuse_if(!premium_fits_at(set, i, premium), Refusal::Premium)?;
-        refuse_if(!covers(held, quantity.quantity()), Refusal::Over)?;
+        refuse_if(!held.covers(quantity.quantity()), Refusal::Over)?;
         refuse_if(owner.is_full(), Refusal::Limit)?;
         Ok((place, hold))
     }
@@ -257,6 +256,7 @@ fn enter_hold(
     requires change { IsChange set.now change.now }
     requires roomy { IsRoomy change.now row.old }
     requires held { IsHeld held.now }
+    requires fresh { has_order owner.old.holds held.now.order ≡ false }
     requires few { holds_full owner.old.holds ≡ false }
     ensures added { OnOk result (owner.new ≡ with_hold owner.old held.now) }
     ensures changed { OnOk result (row.new ≡ row_with set.now change.now row.old) }
@@ -268,7 +268,7 @@ fn enter_hold(
     let Ok(priced) = row.priced_with(alloc, set, change, &mut Work::new()) else {
         return Err(Fault::Memory);
     };
-    if row.is_short_after(set, change, &priced) {
+    if row.lacks_room_after(set, change, &priced) {
         return Err(Fault::Refused(Refusal::NoRoom));
     }
     if owner.add_hold(held).is_err() {

@@ -6,11 +6,12 @@ pub mod changes;
 pub mod fault;
 mod history;
 pub mod holds;
+mod in_force;
+pub mod laws;
 pub mod origins;
 pub mod register;
 pub mod step;
-#[cfg(test)]
-mod tests;
+pub mod switch;
 
 pub use book::{Book, Outcome};
 pub use fault::Fault;

@@ -1,17 +1,18 @@
 ghost use Rattle.std.specs.Prelude.{◌≡◌, ◌<◌, ◌++◌, ◌∷◌, [], All, IfOk, IfSome, OnOk, OnErr, Ok, None, Some, false, length, position, ℕ};
 ghost use Rattle.std.specs.List.{list_any};
 ghost use Rattle.std.specs.Str.{bytes_eq};
-ghost use Rattle.mgn_machine.specs.Refusals.{account_names, has_origin, is_net, origin_fits, open_unit, unit_of_origin};
+ghost use Rattle.mgn_machine.specs.Refusals.{account_names, has_origin, home_of, is_net, open_home, origin_fits};
 ghost use Rattle.mgn_machine.specs.Step.{originated, opened, with_account};
-ghost use Rattle.mgn_machine.specs.Rows.{no_row};
+ghost use Rattle.mgn_unit.specs.Rows.{no_row};
 ghost use Rattle.mgn_machine.specs.declared.command.Mode.TheVariants.{Net};
-ghost use Rattle.mgn_book.specs.Floors.{IsKept, Steps};
+ghost use Rattle.mgn_book.specs.BookStates.{IsKept, Steps};
 
 use crate::fault::Fault;
 use crate::register::{Register, refuse_if};
 use mgn_ids::{AccountName, OriginName};
-use mgn_machine::{Account, Mode, Origin, Refusal, Row};
+use mgn_machine::{Mode, Origin, Refusal};
 use mgn_params::ParamSet;
+use mgn_unit::{Account, Row};
 use std::alloc::{AllocError, Global};
 
 /// How many origins, accounts and units there may be.
@@ -43,14 +44,18 @@ fn origin_place(origins: &[Origin], name: OriginName) -> Option<usize>
     origins.iter().position(|origin| origin.name == name)
 }
 
-// The unit of an origin's accounts, if it is netted.
-#[tactic(auto, unfolding(mgn_machine::specs::Refusals::unit_of_origin))]
-fn unit_of_origin(origins: &[Origin], name: OriginName) -> Result<Option<usize>, Refusal>
-    ensures unit { result ≡ unit_of_origin origins.now name }
-    ensures within { (n : ℕ) → All (λ o. IfSome o.unit (λ u. u < n)) origins.now → IfOk result (λ unit. IfSome unit (λ u. u < n)) }
+/// Where an origin stands, and the unit of all its accounts, if it is netted.
+type Home = (usize, Option<usize>);
+
+// Where an origin stands, and the unit of its accounts, if it is netted.
+#[tactic(auto, unfolding(mgn_machine::specs::Refusals::home_of))]
+fn home_of(origins: &[Origin], name: OriginName) -> Result<Home, Refusal>
+    ensures home { result ≡ home_of origins.now name }
+    ensures there { IfOk result (λ home. home.0 < length origins.now) }
+    ensures within { (n : ℕ) → All (λ o. IfSome o.unit (λ u. u < n)) origins.now → IfOk result (λ home. IfSome home.1 (λ u. u < n)) }
 {
     match origin_place(origins, name) {
-        Some(place) => Ok(origins[place].unit),
+        Some(place) => Ok((place, origins[place].unit)),
         None => Err(Refusal::NoOrigin),
     }
 }
@@ -80,23 +85,24 @@ impl Register {
         self.names.has(name)
     }
 
-    #[tactic(auto, unfolding(mgn_machine::specs::Refusals::open_unit))]
-    fn open_unit(&self, name: AccountName, origin: OriginName) -> Result<Option<usize>, Refusal>
-        ensures unit { result ≡ open_unit self.now.state name origin }
+    #[tactic(auto, unfolding(mgn_machine::specs::Refusals::open_home))]
+    fn open_home(&self, name: AccountName, origin: OriginName) -> Result<Home, Refusal>
+        ensures home { result ≡ open_home self.now.state name origin }
         ensures fresh { OnOk result (list_any (bytes_eq name) (account_names self.now.state.accounts) ≡ false) }
         ensures few { OnOk result (length self.now.state.accounts < 1024) }
-        ensures few_units { result ≡ Ok None → self.now.state.units < 1024 }
-        ensures within { (n : ℕ) → All (λ o. IfSome o.unit (λ u. u < n)) self.now.state.origins → IfOk result (λ unit. IfSome unit (λ u. u < n)) }
+        ensures few_units { IfOk result (λ home. home.1 ≡ None → self.now.state.units < 1024) }
+        ensures there { IfOk result (λ home. home.0 < length self.now.state.origins) }
+        ensures within { (n : ℕ) → All (λ o. IfSome o.unit (λ u. u < n)) self.now.state.origins → IfOk result (λ home. IfSome home.1 (λ u. u < n)) }
     {
         refuse_if(self.closed, Refusal::Closed)?;
-        let unit = unit_of_origin(self.origins.as_slice(), origin)?;
+        let home = home_of(self.origins.as_slice(), origin)?;
         refuse_if(self.has_account(name), Refusal::Duplicate)?;
         refuse_if(MOST_ACCOUNTS <= self.accounts.len(), Refusal::Limit)?;
         refuse_if(
-            unit.is_none() && MOST_UNITS <= self.rows.len(),
+            home.1.is_none() && MOST_UNITS <= self.rows.len(),
             Refusal::Limit,
         )?;
-        Ok(unit)
+        Ok(home)
     }
 
     /// An origin more; a netted one makes its unit.
@@ -148,13 +154,13 @@ impl Register {
         ensures kept { IsKept set.now self.new }
         ensures steps { Steps (opened self.old.state name origin) result self.old self.new }
     {
-        let unit = match self.open_unit(name, origin) {
-            Ok(unit) => unit,
+        let (place, unit) = match self.open_home(name, origin) {
+            Ok(home) => home,
             Err(why) => return Err(Fault::Refused(why)),
         };
         let opened = match unit {
-            Some(unit) => self.open_in(alloc, set, name, unit),
-            None => self.open_own(alloc, set, name),
+            Some(unit) => self.open_in(alloc, set, name, place, unit),
+            None => self.open_own(alloc, set, name, place),
         };
         match opened {
             Ok(()) => Ok(()),
@@ -168,20 +174,22 @@ impl Register {
         alloc: Global,
         set: &ParamSet,
         name: AccountName,
+        origin: usize,
         unit: usize,
     ) -> Result<(), AllocError>
         requires kept { IsKept set.now self.old }
         requires fresh { list_any (bytes_eq name) (account_names self.old.state.accounts) ≡ false }
         requires few { length self.old.state.accounts < 1024 }
+        requires home { origin < length self.old.state.origins }
         requires unit { unit < length self.old.rows }
         ensures kept { IsKept set.now self.new }
-        ensures ok { OnOk result (self.new.state ≡ with_account self.old.state name (Some unit)) }
+        ensures ok { OnOk result (self.new.state ≡ with_account self.old.state name (origin, Some unit)) }
         ensures err { OnErr result (self.new ≡ self.old) }
     {
         self.accounts.reserve(1)?;
         self.names.push(name)?;
         self.accounts
-            .push_reserved(Account::open(alloc, name, unit));
+            .push_reserved(Account::open(alloc, name, origin, unit));
         Ok(())
     }
 
@@ -191,13 +199,15 @@ impl Register {
         alloc: Global,
         set: &ParamSet,
         name: AccountName,
+        origin: usize,
     ) -> Result<(), AllocError>
         requires kept { IsKept set.now self.old }
         requires fresh { list_any (bytes_eq name) (account_names self.old.state.accounts) ≡ false }
         requires few { length self.old.state.accounts < 1024 }
+        requires home { origin < length self.old.state.origins }
         requires few_units { length self.old.rows < 1024 }
         ensures kept { IsKept set.now self.new }
-        ensures ok { OnOk result (self.new.state ≡ with_account self.old.state name None) }
+        ensures ok { OnOk result (self.new.state ≡ with_account self.old.state name (origin, None)) }
         ensures err { OnErr result (self.new ≡ self.old) }
     {
         let unit = self.rows.len();
@@ -207,7 +217,7 @@ impl Register {
         self.names.push(name)?;
         self.rows.push_reserved(row);
         self.accounts
-            .push_reserved(Account::open(alloc, name, unit));
+            .push_reserved(Account::open(alloc, name, origin, unit));
         Ok(())
     }
 }

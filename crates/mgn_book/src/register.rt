@@ -1,20 +1,22 @@
 ghost use Rattle.std.specs.Prelude.{◌≡◌, ◌<◌, ◌≤◌, ◌≤ℤ◌, ◌+ℤ◌, ◌^◌, ◌==◌, ◌||◌, IfOk, OnOk, Ok, [], length, pos, false, true, unsigned_abs, int_lt};
 ghost use Rattle.mgn_params.specs.Tables.{contract_at, is_premium};
-ghost use Rattle.mgn_lots.specs.Refusals.{has_number, is_full};
+ghost use Rattle.mgn_lots.specs.Lots.{has_number, is_busted, is_full, is_live, is_moved, lot_at, place_of_lot};
+ghost use Rattle.mgn_machine.specs.declared.reply.Refusal.TheVariants.{NoTrade};
 ghost use Rattle.mgn_machine.specs.State.{account_at, put, with_amount};
-ghost use Rattle.mgn_machine.specs.Refusals.{place_of, contract_of, has_contract, premium_fits, refuse_if, is_over, lot_places, trade_places, unit_size, bust_refusal, bust_places, post_refusal, post_place, draw_refusal, draw_place};
-ghost use Rattle.mgn_lots.specs.Lots.{is_live, lot_at};
-ghost use Rattle.mgn_coll.specs.Posted.{most_of};
-ghost use Rattle.mgn_params.specs.Positions.{IsNet};
-ghost use Rattle.mgn_machine.specs.Rows.{row_of, room_of, least_side, IsRow};
-ghost use Rattle.mgn_book.specs.Floors.{IsKept, floor};
+ghost use Rattle.mgn_machine.specs.Refusals.{place_of, contract_of, has_contract, premium_fits, found, refuse_if, is_over, lot_places, trade_places, unit_size, bust_places, post_place, draw_place};
+ghost use Rattle.mgn_coll.specs.Posted.{amount_of, most_of};
+ghost use Rattle.mgn_span.specs.Positions.{IsNet};
+ghost use Rattle.mgn_machine.specs.Room.{unit_room};
+ghost use Rattle.mgn_unit.specs.Rows.{row_of, IsRow};
+ghost use Rattle.mgn_book.specs.BookStates.{IsKept, book_state};
 
-use mgn_coll::{DrawFault, PostFault};
+use mgn_coll::{is_known, most_of};
 use mgn_ids::{AccountName, ClassName, ContractName, LotId, LotQuantity, Places, Premium, Units};
-use mgn_lots::{Mark, RemoveFault};
-use mgn_machine::{Account, Origin, Refusal, Row};
+use mgn_lots::Mark;
+use mgn_machine::{Origin, Refusal};
 use mgn_num::Quantity;
 use mgn_params::{ParamSet, Style, Version};
+use mgn_unit::{Account, Row};
 use std::alloc::Global;
 use std::marker::Model;
 
@@ -34,12 +36,12 @@ pub struct Register {
 
 impl Model for Register {
     ghost use Rattle.std.specs.Prelude.{◌≡◌};
-    ghost use Rattle.mgn_book.specs.Floors.{Floor, floor};
+    ghost use Rattle.mgn_book.specs.BookStates.{BookState, book_state};
     ghost use Rattle.mgn_machine.specs.Refusals.{account_names};
 
-    ghost Value = { Floor };
+    ghost Value = { BookState };
 
-    ghost view = { λ r. floor r.origins.items r.accounts.items r.rows.items r.closed r.version };
+    ghost view = { λ r. book_state r.origins.items r.accounts.items r.rows.items r.closed r.version };
 
     ghost invariant = { λ r. r.names ≡ account_names r.accounts.items };
 }
@@ -94,10 +96,33 @@ fn is_premium(style: Style) -> bool
     }
 }
 
+// Where the lot of a number stands among the lots of an account.
+fn lot_place(owner: &Account, number: LotId) -> Result<usize, Refusal>
+    ensures place { result ≡ found (place_of_lot owner.now.lots number) NoTrade }
+    ensures within { IfOk result (λ i. i < length owner.now.lots) }
+{
+    match owner.lot_place(number) {
+        Some(place) => Ok(place),
+        None => Err(Refusal::NoTrade),
+    }
+}
+
+fn is_busted(mark: Mark) -> bool
+    ensures { result ≡ is_busted mark }
+{
+    matches!(&mark, Mark::Busted)
+}
+
+fn is_moved(mark: Mark) -> bool
+    ensures { result ≡ is_moved mark }
+{
+    matches!(&mark, Mark::Moved)
+}
+
 impl Register {
     /// The machine before its first command, under a version. Takes no memory.
     pub fn new(alloc: Global, version: Version) -> Register
-        ensures empty { result ≡ floor [] [] [] false version }
+        ensures empty { result ≡ book_state [] [] [] false version }
     {
         Register {
             origins: Vec::new(alloc),
@@ -210,7 +235,7 @@ impl Register {
         Ok((place, i))
     }
 
-    // Where an account and its traded lot stand, if the lot can be taken back.
+    // Where an account and its traded lot stand, if the lot can be busted.
     #[tactic(auto, unfolding(mgn_machine::specs::Refusals::bust_places))]
     pub(crate) fn bust_places(
         &self,
@@ -220,12 +245,15 @@ impl Register {
         ensures places { result ≡ bust_places self.now.state account lot }
         ensures account { IfOk result (λ at. at.0 < length self.now.state.accounts) }
         ensures lot { IfOk result (λ at. at.1 < length (account_at self.now.state.accounts at.0).lots) }
-        ensures traded { IfOk result (λ at. (lot_at (account_at self.now.state.accounts at.0).lots at.1).mark ≡ Mark.Traded) }
+        ensures live { IfOk result (λ at. is_live (lot_at (account_at self.now.state.accounts at.0).lots at.1).mark ≡ true) }
     {
         refuse_if(self.closed, Refusal::Closed)?;
         let place = self.place(account)?;
         let owner = &self.accounts[place];
-        let at = bust_refusal(owner.traded_place(lot))?;
+        let at = lot_place(owner, lot)?;
+        let mark = owner.lot_at(at).mark;
+        refuse_if(is_busted(mark), Refusal::NoTrade)?;
+        refuse_if(is_moved(mark), Refusal::Moved)?;
         Ok((place, at))
     }
 
@@ -256,8 +284,9 @@ impl Register {
     {
         refuse_if(self.closed, Refusal::Closed)?;
         let place = self.place(account)?;
-        let owner = &self.accounts[place];
-        let amount = post_refusal(owner.amount_posted(set, class, units))?;
+        refuse_if(!is_known(set, class), Refusal::NoClass)?;
+        let amount = self.accounts[place].amount(class) + units.number();
+        refuse_if(most_of(class) < amount, Refusal::Limit)?;
         Ok((place, amount))
     }
 
@@ -273,16 +302,18 @@ impl Register {
         ensures place { result ≡ draw_place set.now self.now.state account class.now units }
         ensures account { IfOk result (λ at. at.0 < length self.now.state.accounts) }
         ensures most { IfOk result (λ at. at.1 ≤ most_of class.now) }
+        ensures some { IfOk result (λ at. 1 ≤ amount_of class.now (account_at self.now.state.accounts at.0).collateral) }
     {
         refuse_if(self.closed, Refusal::Closed)?;
         let place = self.place(account)?;
-        let owner = &self.accounts[place];
-        let amount = draw_refusal(owner.amount_left(set, class, units))?;
-        Ok((place, amount))
+        refuse_if(!is_known(set, class), Refusal::NoClass)?;
+        let there = self.accounts[place].amount(class);
+        refuse_if(there < units.number(), Refusal::Over)?;
+        Ok((place, there - units.number()))
     }
 
     // Whether an account's unit would have room below 0 with another amount of a class.
-    pub(crate) fn is_short_with(
+    pub(crate) fn lacks_room_with(
         &self,
         set: &ParamSet,
         place: usize,
@@ -292,45 +323,13 @@ impl Register {
         requires kept { IsKept set.now self.now }
         requires place { place < length self.now.state.accounts }
         requires most { amount ≤ most_of class.now }
-        ensures { result ≡ int_lt (room_of (least_side (row_of set.now (put self.now.state place (with_amount (account_at self.now.state.accounts place) class.now amount)).accounts (account_at self.now.state.accounts place).unit))) (pos 0) }
+        ensures { result ≡ int_lt (unit_room set.now (put self.now.state place (with_amount (account_at self.now.state.accounts place) class.now amount)).accounts (account_at self.now.state.accounts place).unit) (pos 0) }
     {
         let owner = &self.accounts[place];
         let before = owner.collateral_value(set);
         let after = owner.value_with(set, class, amount);
-        self.row(set, place).is_short_with(set, after.minus(before))
-    }
-}
-
-// The refusal of a lot that cannot be taken back.
-fn bust_refusal(place: Result<usize, RemoveFault>) -> Result<usize, Refusal>
-    ensures { result ≡ bust_refusal place }
-{
-    match place {
-        Ok(at) => Ok(at),
-        Err(RemoveFault::NoLot) => Err(Refusal::NoTrade),
-        Err(RemoveFault::Moved) => Err(Refusal::Moved),
-    }
-}
-
-// The refusal of what cannot be drawn.
-fn draw_refusal(left: Result<u64, DrawFault>) -> Result<u64, Refusal>
-    ensures { result ≡ draw_refusal left }
-{
-    match left {
-        Ok(amount) => Ok(amount),
-        Err(DrawFault::NoClass) => Err(Refusal::NoClass),
-        Err(DrawFault::Over) => Err(Refusal::Over),
-    }
-}
-
-// The refusal of what cannot be posted. Want of memory is none.
-fn post_refusal(amount: Result<u64, PostFault>) -> Result<u64, Refusal>
-    ensures { result ≡ post_refusal amount }
-{
-    match amount {
-        Ok(amount) => Ok(amount),
-        Err(PostFault::NoClass) => Err(Refusal::NoClass),
-        Err(PostFault::Limit) | Err(PostFault::Memory) => Err(Refusal::Limit),
+        self.row(set, place)
+            .lacks_room_with(set, after.minus(before))
     }
 }
 

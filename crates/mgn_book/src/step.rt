@@ -1,6 +1,6 @@
-ghost use Rattle.std.specs.Prelude.{◌≡◌};
+ghost use Rattle.std.specs.Prelude.{◌≡◌, ◌≢◌};
 ghost use Rattle.mgn_machine.specs.Step.{step_under, told, asked, ended};
-ghost use Rattle.mgn_book.specs.Floors.{IsKept, Steps, Replies, answer_of};
+ghost use Rattle.mgn_book.specs.BookStates.{IsKept, Steps, Replies, answer_of};
 
 use crate::fault::Fault;
 use crate::register::{Register, refuse_if};
@@ -11,6 +11,7 @@ use std::alloc::Global;
 
 impl Register {
     /// The figures of an account's unit.
+    #[tactic(auto, using(mgn_unit::proofs::Least::figures_of_row))]
     pub fn ask(&self, set: &ParamSet, account: AccountName) -> Reply
         requires kept { IsKept set.now self.now }
         ensures { result ≡ told (asked set.now self.now.state account) }
@@ -21,11 +22,12 @@ impl Register {
         }
     }
 
-    /// The day ends.
+    /// The day ends. It takes no memory.
     pub fn end(&mut self, set: &ParamSet) -> Result<(), Fault>
         requires kept { IsKept set.now self.old }
         ensures kept { IsKept set.now self.new }
         ensures steps { Steps (ended self.old.state) result self.old self.new }
+        ensures no_memory { result ≢ Err Fault.Memory }
     {
         match refuse_if(self.closed, Refusal::Closed) {
             Ok(()) => {}
@@ -47,7 +49,7 @@ fn answer_of(done: Result<(), Fault>) -> Result<Reply, Fault>
     }
 }
 
-/// One step of the machine under a set; at want of memory nothing has changed.
+/// One step of the machine under a set; where memory is refused nothing has changed.
 #[tactic(auto, using(crate::proofs::Steps::answered_by))]
 pub fn step(
     register: &mut Register,

@@ -1,2 +1,1 @@
 pub mod Posted
-pub mod Refusals

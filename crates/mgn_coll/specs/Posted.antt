@@ -25,6 +25,10 @@ is_cash name = bytes_eq name (67 ∷ 65 ∷ 83 ∷ 72 ∷ [])
 abbrev pub units_of : List ℕ → List (List ℕ × ℕ) → ℕ
 units_of name units = unwrap_or (lookup (bytes_eq name) units) 0
 
+-- units of a class were written, be they 0 now
+abbrev pub has_entry : List ℕ → Posted → Bool
+has_entry name p = is_some (lookup (bytes_eq name) p.units)
+
 -- what is posted by a name: cents of cash, or units
 abbrev pub amount_of : List ℕ → Posted → ℕ
 amount_of name p = if is_cash name then p.cash else units_of name p.units

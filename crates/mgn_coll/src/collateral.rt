@@ -1,11 +1,9 @@
-ghost use Rattle.std.specs.Prelude.{◌≡◌, ◌≤◌, ◌*◌, ◌^◌, pos, Ok, Err, OnOk, OnErr, IfOk, IfErr, IsOk};
-ghost use Rattle.mgn_coll.specs.Posted.{IsPosted, nothing, is_cash, units_of, amount_of, with_amount, most_of, value, is_priced_by};
-ghost use Rattle.mgn_coll.specs.Refusals.{amount_posted, posted, Explains, amount_left, drawn};
+ghost use Rattle.std.specs.Prelude.{◌≡◌, ◌≤◌, ◌*◌, ◌^◌, pos, OnOk, OnErr, IsOk, true};
+ghost use Rattle.mgn_coll.specs.Posted.{IsPosted, nothing, is_cash, has_entry, units_of, amount_of, with_amount, most_of, value, is_priced_by};
 
-use crate::amounts::{class_value, is_cash, is_known, most_of};
-use crate::fault::{DrawFault, PostFault};
+use crate::amounts::{class_value, is_cash};
 use indexmap::IndexMap;
-use mgn_ids::{ClassName, Units};
+use mgn_ids::ClassName;
 use mgn_num::Cents;
 use mgn_params::ParamSet;
 use std::alloc::{AllocError, Global};
@@ -30,13 +28,6 @@ impl Model for Collateral {
 }
 
 impl Collateral {
-    /// What everything posted meets: no work, a fact for callers.
-    pub fn limits(&self)
-        ensures { IsPosted self.now.cash self.now.units }
-    {
-        let _ = &self.units;
-    }
-
     /// Nothing is posted. Takes no memory.
     pub fn new(alloc: Global) -> Collateral
         ensures { result ≡ nothing }
@@ -47,9 +38,9 @@ impl Collateral {
         }
     }
 
-    /// What is posted by a name: cents of cash by `CASH`, units of a class by another.
-    pub fn units(&self, class: &ClassName) -> u64
-        ensures units { result ≡ amount_of class.now self.now }
+    /// What is posted by a name: cents of cash by `CASH`, at most 10^15, and units of a class by another, at most 10^9.
+    pub fn amount(&self, class: &ClassName) -> u64
+        ensures amount { result ≡ amount_of class.now self.now }
         ensures most { result ≤ most_of class.now }
     {
         if is_cash(class) {
@@ -83,7 +74,7 @@ impl Collateral {
         Cents::new(i128::from(total))
     }
 
-    /// The same with another amount of one class, or of cash.
+    /// The same, in cents, if another amount were posted by a name: cents by `CASH`, units by another.
     pub fn value_with(&self, set: &ParamSet, class: &ClassName, amount: u64) -> Cents
         requires { amount ≤ most_of class.now }
         ensures value { result ≡ pos (value set.now.classes (with_amount self.now class.now amount)) }
@@ -113,94 +104,31 @@ impl Collateral {
         self.class_units(name)
     }
 
-    /// Whether a set has each class of which units are posted.
+    /// Whether a set has each class of which units are posted. Of cash it asks nothing.
     pub fn is_priced_by(&self, set: &ParamSet) -> bool
         ensures { result ≡ is_priced_by set.now.classes self.now }
     {
         self.units.iter().all(|(class, units)| *units == 0 || set.class(*class).is_some())
     }
 
-    /// What would be posted by a name with so many units or cents more. `NoClass` where it is neither `CASH` nor a class
-    /// of the set, `Limit` where cash would pass 10^15 or units 10^9.
-    pub fn amount_posted(
-        &self,
-        set: &ParamSet,
-        class: &ClassName,
-        units: Units,
-    ) -> Result<u64, PostFault>
-        ensures amount { result ≡ amount_posted set.now.classes self.now class.now units }
-        ensures most { IfOk result (λ amount. amount ≤ most_of class.now) }
-    {
-        if !is_known(set, class) {
-            return Err(PostFault::NoClass);
-        }
-        let amount = self.units(class) + units.number();
-        if amount > most_of(class) {
-            return Err(PostFault::Limit);
-        }
-        Ok(amount)
-    }
-
-    /// What would be left by a name with so many units or cents less. `NoClass` where it is neither `CASH` nor a class
-    /// of the set, `Over` where less is posted.
-    pub fn amount_left(
-        &self,
-        set: &ParamSet,
-        class: &ClassName,
-        units: Units,
-    ) -> Result<u64, DrawFault>
-        ensures amount { result ≡ amount_left set.now.classes self.now class.now units }
-        ensures most { IfOk result (λ amount. amount ≤ most_of class.now) }
-        ensures some { IfOk result (λ _. 1 ≤ amount_of class.now self.now) }
-    {
-        if !is_known(set, class) {
-            return Err(DrawFault::NoClass);
-        }
-        let there = self.units(class);
-        let wanted = units.number();
-        if wanted > there {
-            return Err(DrawFault::Over);
-        }
-        Ok(there - wanted)
-    }
-
-    /// Writes the amount of a name, within its limit. Memory is refused only to a class of which nothing is posted;
-    /// then nothing has changed.
+    /// Writes what is posted by a name, in cents of cash or in units, within its limit. Memory is taken, and may be
+    /// refused, only to a class that was never written; then nothing has changed.
     pub fn write(&mut self, class: &ClassName, amount: u64) -> Result<(), AllocError>
         requires { amount ≤ most_of class.now }
         ensures ok { OnOk result (self.new ≡ with_amount self.old class.now amount) }
         ensures err { OnErr result (self.new ≡ self.old) }
-        ensures succeeds { 1 ≤ amount_of class.now self.old → IsOk result }
+        ensures limits { IsPosted self.new.cash self.new.units }
+
+        // Cash takes no memory, nor does a class that was written before, and so one of which units are posted.
+        ensures cash { is_cash class.now ≡ true → IsOk result }
+        ensures written { has_entry class.now self.old ≡ true → IsOk result }
+        ensures posted { 1 ≤ amount_of class.now self.old → IsOk result }
     {
         if is_cash(class) {
             self.cash = amount;
             return Ok(());
         }
         self.units.insert(*class, amount)?;
-        Ok(())
-    }
-
-    /// Posts cash or units. `NoClass` where the name is neither `CASH` nor a class of the set, `Limit` where cash would
-    /// pass 10^15 or units 10^9, `Memory` where memory is refused. At an error nothing has changed.
-    pub fn post(&mut self, set: &ParamSet, class: &ClassName, units: Units) -> Result<(), PostFault>
-        ensures ok { OnOk result (posted set.now.classes self.old class.now units ≡ Ok self.new) }
-        ensures err { OnErr result (self.new ≡ self.old) }
-        ensures why { IfErr result (λ why. Explains why (posted set.now.classes self.old class.now units)) }
-    {
-        let amount = self.amount_posted(set, class, units)?;
-        self.write(class, amount)?;
-        Ok(())
-    }
-
-    /// Draws cash or units. `NoClass` where the name is neither `CASH` nor a class of the set, `Over` where less is
-    /// posted; nothing has changed then. Takes no memory.
-    pub fn draw(&mut self, set: &ParamSet, class: &ClassName, units: Units) -> Result<(), DrawFault>
-        ensures ok { OnOk result (drawn set.now.classes self.old class.now units ≡ Ok self.new) }
-        ensures err { OnErr result (self.new ≡ self.old) }
-        ensures why { IfErr result (λ why. drawn set.now.classes self.old class.now units ≡ Err why) }
-    {
-        let left = self.amount_left(set, class, units)?;
-        let _ = self.write(class, left);
         Ok(())
     }
 }

@@ -3,10 +3,9 @@
 
 pub mod amounts;
 pub mod collateral;
-pub mod fault;
 
+pub use amounts::{MOST_CASH, MOST_UNITS, is_known, most_of};
 pub use collateral::Collateral;
-pub use fault::{DrawFault, PostFault};
 
 #[cfg(test)]
 mod tests;

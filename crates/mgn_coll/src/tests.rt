@@ -1,124 +1,83 @@
-use crate::{Collateral, DrawFault, PostFault};
-use mgn_ids::{ClassName, IdFault, SetName, Units};
+ghost use Rattle.std.specs.Prelude.{◌≤◌};
+ghost use Rattle.mgn_coll.specs.Posted.{most_of};
+
+use crate::amounts::is_cash;
+use crate::{Collateral, MOST_CASH, MOST_UNITS, is_known, most_of};
+use mgn_ids::{ClassName, IdFault, SetName};
 use mgn_params::{Class, ParamSet};
 use std::alloc::{AllocError, Global};
 use std::process::Abort;
 use std::test::Fail;
 
 // A set of one class: 99.50 for a unit, with a haircut of 3 hundredths.
-fn one_class(alloc: Global) -> Result<ParamSet, Fail> {
-    let mut set = ParamSet::new(alloc, SetName::read(b"ONE")?);
+fn set_of(alloc: Global, name: SetName, class: ClassName) -> Result<ParamSet, AllocError> {
+    let mut set = ParamSet::new(alloc, name);
     let bill = Class {
-        name: ClassName::read(b"BILL")?,
+        name: class,
         price: 9_950,
         haircut: 300,
     };
-    if set.class(bill.name).is_none() && set.class_count() < 16 {
+    if !is_cash(&class) && set.class(class).is_none() && set.class_count() < 16 {
         set.push_class(bill)?;
     }
     Ok(set)
 }
 
-fn post(
-    collateral: &mut Collateral,
-    set: &ParamSet,
-    class: &[u8],
-    units: &[u8],
-) -> Result<Result<(), PostFault>, IdFault> {
-    let class = ClassName::read(class)?;
-    let units = Units::read(units)?;
-    Ok(collateral.post(set, &class, units))
-}
-
-fn draw(
-    collateral: &mut Collateral,
-    set: &ParamSet,
-    class: &[u8],
-    units: &[u8],
-) -> Result<Result<(), DrawFault>, IdFault> {
-    let class = ClassName::read(class)?;
-    let units = Units::read(units)?;
-    Ok(collateral.draw(set, &class, units))
-}
-
-// Units count for less than their price.
-fn check_value(rt: &impl Abort, alloc: Global, set: &ParamSet) -> Result<(), IdFault> {
-    let mut collateral = Collateral::new(alloc);
-    assert_eq!(rt; post(&mut collateral, set, b"BILL", b"3")?, Ok(()));
-    assert_eq!(rt; collateral.value(set).amount(), 28_954);
-    Ok(())
-}
-
-// Cash is posted and drawn.
-fn check_cash(rt: &impl Abort, alloc: Global, set: &ParamSet) -> Result<(), IdFault> {
-    let mut collateral = Collateral::new(alloc);
-    assert_eq!(rt; post(&mut collateral, set, b"CASH", b"600")?, Ok(()));
-    assert_eq!(rt;
-        draw(&mut collateral, set, b"CASH", b"601")?,
-        Err(DrawFault::Over)
-    );
-    assert_eq!(rt; draw(&mut collateral, set, b"CASH", b"600")?, Ok(()));
-    Ok(())
-}
-
-// Collateral has limits.
-fn check_limits(rt: &impl Abort, alloc: Global, set: &ParamSet) -> Result<(), IdFault> {
-    let mut collateral = Collateral::new(alloc);
-    assert_eq!(rt;
-        post(&mut collateral, set, b"BOND", b"1")?,
-        Err(PostFault::NoClass)
-    );
-    assert_eq!(rt; post(&mut collateral, set, b"BILL", b"1000000000")?, Ok(()));
-    assert_eq!(rt;
-        post(&mut collateral, set, b"BILL", b"1")?,
-        Err(PostFault::Limit)
-    );
-    Ok(())
-}
-
-// What a posting and a draw of a class would come to, which change nothing.
-fn check_amounts(rt: &impl Abort, alloc: Global, set: &ParamSet) -> Result<(), IdFault> {
-    let collateral = Collateral::new(alloc);
-    let class = &ClassName::read(b"BILL")?;
-    let units = Units::read(b"1")?;
-    collateral.limits();
-    assert_eq!(rt; collateral.amount_posted(set, class, units), Ok(1));
-    assert_eq!(rt;
-        collateral.amount_left(set, class, units),
-        Err(DrawFault::Over)
-    );
-    assert_eq!(rt; collateral.units(class), 0);
-    assert!(rt; collateral.is_priced_by(set));
-    Ok(())
-}
-
-// Writes cents of cash, and looks at the value with others.
-fn check_written(
+// Posts 6 dollars of cash and 3 bills: 600 and 3 * 9,950 * 0.97 = 28,954.5, rounded down.
+fn check_value(
     rt: &impl Abort,
-    alloc: Global,
+    collateral: &mut Collateral,
     set: &ParamSet,
     cash: &ClassName,
-) -> Result<(), AllocError> {
-    let mut collateral = Collateral::new(alloc);
-    collateral.write(cash, 600)?;
-    assert_eq!(rt; collateral.units(cash), 600);
-    assert_eq!(rt; collateral.value_with(set, cash, 601).amount(), 601);
-    assert_eq!(rt; collateral.value(set).amount(), 600);
-    Ok(())
+    bill: &ClassName,
+)
+    requires cash { 600 ≤ most_of cash.now }
+    requires bill { 3 ≤ most_of bill.now }
+{
+    assert!(rt; collateral.write(cash, 600).is_ok());
+    assert_eq!(rt; collateral.value_with(set, bill, 3).amount(), 29_554);
+    assert!(rt; collateral.write(bill, 3).is_ok());
+    assert_eq!(rt; collateral.value(set).amount(), 29_554);
+    assert_eq!(rt; collateral.value_with(set, cash, 0).amount(), 28_954);
+    assert_eq!(rt;
+        (collateral.amount(cash), collateral.amount(bill)),
+        (600, 3)
+    );
 }
 
-// Each look at collateral under the set.
-fn check(rt: &impl Abort, alloc: Global, set: &ParamSet) -> Result<(), Fail> {
-    check_value(rt, alloc, set)?;
-    check_cash(rt, alloc, set)?;
-    check_limits(rt, alloc, set)?;
-    check_amounts(rt, alloc, set)?;
-    check_written(rt, alloc, set, &ClassName::read(b"CASH")?)?;
+// What is known and how much may be posted, and whether a set prices a class that is posted.
+fn check_names(
+    rt: &impl Abort,
+    collateral: &mut Collateral,
+    set: &ParamSet,
+    cash: &ClassName,
+    bond: &ClassName,
+)
+    requires bond { 1 ≤ most_of bond.now }
+{
+    assert!(rt; is_known(set, cash) && !is_known(set, bond));
+    assert_eq!(rt; (most_of(cash), most_of(bond)), (MOST_CASH, MOST_UNITS));
+    assert!(rt; collateral.is_priced_by(set));
+    assert!(rt; collateral.write(bond, 1).is_ok());
+    assert!(rt; !collateral.is_priced_by(set));
+}
+
+// Both, each of a collateral of its own.
+fn check(rt: &impl Abort, alloc: Global, set: &ParamSet, bill: &ClassName) -> Result<(), IdFault> {
+    let cash = ClassName::read(b"CASH")?;
+    let bond = ClassName::read(b"BOND")?;
+    assert!(rt; is_known(set, bill));
+    let mut collateral = Collateral::new(alloc);
+    check_value(rt, &mut collateral, set, &cash, bill);
+    let mut collateral = Collateral::new(alloc);
+    check_names(rt, &mut collateral, set, &cash, &bond);
     Ok(())
 }
 
 #[test]
-fn collateral_is_posted_drawn_and_priced(rt: HostRuntime) -> Result<(), Fail> {
-    let set = one_class(rt.alloc())?;
-    check(&rt, rt.alloc(), &set)
+fn collateral_is_written_and_priced(rt: HostRuntime) -> Result<(), Fail> {
+    let bill = ClassName::read(b"BILL")?;
+    let set = set_of(rt.alloc(), SetName::read(b"ONE")?, bill)?;
+    check(&rt, rt.alloc(), &set, &bill)?;
+    Ok(())
 }

@@ -1,42 +1,12 @@
--- What holds may cost by side, and what a change of one of them does to the sums.
-use Rattle.std.proofs.Common.{◌≡◌, ◌≢◌, ℕ, ◌*◌, ◌≤◌, ◌<◌, ◌^◌, List, [], ◌∷◌, ◌++◌, length, set, get_or, refl, sym, ap, ◌∙◌, arith, true, false, Bool, All}
-use Rattle.std.specs.Prelude.{ℤ, pos, ◌+ℤ◌, ◌-ℤ◌, ◌*ℤ◌, unsigned_abs, remove, not}
-use Rattle.std.specs.List.{sum_by}
+-- A hold of which a part is filled, and what its side may cost then.
+use Rattle.std.proofs.Common.{◌≡◌, ◌≢◌, ℕ, ◌≤◌, ◌<◌, List, length, set, get_or, refl, sym, ap, ◌∙◌, arith, true, false, Bool}
+use Rattle.std.specs.Prelude.{ℤ, pos, ◌+ℤ◌, ◌-ℤ◌, unsigned_abs, not}
 use Rattle.std.proofs.lemmas.Int.{ints}
-use Rattle.std.proofs.lemmas.List.Sums.{sum_by-le}
-use Rattle.mgn_num.proofs.SignedLemmas.{signed_sum_by-set, sum-*ℤ, size-*ℤ-le}
-use Rattle.mgn_num.proofs.SignedEdits.{signed_sum_by-push, signed_sum_by-remove, size-signed_sum_by}
+use Rattle.mgn_num.proofs.SignedLemmas.{signed_sum_by-set, sum-*ℤ}
 use Rattle.mgn_holds.specs.declared.side.Side.{Side}
 use Rattle.mgn_holds.specs.declared.side.Side.TheVariants.{Buys, Sales}
 use Rattle.mgn_holds.specs.declared.held.Held.{Held}
-use Rattle.mgn_holds.specs.Holds.{IsHeld, is_buy, is_on, cost_on, held_cost, premium, lessened}
-use Rattle.mgn_holds.specs.Refusals.{covers}
-
--- sizes
-
--- a quantity at a limit is at most 10^14 cents
-pub cost_on-le : (side : Side) (quantity : ℤ) (limit : ℕ) → unsigned_abs quantity ≤ 10 ^ 6 → limit ≤ 10 ^ 8 → unsigned_abs (cost_on side quantity limit) ≤ 10 ^ 14
-cost_on-le side quantity limit most low = by (is_on side quantity) refl
-  where
-    by : (b : Bool) → is_on side quantity ≡ b → unsigned_abs (cost_on side quantity limit) ≤ 10 ^ 14
-    by true e = rw e (let bound : unsigned_abs (quantity *ℤ pos limit) ≤ 10 ^ 6 * 10 ^ 8 = size-*ℤ-le quantity (pos limit) (10 ^ 6) (10 ^ 8) most low in omega arith)
-    by false e = rw e (omega arith)
-
-pub premium-le : (side : Side) (holds : List Held) → All IsHeld holds → unsigned_abs (premium side holds) ≤ length holds * 10 ^ 14
-premium-le side holds limits =
-    let sizes : sum_by (λ x. unsigned_abs (held_cost side x)) holds ≤ length holds * 10 ^ 14 =
-    sum_by-le (λ x. unsigned_abs (held_cost side x)) (10 ^ 14) holds (λ i d inside. cost_on-le side (get_or holds i d).quantity (get_or holds i d).limit (limits i d inside).most (limits i d inside).limit)
-    in
-    omega (arith, size-signed_sum_by (held_cost side) holds, sizes)
-
--- changes
-
-pub premium-push : (side : Side) (holds : List Held) (x : Held) → premium side (holds ++ x ∷ []) ≡ premium side holds +ℤ held_cost side x
-premium-push side holds x = signed_sum_by-push (held_cost side) holds x
-
-pub premium-remove : (side : Side) (holds : List Held) (i : ℕ) (x : Held) → i < length holds → x ≡ get_or holds i x → premium side (remove holds i) ≡ premium side holds -ℤ held_cost side x
-premium-remove side holds i x inside is =
-    omega (arith, ints, signed_sum_by-remove (held_cost side) holds i x inside, ap (held_cost side) is)
+use Rattle.mgn_holds.specs.Holds.{IsHeld, is_buy, is_on, cost_on, held_cost, covers, premium, lessened}
 
 -- fills of a part
 

@@ -1,6 +1,7 @@
 -- The holds of an account, and what they come to by side (own profile).
-use Rattle.std.specs.Prelude.{ℕ, ℤ, pos, ◌≡◌, ◌≤◌, ◌^◌, ◌*ℤ◌, ◌-ℤ◌, unsigned_abs, Bool, not, nat_eq, All, List, [], length, slice_index_or, slice_set, remove, position, Option, is_some, if◌then◌else◌}
-use Rattle.std.specs.Int.RustNames.{int_lt}
+use Rattle.std.specs.Prelude.{ℕ, ℤ, pos, ◌≤◌, ◌^◌, ◌*ℤ◌, ◌-ℤ◌, unsigned_abs, Bool, ◌&&◌, not, nat_eq, nat_le, All, List, [], length, map, slice_index_or, slice_set, remove, position, Option, is_some, if◌then◌else◌}
+use Rattle.std.specs.List.{IsDistinct}
+use Rattle.std.specs.Int.RustNames.{int_lt, int_le}
 use Rattle.std.specs.Ordering.{int_eq}
 use Rattle.std.specs.Str.{bytes_eq}
 use Rattle.mgn_num.specs.Signed.{signed_sum_by}
@@ -56,6 +57,19 @@ place_of_order holds order = position (λ (x : Held). nat_eq x.order order) hold
 abbrev pub has_order : List Held → ℕ → Bool
 has_order holds order = is_some (place_of_order holds order)
 
+-- an account has at most 256 holds
+abbrev pub is_full : List Held → Bool
+is_full holds = nat_le 256 (length holds)
+
+-- a hold that buys pays its limit at most, one that sells takes it at least
+abbrev pub meets_limit : Held → ℕ → Bool
+meets_limit x premium = if is_buy x.quantity then nat_le premium x.limit else nat_le x.limit premium
+
+-- a quantity of the hold's sign, no larger than what is held
+abbrev pub covers : Held → ℤ → Bool
+covers x quantity =
+    if is_buy x.quantity then int_lt (pos 0) quantity && int_le quantity x.quantity else int_lt quantity (pos 0) && int_le x.quantity quantity
+
 -- a hold of which a part is filled
 abbrev pub lessened : Held → ℤ → Held
 lessened x quantity = record x { quantity = x.quantity -ℤ quantity }
@@ -65,9 +79,11 @@ abbrev pub filled_at : List Held → ℕ → ℤ → List Held
 filled_at holds i quantity =
     if int_eq quantity (hold_at holds i).quantity then remove holds i else slice_set holds i (lessened (hold_at holds i) quantity)
 
--- holds within the limits, and what is kept for each side
-pub record IsHolds (holds : List Held) (buys sales : ℤ) : Type 0 where
+abbrev pub orders_of : List Held → List ℕ
+orders_of holds = map (λ (x : Held). x.order) holds
+
+-- holds within the limits, one of an order
+pub record IsHolds (holds : List Held) : Type 0 where
   pub limits : All IsHeld holds
   pub few : length holds ≤ 256
-  pub buys_are : buys ≡ premium Buys holds
-  pub sales_are : sales ≡ premium Sales holds
+  pub distinct : IsDistinct nat_eq (orders_of holds)

@@ -1,15 +1,12 @@
-//! The holds of an account: orders that wait to be filled, with what they would cost by side.
+//! The holds of an account: orders that wait to be filled, and what each of them covers.
 #![tactic(auto)]
 
-pub mod fault;
-pub mod fills;
 pub mod held;
 pub mod holds;
 pub mod side;
 
-pub use fault::{AddFault, FillFault, ReleaseFault};
 pub use held::Held;
-pub use holds::Holds;
+pub use holds::{Holds, MOST_HOLDS};
 pub use side::Side;
 
 #[cfg(test)]

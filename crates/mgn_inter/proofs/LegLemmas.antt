@@ -7,9 +7,9 @@ use Rattle.std.proofs.lemmas.List.Elements.{All-from_recursion, All-head, All-ni
 use Rattle.std.proofs.lemmas.Grind.{common_steps}
 use Rattle.mgn_num.specs.Amount.{nearer_zero}
 use Rattle.mgn_params.specs.declared.tables.Leg.{Leg}
-use Rattle.mgn_params.specs.Credits.{credits_after, fits, forms, leg_amount, leg_credit, rests_after, spread_amount}
-use Rattle.mgn_params.specs.Scan.{value_at}
-use Rattle.mgn_params.specs.Stages.{used}
+use Rattle.mgn_span.specs.Credits.{credits_after, fits, forms, leg_amount, leg_credit, rests_after, spread_amount}
+use Rattle.mgn_span.specs.Scan.{value_at}
+use Rattle.mgn_span.specs.Stages.{used}
 use Rattle.mgn_inter.specs.Rows.{names}
 
 -- a leg that is named, and one that is not

@@ -9,12 +9,12 @@ use Rattle.std.proofs.lemmas.Nat.{div_below}
 use Rattle.std.proofs.Math.Nat.{mul-le-mul, mul-le-mul_left, mul-le-mul_right}
 use Rattle.mgn_params.specs.declared.tables.CreditSpread.{CreditSpread}
 use Rattle.mgn_params.specs.declared.tables.Leg.{Leg}
-use Rattle.mgn_params.specs.Credits.{credits_after, fits, formed, forms, leg_credit, rests_after, spread_amount}
+use Rattle.mgn_span.specs.Credits.{credits_after, fits, formed, forms, leg_credit, rests_after, spread_amount}
 use Rattle.mgn_params.specs.Limits.{IsCreditSpread}
-use Rattle.mgn_params.specs.Scan.{value_at}
-use Rattle.mgn_params.specs.Stages.{used}
+use Rattle.mgn_span.specs.Scan.{value_at}
+use Rattle.mgn_span.specs.Stages.{used}
 use Rattle.mgn_params.specs.Tables.{legs_of}
-use Rattle.mgn_params.proofs.StageLemmas.{used_le_left}
+use Rattle.mgn_span.proofs.StageLemmas.{used_le_left}
 use Rattle.mgn_inter.specs.Rows.{AreNumbers, AreRests, IsCreditable, names}
 use Rattle.mgn_inter.proofs.LegLemmas.{credits_after_out, credits_after_set, credits_after_small, forms_set, length-credits_after, length-rests_after, rests_after_near, rests_after_out, rests_after_set, spread_amount_least, spread_amount_set}
 

@@ -1,4 +1,4 @@
--- The rows after the first spreads, when one more forms, when the last is taken back, and when a commodity that none of
+-- The rows after the first spreads, when one more forms, when the last is undone, and when a commodity that none of
 -- them names gets other numbers.
 use Rattle.std.proofs.Common.{◌≡◌, ◌≢◌, ℕ, zero, suc, ◌+◌, ◌*◌, ◌<◌, ◌≤◌, ◌^◌, false, List, [], ◌∷◌, length, take, set, get_or, slice_index, slice_set, replicate, pos, ℤ, ap, ◌∙◌, sym, subst, arith, refl, add-one, ⊎_elim, All, length-set, get_or-set_same, get_or-set_other, eq-eqb, ne_eqb, length-take}
 use Rattle.std.specs.Prelude.{◌==◌}
@@ -9,7 +9,7 @@ use Rattle.std.proofs.lemmas.List.Folds.{list_any_at}
 use Rattle.std.proofs.lemmas.List.Sums.{fold_more}
 use Rattle.mgn_params.specs.declared.tables.CreditSpread.{CreditSpread}
 use Rattle.mgn_params.specs.declared.tables.Leg.{Leg}
-use Rattle.mgn_params.specs.Credits.{formed}
+use Rattle.mgn_span.specs.Credits.{formed}
 use Rattle.mgn_params.specs.Limits.{IsCreditSpread}
 use Rattle.mgn_params.specs.Tables.{credit_spread_at, legs_of, no_credit_spread, no_leg}
 use Rattle.mgn_inter.specs.declared.kept.Kept.{Kept}
@@ -127,7 +127,7 @@ rows_formed spreads n r rests credits own are inside now kept = record {
   firsts_are = are.firsts_are;
 }
 
--- the rows when the last spread is taken back
+-- the rows when the last spread is undone
 pub rows_undone : (spreads : List CreditSpread) (count n : ℕ) (r : Credited) (rests : List ℤ) (credits : List ℕ) → AreFormed spreads (suc n) r → count ≡ length r.deltas → All (IsCreditSpread count) spreads → rests ≡ written r.rests (legs_of (credit_spread_at spreads n)) (kept_at r.kept n).rests → credits ≡ written r.credits (legs_of (credit_spread_at spreads n)) (kept_at r.kept n).credits → AreFormed spreads n (record r { rests = rests; credits = credits })
 rows_undone spreads count n r rests credits are same limits rests_is credits_is =
     let inside : n < length spreads = omega (arith, are.fewer) in

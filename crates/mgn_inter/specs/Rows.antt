@@ -1,11 +1,11 @@
--- The rows from which intercommodity spreads are formed and taken back, one after the other.
+-- The rows from which intercommodity spreads are formed and undone, one after the other.
 use Rattle.std.specs.Prelude.{ℕ, ◌≡◌, ◌<◌, ◌≤◌, ◌*◌, ◌^◌, ◌==◌, Bool, false, ℤ, pos, unsigned_abs, List, length, replicate, take, slice_index, slice_index_or, slice_set, All}
 use Rattle.std.specs.List.{fold, list_any, zip}
 use Rattle.mgn_params.specs.declared.tables.CreditSpread.{CreditSpread}
 use Rattle.mgn_params.specs.declared.tables.Leg.{Leg}
-use Rattle.mgn_params.specs.Credits.{formed}
-use Rattle.mgn_params.specs.Scan.{value_at}
-use Rattle.mgn_params.specs.Stages.{used}
+use Rattle.mgn_span.specs.Credits.{formed}
+use Rattle.mgn_span.specs.Scan.{value_at}
+use Rattle.mgn_span.specs.Stages.{used}
 use Rattle.mgn_params.specs.Tables.{credit_spread_at, legs_of, no_leg}
 use Rattle.mgn_inter.specs.declared.kept.Kept.{Kept}
 use Rattle.mgn_inter.specs.Sizes.{IsDelta, IsRisk}

@@ -2,7 +2,7 @@ ghost use Rattle.std.specs.Prelude.{◌≡◌, ℕ, ◌+◌, ◌*◌, ◌^◌, �
 ghost use Rattle.mgn_inter.specs.Credited.{AreCreditsOf};
 ghost use Rattle.mgn_inter.specs.Rows.{AreFormed, KeepsNumbers};
 ghost use Rattle.mgn_inter.specs.Sizes.{IsDelta, IsRisk};
-ghost use Rattle.mgn_params.specs.Credits.{credits_of};
+ghost use Rattle.mgn_span.specs.Credits.{credits_of};
 ghost use Rattle.mgn_params.specs.Tables.{Tables};
 
 use crate::firsts::{first_places, spread_at};
@@ -42,7 +42,7 @@ impl Model for InterCredits {
 }
 
 impl InterCredits {
-    /// Nothing held: each net delta and each price risk is 0. An error is want of memory.
+    /// Nothing held: each net delta and each price risk is 0. The only error is that memory was refused.
     pub fn new(alloc: Global, set: &ParamSet) -> Result<InterCredits, AllocError>
         ensures of_set { IfOk result (AreCreditsOf set.now) }
         ensures net_deltas { IfOk result (λ c. c.deltas ≡ replicate (length set.now.commodities) (pos 0)) }

@@ -4,9 +4,9 @@ ghost use Rattle.std.specs.Prelude.{◌≡◌, ℕ, ◌+◌, ◌*◌, ◌<◌, �
 ghost use Rattle.std.specs.List.{list_all};
 ghost use Rattle.mgn_inter.specs.Rows.{AreNumbers, AreRests, IsCreditable};
 ghost use Rattle.mgn_inter.specs.Sizes.{IsDelta};
-ghost use Rattle.mgn_params.specs.Credits.{credits_after, fits, forms, is_long, leg_amount, leg_credit, rests_after, spread_amount};
-ghost use Rattle.mgn_params.specs.Scan.{value_at};
-ghost use Rattle.mgn_params.specs.Stages.{used};
+ghost use Rattle.mgn_span.specs.Credits.{credits_after, fits, forms, is_long, leg_amount, leg_credit, rests_after, spread_amount};
+ghost use Rattle.mgn_span.specs.Scan.{value_at};
+ghost use Rattle.mgn_span.specs.Stages.{used};
 
 use crate::rest::Rest;
 use mgn_params::{Leg, Side};

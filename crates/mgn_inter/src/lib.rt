@@ -9,6 +9,3 @@ mod rest;
 mod rows;
 
 pub use inter::InterCredits;
-
-#[cfg(test)]
-mod tests;

@@ -1,10 +1,10 @@
-//! The rows of the commodities while a spread forms, and while it is taken back.
+//! The rows of the commodities while a spread forms, and while it is undone.
 
 ghost use Rattle.std.specs.Prelude.{◌≡◌, ℕ, ℤ, ◌+◌, ◌*◌, ◌<◌, ◌≤◌, ◌^◌, ◌==◌, if◌then◌else◌, pos, length, replicate, All, slice_index, IfOk};
 ghost use Rattle.mgn_inter.specs.Rows.{AreNumbers, AreRests, IsKept, leg_at, names, written};
-ghost use Rattle.mgn_params.specs.Credits.{formed};
+ghost use Rattle.mgn_span.specs.Credits.{formed};
 ghost use Rattle.mgn_params.specs.Limits.{IsCreditSpread};
-ghost use Rattle.mgn_params.specs.Scan.{value_at};
+ghost use Rattle.mgn_span.specs.Scan.{value_at};
 ghost use Rattle.mgn_params.specs.Tables.{legs_of};
 
 use crate::kept::Kept;

@@ -10,8 +10,8 @@ use Rattle.std.proofs.lemmas.List.Sums.{AllPass-from_list_all}
 use Rattle.std.proofs.lemmas.Bool.{cases_lt}
 use Rattle.mgn_params.specs.declared.tables.CreditSpread.{CreditSpread}
 use Rattle.mgn_params.specs.declared.tables.Leg.{Leg}
-use Rattle.mgn_params.specs.Credits.{credits_after, credits_of, fits, formed, forms, rests_after, spread_amount}
-use Rattle.mgn_params.specs.Scan.{value_at}
+use Rattle.mgn_span.specs.Credits.{credits_after, credits_of, fits, formed, forms, rests_after, spread_amount}
+use Rattle.mgn_span.specs.Scan.{value_at}
 use Rattle.mgn_params.specs.Tables.{legs_of}
 
 -- no leg that fits is of a commodity without a rest

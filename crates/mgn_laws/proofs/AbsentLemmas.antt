@@ -23,15 +23,15 @@ use Rattle.mgn_num.specs.Signed.{signed_sum_by}
 use Rattle.mgn_params.specs.declared.tables.Contract.{Contract}
 use Rattle.mgn_params.specs.declared.tables.Month.{Month}
 use Rattle.mgn_params.specs.declared.tables.SpotCharge.{SpotCharge}
-use Rattle.mgn_params.specs.declared.tables.Stage.{Stage}
-use Rattle.mgn_params.specs.Deltas.{is_in_tier, long_delta, long_share, month_delta, month_share, negative_part, net_delta, net_share, positive_part, short_delta, short_share, start_of, starts_of}
+use Rattle.mgn_span.specs.declared.stage.Stage.{Stage}
+use Rattle.mgn_span.specs.Deltas.{is_in_tier, long_delta, long_share, month_delta, month_share, negative_part, net_delta, net_share, positive_part, short_delta, short_share, start_of, starts_of}
 use Rattle.mgn_params.specs.Limits.{IsContract, IsWithinLimits}
-use Rattle.mgn_params.specs.Options.{short_share_of}
-use Rattle.mgn_params.specs.Positions.{Position, positions}
-use Rattle.mgn_params.specs.Requirement.{credit, credits, intra_charge, minimum, risk, scan_of, spot_charge}
-use Rattle.mgn_params.specs.Scan.{active, scenario_share, scenario_total, value_at}
-use Rattle.mgn_params.specs.Spot.{outright_delta, spot_charge_of, spot_of, spread_delta}
-use Rattle.mgn_params.specs.Stages.{long_leg, short_leg, used_by}
+use Rattle.mgn_span.specs.Options.{short_share_of}
+use Rattle.mgn_span.specs.Positions.{Position, positions}
+use Rattle.mgn_span.specs.Requirement.{credit, credits, intra_charge, minimum, risk, scan_of, spot_charge}
+use Rattle.mgn_span.specs.Scan.{active, scenario_share, scenario_total, value_at}
+use Rattle.mgn_span.specs.Spot.{outright_delta, spot_charge_of, spot_of, spread_delta}
+use Rattle.mgn_span.specs.Stages.{long_leg, short_leg, used_by}
 use Rattle.mgn_params.specs.Tables.{Tables, commodity_at, is_option, month_at}
 
 -- sums of nothing

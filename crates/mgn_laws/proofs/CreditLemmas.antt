@@ -12,15 +12,15 @@ use Rattle.std.proofs.lemmas.List.Sums.{fold_more, sum_by-cons}
 use Rattle.mgn_laws.specs.Uses.{credit_use_at, deltas_in, leg_use, rests_at, risks_in, spread_use}
 use Rattle.mgn_num.specs.Amount.{nearer_zero}
 use Rattle.mgn_num.specs.Signed.{sum_below}
-use Rattle.mgn_params.proofs.StageLemmas.{used_le_left}
+use Rattle.mgn_span.proofs.StageLemmas.{used_le_left}
 use Rattle.mgn_params.specs.declared.tables.CreditSpread.{CreditSpread}
 use Rattle.mgn_params.specs.declared.tables.Leg.{Leg}
-use Rattle.mgn_params.specs.Credits.{credits_after, formed, forms, leg_amount, rests_after, spread_amount}
-use Rattle.mgn_params.specs.Deltas.{net_delta}
+use Rattle.mgn_span.specs.Credits.{credits_after, formed, forms, leg_amount, rests_after, spread_amount}
+use Rattle.mgn_span.specs.Deltas.{net_delta}
 use Rattle.mgn_params.specs.Limits.{IsCreditSpread, IsLeg, IsWithinLimits}
-use Rattle.mgn_params.specs.Positions.{Position}
-use Rattle.mgn_params.specs.Scan.{value_at}
-use Rattle.mgn_params.specs.Stages.{used}
+use Rattle.mgn_span.specs.Positions.{Position}
+use Rattle.mgn_span.specs.Scan.{value_at}
+use Rattle.mgn_span.specs.Stages.{used}
 use Rattle.mgn_params.specs.Tables.{Tables, credit_spread_at, legs_of, no_credit_spread}
 
 -- the amount of a spread is at most what each leg alone would form

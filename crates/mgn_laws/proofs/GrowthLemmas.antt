@@ -3,11 +3,11 @@ use Rattle.std.proofs.Common.{◌≡◌, ℕ, Bool, true, false, List, [], ◌�
 use Rattle.std.specs.Prelude.{◌==◌, codes, if◌then◌else◌}
 use Rattle.std.specs.Str.{bytes_eq}
 use Rattle.mgn_laws.specs.Growth.{AddsRow, class, commodity, contract, credit_spread, month, spot, spread}
-use Rattle.mgn_params.specs.declared.fault.Cause.{Cause}
-use Rattle.mgn_params.specs.declared.fault.Cause.TheVariants.{Fields as WrongFields, Header}
-use Rattle.mgn_params.specs.Fields.{◌>>=◌, Fields}
-use Rattle.mgn_params.specs.File.{SoFar, drafted, judged, later_of, with_class, with_commodity, with_contract, with_credit_spread, with_month, with_other, with_record, with_spot, with_spot_of, with_spread}
-use Rattle.mgn_params.specs.Records.{class_of, commodity_of, contract_of, credit_of, month_of, spot_charge_of_record, spread_of}
+use Rattle.mgn_setfile.specs.declared.fault.Cause.{Cause}
+use Rattle.mgn_setfile.specs.declared.fault.Cause.TheVariants.{Fields as WrongFields, Header}
+use Rattle.mgn_setfile.specs.Fields.{◌>>=◌, Fields}
+use Rattle.mgn_setfile.specs.File.{SoFar, drafted, judged, later_of, with_class, with_commodity, with_contract, with_credit_spread, with_month, with_other, with_record, with_spot, with_spot_of, with_spread}
+use Rattle.mgn_setfile.specs.Records.{class_of, commodity_of, contract_of, credit_of, month_of, spot_charge_of_record, spread_of}
 use Rattle.mgn_params.specs.Tables.{Tables}
 
 -- what a row that was read gives

@@ -5,9 +5,9 @@ use Rattle.std.specs.List.{fold}
 use Rattle.std.specs.Result.{result_ok}
 use Rattle.std.proofs.lemmas.Bool.{cases_order}
 use Rattle.mgn_laws.specs.Passing.{IsAccepted, IsFault, IsRefusedAt, given, given_by, record_at}
-use Rattle.mgn_params.specs.declared.fault.Cause.{Cause}
-use Rattle.mgn_params.specs.declared.fault.Cause.TheVariants.{Header}
-use Rattle.mgn_params.specs.File.{Record, SoFar, goes_on, judged, outcome, told}
+use Rattle.mgn_setfile.specs.declared.fault.Cause.{Cause}
+use Rattle.mgn_setfile.specs.declared.fault.Cause.TheVariants.{Header}
+use Rattle.mgn_setfile.specs.File.{Record, SoFar, goes_on, judged, outcome, told}
 use Rattle.mgn_params.specs.Tables.{Tables}
 
 -- the same from what earlier records gave on

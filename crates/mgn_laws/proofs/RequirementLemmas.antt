@@ -4,11 +4,11 @@ use Rattle.std.specs.Prelude.{ℤ, pos, ◌≤ℤ◌}
 use Rattle.std.proofs.lemmas.Int.{clamps, ints}
 use Rattle.mgn_num.proofs.SignedLemmas.{signed_sum_by-cons}
 use Rattle.mgn_laws.specs.Worst.{own_worst, worst_cases}
-use Rattle.mgn_params.specs.Positions.{Position}
-use Rattle.mgn_params.specs.Requirement.{requirement, scan_of}
-use Rattle.mgn_params.specs.Scan.{active, scan_risk, scenario_share, scenario_total}
+use Rattle.mgn_span.specs.Positions.{Position}
+use Rattle.mgn_span.specs.Requirement.{requirement, scan_of}
+use Rattle.mgn_span.specs.Scan.{active, scan_risk, scenario_share, scenario_total}
 use Rattle.mgn_params.specs.Tables.{Tables}
-use Rattle.mgn_params.proofs.ActiveLemmas.{active_is}
+use Rattle.mgn_span.proofs.ActiveLemmas.{active_is}
 
 -- no total is above the scan risk
 total_le_scan : (t : ℕ → ℤ) (s : ℕ) → s < 16 → t s ≤ℤ scan_risk t

@@ -10,13 +10,13 @@ use Rattle.std.proofs.lemmas.List.FromFn.{get_or-map-range_with_len, length-map-
 use Rattle.std.proofs.lemmas.List.Sums.{fold_more}
 use Rattle.mgn_laws.specs.Turns.{charge_at, left_at, no_stage, stage_at, stages_in, starts_in, use_at}
 use Rattle.mgn_num.specs.Signed.{sum_below}
-use Rattle.mgn_params.proofs.StageLemmas.{first_used_le, second_used_le}
-use Rattle.mgn_params.specs.declared.tables.Stage.{Stage}
+use Rattle.mgn_span.proofs.StageLemmas.{first_used_le, second_used_le}
+use Rattle.mgn_span.specs.declared.stage.Stage.{Stage}
 use Rattle.mgn_params.specs.declared.tables.Spread.{Spread}
-use Rattle.mgn_params.specs.Deltas.{long_delta, short_delta, start_of, starts_of}
+use Rattle.mgn_span.specs.Deltas.{long_delta, short_delta, start_of, starts_of}
 use Rattle.mgn_params.specs.Limits.{IsSpread, IsWithinLimits}
-use Rattle.mgn_params.specs.Positions.{positions}
-use Rattle.mgn_params.specs.Stages.{IsStage, charges_of, left_after, left_by, long_leg, short_leg, stages_of_spread, used_by, used_of}
+use Rattle.mgn_span.specs.Positions.{positions}
+use Rattle.mgn_span.specs.Stages.{IsStage, charges_of, left_after, left_by, long_leg, short_leg, stages_of_spread, used_by, used_of}
 use Rattle.mgn_params.specs.Tables.{Tables}
 
 -- sums from their first number on

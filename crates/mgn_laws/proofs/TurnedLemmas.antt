@@ -1,4 +1,4 @@
--- What becomes of sums and deltas when every position is turned round.
+-- What becomes of sums and deltas when every position is negated.
 use Rattle.std.proofs.Common.{◌≡◌, ℕ, List, [], ◌∷◌, ◌==◌, true, false, length, refl, ap, ◌∙◌, arith}
 use Rattle.std.specs.Prelude.{ℤ, pos, ◌+ℤ◌, ◌*ℤ◌, neg_ℤ, if◌then◌else◌, Bool}
 use Rattle.std.proofs.Math.IntN.{zero-*ℤ, +ℤ_invl}
@@ -9,9 +9,9 @@ use Rattle.mgn_num.proofs.SignedLemmas.{signed_sum_by-cons, sum-*ℤ}
 use Rattle.mgn_num.specs.Signed.{signed_sum_by}
 use Rattle.mgn_params.specs.declared.tables.Contract.{Contract}
 use Rattle.mgn_params.specs.declared.tables.Month.{Month}
-use Rattle.mgn_params.specs.Deltas.{is_in_tier, long_delta, long_share, month_delta, month_share, net_delta, net_share, positive_part, short_delta, short_share}
-use Rattle.mgn_params.specs.Positions.{Position, positions}
-use Rattle.mgn_params.specs.Scan.{scenario_share, scenario_total, value_at}
+use Rattle.mgn_span.specs.Deltas.{is_in_tier, long_delta, long_share, month_delta, month_share, net_delta, net_share, positive_part, short_delta, short_share}
+use Rattle.mgn_span.specs.Positions.{Position, positions}
+use Rattle.mgn_span.specs.Scan.{scenario_share, scenario_total, value_at}
 use Rattle.mgn_params.specs.Tables.{month_at}
 
 -- what counts the other way for a turned position sums to the other sign

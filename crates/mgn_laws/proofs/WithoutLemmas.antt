@@ -14,23 +14,23 @@ use Rattle.mgn_laws.specs.Absent.{HoldsNone, other_nets, without}
 use Rattle.mgn_laws.specs.Uses.{deltas_in, risks_in}
 use Rattle.mgn_num.proofs.SignedLemmas.{signed_sum_by-cons}
 use Rattle.mgn_num.specs.Signed.{signed_sum_below, signed_sum_by, sum_below}
-use Rattle.mgn_params.proofs.FlatLemmas.{month_share_flat, share_flat, short_share_flat, value_share_flat}
+use Rattle.mgn_span.proofs.FlatLemmas.{month_share_flat, share_flat, short_share_flat, value_share_flat}
 use Rattle.mgn_params.specs.declared.tables.Contract.{Contract}
 use Rattle.mgn_params.specs.declared.tables.CreditSpread.{CreditSpread}
 use Rattle.mgn_params.specs.declared.tables.Leg.{Leg}
 use Rattle.mgn_params.specs.declared.tables.Month.{Month}
 use Rattle.mgn_params.specs.declared.tables.SpotCharge.{SpotCharge}
 use Rattle.mgn_params.specs.declared.tables.Spread.{Spread}
-use Rattle.mgn_params.specs.declared.tables.Stage.{Stage}
-use Rattle.mgn_params.specs.Credits.{formed, forms}
-use Rattle.mgn_params.specs.Deltas.{is_in_tier, month_delta, month_share, negative_part, net_delta, positive_part, starts_of}
+use Rattle.mgn_span.specs.declared.stage.Stage.{Stage}
+use Rattle.mgn_span.specs.Credits.{formed, forms}
+use Rattle.mgn_span.specs.Deltas.{is_in_tier, month_delta, month_share, negative_part, net_delta, positive_part, starts_of}
 use Rattle.mgn_params.specs.Limits.{IsWithinLimits}
-use Rattle.mgn_params.specs.Options.{net_option_value, short_share_of, value_share}
-use Rattle.mgn_params.specs.Positions.{Position, positions}
-use Rattle.mgn_params.specs.Requirement.{commodities_of, credit, credits, intra_charge, minimum, price_risk2_of, requirement, risk, scan_of, spot_charge}
-use Rattle.mgn_params.specs.Scan.{price_risk2, scan_risk, scenario_share, scenario_total, value_at}
-use Rattle.mgn_params.specs.Spot.{spot_charge_of, spot_of}
-use Rattle.mgn_params.specs.Stages.{charges_of, stages_of, stages_of_spread}
+use Rattle.mgn_span.specs.Options.{net_option_value, short_share_of, value_share}
+use Rattle.mgn_span.specs.Positions.{Position, positions}
+use Rattle.mgn_span.specs.Requirement.{commodities_of, credit, credits, intra_charge, minimum, price_risk2_of, requirement, risk, scan_of, spot_charge}
+use Rattle.mgn_span.specs.Scan.{price_risk2, scan_risk, scenario_share, scenario_total, value_at}
+use Rattle.mgn_span.specs.Spot.{spot_charge_of, spot_of}
+use Rattle.mgn_span.specs.Stages.{charges_of, stages_of, stages_of_spread}
 use Rattle.mgn_params.specs.Tables.{Tables, commodity_at, legs_of, month_at}
 
 -- filters by a number that each row has, as its commodity

@@ -1,7 +1,7 @@
 -- Commodities in which nothing is held, and sets without them.
 use Rattle.std.specs.Prelude.{◌≡◌, ◌==◌, ℕ, ℤ, pos, not, List, All, map}
 use Rattle.std.specs.List.{filter, list_any}
-use Rattle.mgn_params.specs.Positions.{Position, positions}
+use Rattle.mgn_span.specs.Positions.{Position, positions}
 use Rattle.mgn_params.specs.Tables.{Tables, legs_of}
 
 -- each net in a contract of the commodity is 0

@@ -2,9 +2,9 @@
 use Rattle.std.specs.Prelude.{◌≡◌, ◌⊎◌, ℕ, ◌+◌, ◌<◌, List, length, slice_index_or, take, Option, None, IsOk, Err}
 use Rattle.std.specs.List.{fold}
 use Rattle.std.specs.Result.{result_ok}
-use Rattle.mgn_params.specs.declared.fault.Cause.{Cause}
-use Rattle.mgn_params.specs.declared.fault.Cause.TheVariants.{Header}
-use Rattle.mgn_params.specs.File.{Record, SoFar, judged}
+use Rattle.mgn_setfile.specs.declared.fault.Cause.{Cause}
+use Rattle.mgn_setfile.specs.declared.fault.Cause.TheVariants.{Header}
+use Rattle.mgn_setfile.specs.File.{Record, SoFar, judged}
 
 -- the record at a place, from 0
 abbrev pub record_at : List Record → ℕ → Record

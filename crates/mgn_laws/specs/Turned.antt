@@ -1,4 +1,4 @@
--- Nets with every position turned round.
+-- Nets with every position negated.
 use Rattle.std.specs.Prelude.{ℤ, neg_ℤ, List, map}
 
 -- what was long is short, and what was short is long

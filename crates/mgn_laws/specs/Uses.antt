@@ -3,11 +3,11 @@ use Rattle.std.specs.Prelude.{ℕ, ℤ, ◌==◌, if◌then◌else◌, List, len
 use Rattle.std.specs.List.{fold, sum_by}
 use Rattle.mgn_params.specs.declared.tables.CreditSpread.{CreditSpread}
 use Rattle.mgn_params.specs.declared.tables.Leg.{Leg}
-use Rattle.mgn_params.specs.Credits.{formed, forms, leg_credit, spread_amount}
-use Rattle.mgn_params.specs.Deltas.{net_delta}
-use Rattle.mgn_params.specs.Positions.{Position}
-use Rattle.mgn_params.specs.Requirement.{commodities_of, price_risk2_of}
-use Rattle.mgn_params.specs.Stages.{used}
+use Rattle.mgn_span.specs.Credits.{formed, forms, leg_credit, spread_amount}
+use Rattle.mgn_span.specs.Deltas.{net_delta}
+use Rattle.mgn_span.specs.Positions.{Position}
+use Rattle.mgn_span.specs.Requirement.{commodities_of, price_risk2_of}
+use Rattle.mgn_span.specs.Stages.{used}
 use Rattle.mgn_params.specs.Tables.{Tables, credit_spread_at, legs_of}
 
 -- the net delta of each commodity, and its doubled price risk

@@ -2,12 +2,12 @@
 
 ghost use Rattle.std.specs.Prelude.{◌≡◌, neg_ℤ};
 ghost use Rattle.mgn_laws.specs.Turned.{turned};
-ghost use Rattle.mgn_params.specs.Deltas.{long_delta, net_delta, short_delta};
-ghost use Rattle.mgn_params.specs.Positions.{positions};
+ghost use Rattle.mgn_span.specs.Deltas.{long_delta, net_delta, short_delta};
+ghost use Rattle.mgn_span.specs.Positions.{positions};
 
 use mgn_params::ParamSet;
 
-/// Where every position is turned round, long for short, the long and the short delta of each tier are exchanged.
+/// Where every position is negated, long for short, the long and the short delta of each tier are exchanged.
 pub fn turning_round_swaps_deltas(set: &ParamSet, nets: &[i64], commodity: usize, tier: usize)
     ensures long { long_delta set.now.months (positions set.now.contracts (turned nets.now)) commodity tier
         ≡ short_delta set.now.months (positions set.now.contracts nets.now) commodity tier }

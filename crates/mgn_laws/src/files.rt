@@ -3,9 +3,9 @@
 ghost use Rattle.std.specs.Prelude.{◌≡◌, ◌↔◌, ℕ, option_map, Some, Ok, Err, IfOk, IsOk};
 ghost use Rattle.mgn_laws.specs.Growth.{AddsRow};
 ghost use Rattle.mgn_laws.specs.Passing.{IsAccepted, IsFault, given_by};
-ghost use Rattle.mgn_params.specs.declared.fault.Cause.{Cause};
-ghost use Rattle.mgn_params.specs.Fields.{Fields};
-ghost use Rattle.mgn_params.specs.File.{SoFar, judged, outcome, records_of};
+ghost use Rattle.mgn_setfile.specs.declared.fault.Cause.{Cause};
+ghost use Rattle.mgn_setfile.specs.Fields.{Fields};
+ghost use Rattle.mgn_setfile.specs.File.{SoFar, judged, outcome, records_of};
 
 /// A file is accepted exactly where it has a record and each record passes its tests against the records before it.
 pub fn accepts_where_each_record_passes(text: &[u8])

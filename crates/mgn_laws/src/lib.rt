@@ -1,5 +1,5 @@
 //! Laws of the margin calculation in the words of its subject. No function here does any work: each is there for its
-//! contract, which says what follows from the definitions of `mgn_params`.
+//! contract, which says what follows from the definitions of `mgn_span` and `mgn_setfile`.
 #![tactic(auto)]
 
 mod credits;

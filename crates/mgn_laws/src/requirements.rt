@@ -2,13 +2,13 @@
 
 ghost use Rattle.std.specs.Prelude.{◌≡◌, ◌≤ℤ◌, pos};
 ghost use Rattle.mgn_laws.specs.Absent.{HoldsNone, other_nets, without};
-ghost use Rattle.mgn_params.specs.Positions.{AreFlat, positions};
-ghost use Rattle.mgn_params.specs.Requirement.{credit, intra_charge, minimum, requirement, risk, scan_of, spot_charge};
+ghost use Rattle.mgn_span.specs.Positions.{AreFlat, positions};
+ghost use Rattle.mgn_span.specs.Requirement.{credit, intra_charge, minimum, requirement, risk, scan_of, spot_charge};
 
 use mgn_params::ParamSet;
 
 /// A unit without positions owes nothing.
-#[tactic(auto, using(mgn_params::proofs::FlatLemmas::requirement_flat))]
+#[tactic(auto, using(mgn_span::proofs::FlatLemmas::requirement_flat))]
 pub fn flat_owes_nothing(set: &ParamSet, nets: &[i64])
     requires { AreFlat nets.now }
     ensures { requirement set.now nets.now ≡ pos 0 }

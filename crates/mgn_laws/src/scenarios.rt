@@ -3,9 +3,9 @@
 ghost use Rattle.std.specs.Prelude.{◌≡◌, ◌≤ℤ◌, neg_ℤ};
 ghost use Rattle.mgn_laws.specs.Turned.{turned};
 ghost use Rattle.mgn_laws.specs.Worst.{worst_cases};
-ghost use Rattle.mgn_params.specs.Positions.{positions};
-ghost use Rattle.mgn_params.specs.Requirement.{scan_of};
-ghost use Rattle.mgn_params.specs.Scan.{IsActive, active, scenario_total, value_at};
+ghost use Rattle.mgn_span.specs.Positions.{positions};
+ghost use Rattle.mgn_span.specs.Requirement.{scan_of};
+ghost use Rattle.mgn_span.specs.Scan.{IsActive, active, scenario_total, value_at};
 
 use mgn_params::ParamSet;
 
@@ -19,7 +19,7 @@ pub fn activates_lowest_largest(totals: &[i64; 16])
     ensures { IsActive (value_at totals.now) (active (value_at totals.now)) }
 {}
 
-/// Where every position is turned round, long for short, the total of each scenario changes its sign: a loss is the
+/// Where every position is negated, long for short, the total of each scenario changes its sign: a loss is the
 /// same gain.
 pub fn turning_round_turns_totals(set: &ParamSet, nets: &[i64], commodity: usize, scenario: usize)
     ensures { scenario_total commodity (positions set.now.contracts (turned nets.now)) scenario

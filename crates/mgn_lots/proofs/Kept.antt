@@ -1,6 +1,6 @@
 -- The positions that are kept stay those of the lots.
 use Rattle.std.proofs.Common.{◌≡◌, ℕ, ◌+◌, ◌-◌, ◌≤◌, ◌<◌, List, [], ◌∷◌, ◌++◌, length, set, get_or, refl, sym, ap, ◌∙◌, arith, true, false, true≢false, Bool, Option, Some, None, cond}
-use Rattle.std.specs.Prelude.{ℤ, pos, ◌+ℤ◌, ◌-ℤ◌, unsigned_abs, Result, Ok, Err, OnOk, OnErr, IsOk}
+use Rattle.std.specs.Prelude.{ℤ, pos, ◌+ℤ◌, ◌-ℤ◌, unsigned_abs, Result, Ok, Err, OnOk, IsOk, IsSome}
 use Rattle.std.specs.Str.{bytes_eq}
 use Rattle.std.proofs.lemmas.Int.{ints}
 use Rattle.std.proofs.lemmas.Slice.Eq.{bytes_eq-Decides}
@@ -12,19 +12,14 @@ use Rattle.mgn_lots.proofs.Shares.{lot_share-own, lot_share-other, net-push, gro
 
 -- results
 
--- what holds at Ok holds where there is no error
-pub at-ok : {A E : Type 0} {P Q : Type 0} (r : Result A E) → OnErr r Q → (Q → ⊥) → OnOk r P → P
-at-ok (Ok _) error never ok = ok
-at-ok (Err _) error never ok = absurd (never error)
-
 pub if-ok : {A E : Type 0} {P : Type 0} (r : Result A E) → IsOk r → OnOk r P → P
 if-ok (Ok _) is ok = ok
 if-ok (Err _) is ok = absurd (true≢false (sym is))
 
 -- a contract that has a gross is kept
-pub kept-there : (kept : Option Position) (contract : List ℕ) (lots : List Lot) → or_flat kept ≡ position_of contract lots → 1 ≤ gross contract lots → kept ≡ None → ⊥
-kept-there kept contract lots are some none =
-    omega (arith, some, ap (λ (p : Position). p.gross) (sym are ∙ ap or_flat none))
+pub kept-there : (kept : Option Position) (contract : List ℕ) (lots : List Lot) → or_flat kept ≡ position_of contract lots → 1 ≤ gross contract lots → IsSome kept
+kept-there (Some p) contract lots are some = refl
+kept-there None contract lots are some = absurd (omega (arith, some, ap (λ (p : Position). p.gross) are))
 
 pub same-position : (p : Position) (contract : List ℕ) (lots : List Lot) → p.net ≡ net contract lots → p.gross ≡ gross contract lots → p ≡ position_of contract lots
 same-position p contract lots n g = λ i. record { net = n i; gross = g i }

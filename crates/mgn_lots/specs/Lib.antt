@@ -1,4 +1,3 @@
 pub mod Lots
 pub mod LotList
-pub mod Refusals
 pub mod Positions

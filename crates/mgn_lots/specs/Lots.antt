@@ -1,7 +1,7 @@
 -- The lots of an account: which of them count, and what they come to (own profile).
-use Rattle.std.specs.Prelude.{ℕ, ℤ, pos, ◌≤◌, ◌^◌, ◌*ℤ◌, unsigned_abs, Bool, true, false, List, [], map, slice_index_or, if◌then◌else◌}
+use Rattle.std.specs.Prelude.{ℕ, ℤ, pos, ◌≤◌, ◌^◌, ◌*ℤ◌, unsigned_abs, Bool, true, false, List, [], map, length, nat_le, nat_eq, position, Option, slice_index_or, if◌then◌else◌}
 use Rattle.std.specs.Str.{bytes_eq}
-use Rattle.std.specs.List.{sum_by}
+use Rattle.std.specs.List.{list_any, sum_by}
 use Rattle.mgn_num.specs.Signed.{signed_sum_by}
 use Rattle.mgn_lots.specs.declared.lot.Mark.{Mark}
 use Rattle.mgn_lots.specs.declared.lot.Mark.TheVariants.{Traded, Moved, Busted}
@@ -12,6 +12,16 @@ abbrev pub is_live : Mark → Bool
 is_live Traded = true
 is_live Moved = true
 is_live Busted = false
+
+abbrev pub is_moved : Mark → Bool
+is_moved Traded = false
+is_moved Moved = true
+is_moved Busted = false
+
+abbrev pub is_busted : Mark → Bool
+is_busted Traded = false
+is_busted Moved = false
+is_busted Busted = true
 
 -- the quantity for which a lot counts
 abbrev pub live_quantity : Lot → ℤ
@@ -46,6 +56,18 @@ pub record IsLot (x : Lot) : Type 0 where
 abbrev pub numbers_of : List Lot → List ℕ
 numbers_of lots = map (λ (x : Lot). x.number) lots
 
+-- there is a lot of that number, busted or not
+abbrev pub has_number : List Lot → ℕ → Bool
+has_number lots number = list_any (nat_eq number) (numbers_of lots)
+
+-- where the lot of a number stands
+abbrev pub place_of_lot : List Lot → ℕ → Option ℕ
+place_of_lot lots number = position (nat_eq number) (numbers_of lots)
+
+-- an account has at most 65,536 lots, busted ones included
+abbrev pub is_full : List Lot → Bool
+is_full lots = nat_le 65536 (length lots)
+
 -- stands for the lot past the end of a list, which no one asks for
 abbrev pub no_lot : Lot
 no_lot = record { number = 0; contract = []; quantity = pos 0; premium = 0; mark = Busted }
@@ -53,6 +75,6 @@ no_lot = record { number = 0; contract = []; quantity = pos 0; premium = 0; mark
 abbrev pub lot_at : List Lot → ℕ → Lot
 lot_at lots i = slice_index_or lots i no_lot
 
--- a lot that is taken back
+-- a lot that is busted
 abbrev pub busted : Lot → Lot
 busted x = record x { mark = Busted }

@@ -1,3 +1,5 @@
+ghost use Rattle.std.specs.Prelude.{◌≡◌};
+
 use mgn_ids::{ContractName, LotId};
 use mgn_num::Quantity;
 
@@ -8,8 +10,22 @@ pub enum Mark {
     Traded,
     /// By a transfer between accounts. Such a lot cannot be busted.
     Moved,
-    /// It was a traded lot and was taken back. It counts for nothing, but its number stays taken.
+    /// It was a traded lot and was undone. It counts for nothing, but its number stays taken.
     Busted,
+}
+
+impl Mark {
+    ghost use Rattle.mgn_lots.specs.Lots.{is_live};
+
+    /// Whether a lot of this mark counts.
+    pub fn is_live(self) -> bool
+        ensures { result ≡ is_live self }
+    {
+        match self {
+            Mark::Traded | Mark::Moved => true,
+            Mark::Busted => false,
+        }
+    }
 }
 
 /// A quantity of one contract that was entered at one premium.
@@ -24,4 +40,19 @@ pub struct Lot {
     /// Cents for each contract, 0 to 10^8.
     pub premium: u32,
     pub mark: Mark,
+}
+
+impl Lot {
+    ghost use Rattle.mgn_lots.specs.Lots.{live_quantity};
+
+    /// The quantity for which the lot counts, in contracts: 0 where it is busted.
+    pub fn live_quantity(&self) -> Quantity
+        ensures { result ≡ live_quantity self.now }
+    {
+        if self.mark.is_live() {
+            self.quantity
+        } else {
+            Quantity::ZERO
+        }
+    }
 }

@@ -1,14 +1,10 @@
-ghost use Rattle.std.specs.Prelude.{◌≡◌, ◌≢◌, ◌<◌, ◌+◌, ◌^◌, ◌+ℤ◌, unsigned_abs, ◌++◌, ◌∷◌, ◌↔◌, [], Some, None, Ok, Err, length, position, nat_eq, slice_set, OnOk, OnErr, IfOk, IfErr, IfSome, IsOk, IsTrue, true, false, map};
-ghost use Rattle.std.specs.List.{list_any};
-ghost use Rattle.std.specs.Option.{option_map, option_copied};
+ghost use Rattle.std.specs.Prelude.{◌≡◌, ◌<◌, ◌≤◌, ◌+◌, ◌^◌, ◌+ℤ◌, ◌-ℤ◌, unsigned_abs, ◌++◌, ◌∷◌, [], Some, length, slice_set, OnOk, OnErr, IfSome, IsOk, IsSome, true, false};
 ghost use Rattle.std.specs.Str.{bytes_eq};
 ghost use Rattle.indexmap.specs.IndexMap.{get, spare, Updates};
 ghost use Rattle.mgn_num.specs.Amount.{IsQuantity};
-ghost use Rattle.mgn_lots.specs.Lots.{IsLot, lot_at, busted, numbers_of, live_quantity, net, gross, is_live};
-ghost use Rattle.mgn_lots.specs.Refusals.{has_number, is_full, added, Explains, place_of_lot, traded_place, removed};
-ghost use Rattle.mgn_lots.specs.Positions.{or_flat, position_of, position_with};
+ghost use Rattle.mgn_lots.specs.Lots.{IsLot, lot_at, busted, has_number, is_full, place_of_lot, net, gross, is_live};
+ghost use Rattle.mgn_lots.specs.Positions.{or_flat, position_of, position_with, position_without};
 
-use crate::fault::{AddFault, RemoveFault};
 use crate::lot::{Lot, Mark};
 use crate::position::Position;
 use indexmap::{IndexMap, IndexSet};
@@ -28,32 +24,37 @@ pub struct Lots {
     lots: Vec<Lot>,
     numbers: IndexSet<LotId>,
     positions: IndexMap<ContractName, Position>,
+    // Each of the three has room for one more, whatever its contract, and none has used it since.
+    reserved: bool,
 }
 
 impl Model for Lots {
-    ghost use Rattle.std.specs.Prelude.{nat_lt, ◌&&◌, vec_len, vec_capacity};
+    ghost use Rattle.std.specs.Prelude.{vec_len, vec_capacity};
     ghost use Rattle.std.specs.Str.{bytes_eq};
     ghost use Rattle.indexmap.specs.IndexSet.{spare as spare_numbers};
     ghost use Rattle.indexmap.specs.IndexMap.{get, spare as spare_positions};
     ghost use Rattle.mgn_lots.specs.LotList.{LotList};
-    ghost use Rattle.mgn_lots.specs.Positions.{IsLots};
+    ghost use Rattle.mgn_lots.specs.Positions.{IsLots, HasRoom};
 
     ghost Value = { LotList };
 
-    ghost view = { λ l. record { lots = l.lots.items; reserved = nat_lt (vec_len l.lots) (vec_capacity l.lots) && nat_lt 0 (spare_numbers l.numbers) && nat_lt 0 (spare_positions l.positions) } };
+    ghost view = { λ l. record { lots = l.lots.items; reserved = l.reserved } };
 
-    ghost invariant = { λ l. IsLots l.lots.items l.numbers.keys (get bytes_eq l.positions) };
+    ghost invariant = { λ l. IsLots l.lots.items l.numbers.keys (get bytes_eq l.positions) l.reserved
+        (HasRoom (vec_len l.lots) (vec_capacity l.lots) (spare_numbers l.numbers) (spare_positions l.positions)) };
 }
 
 impl Lots {
-    /// No lots. Takes no memory.
+    /// No lots, and nothing reserved. Takes no memory.
     pub fn new(alloc: Global) -> Lots
-        ensures { result.lots ≡ [] }
+        ensures lots { result.lots ≡ [] }
+        ensures reserved { result.reserved ≡ false }
     {
         Lots {
             lots: Vec::new(alloc),
             numbers: IndexSet::new(alloc),
             positions: IndexMap::new(alloc),
+            reserved: false,
         }
     }
 
@@ -102,16 +103,7 @@ impl Lots {
         &self.lots[place]
     }
 
-    /// The lot of a number, busted or not.
-    pub fn find(&self, number: LotId) -> Option<&Lot>
-        ensures lot { option_copied result ≡ option_map (lot_at self.now.lots) (place_of_lot self.now.lots number) }
-        ensures limits { IfSome result (λ lot. IsLot lot.now) }
-    {
-        let place = self.place(number)?;
-        Some(self.at(place))
-    }
-
-    /// The net of a contract: the sum of the quantities of its live lots.
+    /// The net of a contract, in contracts: the sum of the quantities of its live lots.
     pub fn net(&self, contract: &ContractName) -> Quantity
         ensures { result ≡ net contract.now self.now.lots }
     {
@@ -131,114 +123,79 @@ impl Lots {
         position_in(&self.positions, contract)
     }
 
-    /// Reserves memory for one more lot, whatever its contract: the next one is then added without any. Lots that are
-    /// there stay, also where memory is refused.
+    /// Reserves memory for one more lot, whatever its contract: the next one is then added without any. Where memory is
+    /// refused nothing has changed; where it is reserved already none is taken.
     pub fn reserve(&mut self) -> Result<(), AllocError>
         ensures lots { self.new.lots ≡ self.old.lots }
         ensures ok { OnOk result (self.new.reserved ≡ true) }
+        ensures err { OnErr result (self.new ≡ self.old) }
         ensures succeeds { self.old.reserved ≡ true → IsOk result }
-        ensures kept { self.old.reserved ≡ true → self.new.reserved ≡ true }
     {
         self.lots.reserve(1)?;
         self.numbers.reserve(1)?;
-        self.positions.reserve(1)
+        self.positions.reserve(1)?;
+        self.reserved = true;
+        Ok(())
     }
 
-    /// Adds a lot of a new number, for which memory is reserved.
-    pub fn enter(&mut self, lot: &Lot)
-        requires limits { IsLot lot.now }
-        requires fresh { has_number self.old.lots lot.now.number ≡ false }
-        requires room { is_full self.old.lots ≡ false }
-        requires reserved { self.old.reserved ≡ true }
-        ensures { self.new.lots ≡ self.old.lots ++ lot.now ∷ [] }
+    // Whether memory for one more lot is reserved.
+    pub(crate) fn is_reserved(&self) -> bool
+        ensures { result ≡ self.now.reserved }
     {
-        self.lots.push_reserved(*lot);
-        let _ = self.numbers.insert(lot.number);
-        add_to_position(&mut self.positions, lot.contract, live_quantity(lot));
+        self.reserved
     }
 
-    /// Adds a lot of a new number. Where memory is refused nothing has changed.
-    pub fn push(&mut self, lot: &Lot) -> Result<(), AllocError>
+    // Gives a reservation up. The memory stays, but is promised to no lot.
+    pub(crate) fn give_up_reserved(&mut self)
+        ensures lots { self.new.lots ≡ self.old.lots }
+        ensures reserved { self.new.reserved ≡ false }
+    {
+        self.reserved = false;
+    }
+
+    /// Adds a lot of a new number within the limits, where there is room for it. Where memory is refused nothing has
+    /// changed; where it is reserved none is taken.
+    pub fn add(&mut self, lot: &Lot) -> Result<(), AllocError>
         requires limits { IsLot lot.now }
         requires fresh { has_number self.old.lots lot.now.number ≡ false }
         requires room { is_full self.old.lots ≡ false }
         ensures ok { OnOk result (self.new.lots ≡ self.old.lots ++ lot.now ∷ []) }
-        ensures err { OnErr result (self.new.lots ≡ self.old.lots) }
-        ensures reserved { self.old.reserved ≡ true → IsOk result }
+        ensures spent { OnOk result (self.new.reserved ≡ false) }
+        ensures err { OnErr result (self.new ≡ self.old) }
+        ensures succeeds { self.old.reserved ≡ true → IsOk result }
     {
         self.reserve()?;
-        self.enter(lot);
+        self.add_reserved(lot);
         Ok(())
     }
 
-    /// Adds a lot. `Double` where there is a lot of its number, busted or not; `Limit` where there are 65,536; `Memory`
-    /// where memory is refused, and never after `reserve`. At an error nothing has changed.
-    pub fn add(&mut self, lot: &Lot) -> Result<(), AddFault>
-        requires { IsLot lot.now }
-        ensures ok { OnOk result (added self.old.lots lot.now ≡ Ok self.new.lots) }
-        ensures err { OnErr result (self.new.lots ≡ self.old.lots) }
-        ensures why { IfErr result (λ why. Explains why (added self.old.lots lot.now)) }
-        ensures reserved { self.old.reserved ≡ true → result ≢ Err AddFault.Memory }
+    /// Adds a lot of a new number within the limits, where there is room for it, in the memory that is reserved. That
+    /// is then spent.
+    pub fn add_reserved(&mut self, lot: &Lot)
+        requires limits { IsLot lot.now }
+        requires fresh { has_number self.old.lots lot.now.number ≡ false }
+        requires room { is_full self.old.lots ≡ false }
+        requires reserved { self.old.reserved ≡ true }
+        ensures lots { self.new.lots ≡ self.old.lots ++ lot.now ∷ [] }
+        ensures spent { self.new.reserved ≡ false }
     {
-        if self.has(lot.number) {
-            return Err(AddFault::Double);
-        }
-        if self.is_full() {
-            return Err(AddFault::Limit);
-        }
-        self.push(lot)?;
-        Ok(())
+        self.reserved = false;
+        self.lots.push_reserved(*lot);
+        let _ = self.numbers.insert(lot.number);
+        add_to_position(&mut self.positions, lot.contract, lot.live_quantity());
     }
 
-    /// Where the lot of a number stands, if it is a traded one: `NoLot` where there is none or it is busted, `Moved`
-    /// where it was moved.
-    pub fn traded_place(&self, number: LotId) -> Result<usize, RemoveFault>
-        ensures place { result ≡ traded_place self.now.lots number }
-        ensures within { IfOk result (λ i. i < length self.now.lots) }
-        ensures traded { IfOk result (λ i. (lot_at self.now.lots i).mark ≡ Mark.Traded) }
-    {
-        let Some(place) = self.place(number) else {
-            return Err(RemoveFault::NoLot);
-        };
-        match self.lots[place].mark {
-            Mark::Traded => Ok(place),
-            Mark::Moved => Err(RemoveFault::Moved),
-            Mark::Busted => Err(RemoveFault::NoLot),
-        }
-    }
-
-    /// Marks a live lot busted: it counts for nothing from now on. Takes no memory.
+    /// Marks the live lot at a place busted: it counts for nothing from now on, and its number stays taken. Takes no
+    /// memory.
     pub fn bust(&mut self, place: usize)
         requires within { place < length self.old.lots }
         requires live { is_live (lot_at self.old.lots place).mark ≡ true }
-        ensures { self.new.lots ≡ slice_set self.old.lots place (busted (lot_at self.old.lots place)) }
+        ensures lots { self.new.lots ≡ slice_set self.old.lots place (busted (lot_at self.old.lots place)) }
+        ensures reserved { self.new.reserved ≡ self.old.reserved }
     {
         let lot = &mut self.lots[place];
         lot.mark = Mark::Busted;
-        let position = position_in(&self.positions, &lot.contract).without(lot.quantity);
-        let _ = self.positions.insert(lot.contract, position);
-    }
-
-    /// Marks the traded lot of a number busted. `NoLot` where there is none or it is busted already, `Moved` where it
-    /// was moved; nothing has changed then. Takes no memory.
-    pub fn remove(&mut self, number: LotId) -> Result<(), RemoveFault>
-        ensures ok { OnOk result (removed self.old.lots number ≡ Ok self.new.lots) }
-        ensures err { OnErr result (self.new ≡ self.old) }
-        ensures why { IfErr result (λ why. removed self.old.lots number ≡ Err why) }
-    {
-        let place = self.traded_place(number)?;
-        self.bust(place);
-        Ok(())
-    }
-}
-
-/// The quantity for which a lot counts.
-fn live_quantity(lot: &Lot) -> Quantity
-    ensures { result ≡ live_quantity lot.now }
-{
-    match lot.mark {
-        Mark::Traded | Mark::Moved => lot.quantity,
-        Mark::Busted => Quantity::ZERO,
+        take_from_position(&mut self.positions, lot.contract, lot.quantity);
     }
 }
 
@@ -261,11 +218,30 @@ fn add_to_position(
     requires room { 0 < spare positions.old }
     requires net { IsQuantity ((or_flat (get bytes_eq positions.old contract)).net +ℤ quantity) }
     requires gross { (or_flat (get bytes_eq positions.old contract)).gross + unsigned_abs quantity < 2 ^ 64 }
-    ensures { Updates bytes_eq positions.old positions.new contract (Some (position_with (or_flat (get bytes_eq positions.old contract)) quantity)) }
+    ensures { Updates bytes_eq positions.old positions.new contract
+        (Some (position_with (or_flat (get bytes_eq positions.old contract)) quantity)) }
 {
     if let Some(position) = positions.get_mut(&contract) {
         *position = position.with(quantity);
         return;
     }
     let _ = positions.insert(contract, Position::flat().with(quantity));
+}
+
+// A quantity less in a contract that has a position, which is found by one hash.
+fn take_from_position(
+    positions: &mut IndexMap<ContractName, Position>,
+    contract: ContractName,
+    quantity: Quantity,
+)
+    requires kept { IsSome (get bytes_eq positions.old contract) }
+    requires net { IsQuantity ((or_flat (get bytes_eq positions.old contract)).net -ℤ quantity) }
+    requires gross { unsigned_abs quantity ≤ (or_flat (get bytes_eq positions.old contract)).gross }
+    ensures updates { Updates bytes_eq positions.old positions.new contract
+        (Some (position_without (or_flat (get bytes_eq positions.old contract)) quantity)) }
+    ensures room { spare positions.new ≡ spare positions.old }
+{
+    if let Some(position) = positions.get_mut(&contract) {
+        *position = position.without(quantity);
+    }
 }

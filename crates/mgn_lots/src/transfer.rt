@@ -1,14 +1,13 @@
-ghost use Rattle.std.specs.Prelude.{◌≡◌, ◌++◌, ◌∷◌, [], OnOk, OnErr, false};
-ghost use Rattle.mgn_lots.specs.Lots.{IsLot};
-ghost use Rattle.mgn_lots.specs.Refusals.{has_number, is_full};
+ghost use Rattle.std.specs.Prelude.{◌≡◌, ◌++◌, ◌∷◌, [], OnOk, OnErr, IsOk, true, false};
+ghost use Rattle.mgn_lots.specs.Lots.{IsLot, has_number, is_full};
 
 use crate::lot::Lot;
 use crate::lots::Lots;
 use std::alloc::AllocError;
 
-/// Adds one lot to each of two lists, as a transfer between accounts does. Memory is reserved in both before either
-/// changes, and where it is refused neither has changed.
-pub fn push_both(
+/// Adds one lot to each of two lists, as a transfer between accounts does. All memory is taken before either changes,
+/// and where it is refused neither has changed.
+pub fn add_both(
     giver: &mut Lots,
     taker: &mut Lots,
     given: &Lot,
@@ -22,12 +21,18 @@ pub fn push_both(
     requires taker_room { is_full taker.old.lots ≡ false }
     ensures given { OnOk result (giver.new.lots ≡ giver.old.lots ++ given.now ∷ []) }
     ensures taken { OnOk result (taker.new.lots ≡ taker.old.lots ++ taken.now ∷ []) }
-    ensures giver_err { OnErr result (giver.new.lots ≡ giver.old.lots) }
-    ensures taker_err { OnErr result (taker.new.lots ≡ taker.old.lots) }
+    ensures giver_err { OnErr result (giver.new ≡ giver.old) }
+    ensures taker_err { OnErr result (taker.new ≡ taker.old) }
+    ensures succeeds { giver.old.reserved ≡ true → taker.old.reserved ≡ true → IsOk result }
 {
-    giver.reserve()?;
+    let was_reserved = taker.is_reserved();
     taker.reserve()?;
-    giver.enter(given);
-    taker.enter(taken);
+    if let Err(refused) = giver.add(given) {
+        if !was_reserved {
+            taker.give_up_reserved();
+        }
+        return Err(refused);
+    }
+    taker.add_reserved(taken);
     Ok(())
 }

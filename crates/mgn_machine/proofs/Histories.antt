@@ -1,18 +1,24 @@
 -- A history with one more entry, and under more sets.
-use Rattle.std.proofs.Common.{◌≡◌, ◌<◌, ◌≤◌, ◌∙◌, ℕ, suc, Bool, true, false, cond, List, [], ◌∷◌, ◌++◌, length, sym, ap, subst, refl, append_assoc, arith, length-append}
+use Rattle.std.proofs.Common.{◌≡◌, ◌<◌, ◌≤◌, ◌∙◌, ℕ, suc, Bool, true, false, cond, Result, Ok, Err, List, [], ◌∷◌, ◌++◌, length, sym, ap, subst, refl, append_assoc, arith, length-append}
 use Rattle.std.specs.Prelude.{◌==◌}
 use Rattle.std.proofs.lemmas.List.{append-nil, get_or_append_left}
+use Rattle.mgn_params.specs.Shelves.{set_at}
 use Rattle.mgn_params.specs.Tables.{Tables, no_tables}
-use Rattle.mgn_machine.specs.declared.command.Command.{Command}
 use Rattle.mgn_machine.specs.declared.entry.Entry.{Entry}
 use Rattle.mgn_machine.specs.State.{State}
-use Rattle.mgn_machine.specs.Step.{step, step_under}
-use Rattle.mgn_machine.specs.History.{replay, replay_from, Follows, LegalFrom, Legal, calls}
+use Rattle.mgn_machine.specs.declared.reply.Refusal.{Refusal}
+use Rattle.mgn_machine.specs.declared.reply.Reply.{Reply}
+use Rattle.mgn_machine.specs.declared.request.Recorded.{Recorded}
+use Rattle.mgn_machine.specs.declared.request.Recorded.TheVariants.{Asked, InForce, SetRefused}
+use Rattle.mgn_machine.specs.declared.request.Request.{Request}
+use Rattle.mgn_machine.specs.declared.request.Request.TheVariants.{Do, Switch}
+use Rattle.mgn_machine.specs.Step.{step, step_under, switched}
+use Rattle.mgn_machine.specs.History.{replay, replay_from, Follows, LegalFrom, Legal, calls, next, recorded, recorded_switch, request_of}
 
 -- its replay is one step further
-pub replay-push : (sets : List Tables) (s : State) (history : List Entry) (e : Entry) → replay_from sets s (history ++ e ∷ []) ≡ (step sets (replay_from sets s history) e.command).0
+pub replay-push : (sets : List Tables) (s : State) (history : List Entry) (e : Entry) → replay_from sets s (history ++ e ∷ []) ≡ (next sets (replay_from sets s history) e).0
 replay-push sets s [] e = refl
-replay-push sets s (x ∷ history) e = replay-push sets (step sets s x.command).0 history e
+replay-push sets s (x ∷ history) e = replay-push sets (next sets s x).0 history e
 
 -- it is legal where the entry follows
 pub legal_from-push : (sets : List Tables) (before history : List Entry) (e : Entry) → LegalFrom sets before history → Follows sets (before ++ history) e → LegalFrom sets before (history ++ e ∷ [])
@@ -42,22 +48,52 @@ calls-few session (e ∷ es) = few_by (e.session == session) (calls session es) 
 
 -- Under more sets a legal history is legal, and leads to the same state.
 
-same_step : (sets more : List Tables) (s : State) (command : Command) → s.version < length sets → step (sets ++ more) s command ≡ step sets s command
-same_step sets more s command shown = ap (λ (t : Tables). step_under t s command) (get_or_append_left sets more (no_tables []) s.version shown)
+-- the version of a set that came into force
+abbrev version_of : ℕ → Recorded → ℕ
+version_of other (Asked command) = other
+version_of other (InForce version) = version
+version_of other (SetRefused t) = other
 
-same_next : (sets more : List Tables) (before : List Entry) (e : Entry) → replay (sets ++ more) before ≡ replay sets before → (replay sets before).version < length sets
+-- a switch that is kept by a version leads to that version
+leads : (s : State) (on_call : ℕ) (r : Result (Unit {0}) Refusal) (t : Tables) (version : ℕ) → InForce version ≡ recorded_switch t (switched s on_call r).1 → version ≡ (switched s on_call r).0.version
+leads s on_call (Ok done) t version kept = ap (version_of 0) kept
+leads s on_call (Err why) t version kept = ap (version_of s.version) kept
+
+-- what an entry asks is the same
+same_request : (sets more : List Tables) (s : State) (r : Recorded) (reply : Reply) → (step sets s (request_of sets r)).0.version < length sets → r ≡ recorded (request_of sets r) reply
+    → reply ≡ (step sets s (request_of sets r)).1 → request_of (sets ++ more) r ≡ request_of sets r
+same_request sets more s (Asked command) reply after kept is = refl
+same_request sets more s (InForce version) reply after kept is =
+    let same : version ≡ (step sets s (Switch (set_at sets version))).0.version = leads s _ _ (set_at sets version) version (kept ∙ ap (λ (x : Reply). recorded_switch (set_at sets version) x) is) in
+    ap (λ (t : Tables). Switch t) (get_or_append_left sets more (no_tables []) version (omega (arith, same, after)))
+same_request sets more s (SetRefused t) reply after kept is = refl
+
+same_step : (sets more : List Tables) (s : State) (request : Request) → s.version < length sets → step (sets ++ more) s request ≡ step sets s request
+same_step sets more s (Do command) shown = ap (λ (t : Tables). step_under t s command) (get_or_append_left sets more (no_tables []) s.version shown)
+same_step sets more s (Switch t) shown = refl
+
+-- the entry leads to the same state and reply
+same_next : (sets more : List Tables) (before : List Entry) (e : Entry) → Follows sets before e → next (sets ++ more) (replay sets before) e ≡ next sets (replay sets before) e
+same_next sets more before e follows =
+    ap (λ (r : Request). step (sets ++ more) (replay sets before) r) (same_request sets more (replay sets before) e.request e.reply follows.after follows.request follows.reply)
+    ∙ same_step sets more (replay sets before) (request_of sets e.request) follows.shown
+
+same_replay : (sets more : List Tables) (before : List Entry) (e : Entry) → replay (sets ++ more) before ≡ replay sets before → Follows sets before e
     → replay (sets ++ more) (before ++ e ∷ []) ≡ replay sets (before ++ e ∷ [])
-same_next sets more before e same shown =
+same_replay sets more before e same follows =
     replay-push (sets ++ more) _ before e
-    ∙ ap (λ (s : State). (step (sets ++ more) s e.command).0) same
-    ∙ ap (λ x. x.0) (same_step sets more (replay sets before) e.command shown)
+    ∙ ap (λ (s : State). (next (sets ++ more) s e).0) same
+    ∙ ap (λ x. x.0) (same_next sets more before e follows)
     ∙ sym (replay-push sets _ before e)
 
 more_follows : (sets more : List Tables) (before : List Entry) (e : Entry) → replay (sets ++ more) before ≡ replay sets before → Follows sets before e → Follows (sets ++ more) before e
 more_follows sets more before e same follows =
+    let all : next (sets ++ more) (replay (sets ++ more) before) e ≡ next sets (replay sets before) e = ap (λ (s : State). next (sets ++ more) s e) same ∙ same_next sets more before e follows in
     record {
       shown = subst (λ (s : State). s.version < length (sets ++ more)) (sym same) (omega (arith, follows.shown, length-append sets more));
-      reply = follows.reply ∙ sym (ap (λ (s : State). (step (sets ++ more) s e.command).1) same ∙ ap (λ x. x.1) (same_step sets more (replay sets before) e.command follows.shown));
+      after = subst (λ (x : State × Reply). x.0.version < length (sets ++ more)) (sym all) (omega (arith, follows.after, length-append sets more));
+      request = subst (λ (r : Request). e.request ≡ recorded r e.reply) (sym (same_request sets more (replay sets before) e.request e.reply follows.after follows.request follows.reply)) follows.request;
+      reply = follows.reply ∙ sym (ap (λ x. x.1) all);
       number = follows.number;
     }
 
@@ -65,7 +101,7 @@ pub legal_from-more : (sets more : List Tables) (before history : List Entry) �
     → LegalFrom (sets ++ more) before history × replay (sets ++ more) (before ++ history) ≡ replay sets (before ++ history)
 legal_from-more sets more before [] same legal = (tt, rw (append-nil before) same)
 legal_from-more sets more before (e ∷ es) same legal =
-    let later = legal_from-more sets more (before ++ e ∷ []) es (same_next sets more before e same legal.0.shown) legal.1 in
+    let later = legal_from-more sets more (before ++ e ∷ []) es (same_replay sets more before e same legal.0) legal.1 in
     ((more_follows sets more before e same legal.0, later.0), rw (← append_assoc before (e ∷ []) es) later.1)
 
 pub legal-more : (sets more : List Tables) (history : List Entry) → Legal sets history → Legal (sets ++ more) history

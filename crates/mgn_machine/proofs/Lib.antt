@@ -1,11 +1,3 @@
-pub mod Sums
-pub mod Moved
-pub mod Bounded
-pub mod AccountMoves
-pub mod HoldMoves
-pub mod FillMoves
-pub mod AtLimit
+-- Laws of histories and steps.
 pub mod Histories
-pub mod Short
 pub mod Versions
-pub mod Flat

@@ -10,7 +10,7 @@ use Rattle.mgn_machine.specs.declared.reply.Refusal.{Refusal}
 use Rattle.mgn_machine.specs.declared.reply.Refusal.TheVariants.{NoRoom}
 use Rattle.mgn_machine.specs.State.{State}
 use Rattle.mgn_machine.specs.Refusals.{◌>>=◌, if_room}
-use Rattle.mgn_machine.specs.Rows.{row_of, room_of, least_side}
+use Rattle.mgn_machine.specs.Room.{unit_room}
 use Rattle.mgn_machine.specs.Holding.{entered, filled, released}
 use Rattle.mgn_machine.specs.Step.{answered, step_under, with_origin, with_account, originated, opened, traded, undone, posted, drawn, ended}
 
@@ -37,20 +37,20 @@ of_origin : (s : State) (name : List ℕ) (mode : Mode) → IsOf s.version (Ok (
 of_origin s name Gross = of_done s.version _ refl
 of_origin s name Net = of_done s.version _ refl
 
-of_account : (s : State) (name : List ℕ) (unit : Option ℕ) → IsOf s.version (Ok (with_account s name unit))
-of_account s name None = of_done s.version _ refl
-of_account s name (Some u) = of_done s.version _ refl
+of_account : (s : State) (name : List ℕ) (home : ℕ × Option ℕ) → IsOf s.version (Ok (with_account s name home))
+of_account s name (origin, None) = of_done s.version _ refl
+of_account s name (origin, Some u) = of_done s.version _ refl
 
 of_test : (b : Bool) (version : ℕ) (now : State) → now.version ≡ version → IsOf version (cond b (Err NoRoom) (Ok now))
 of_test true version now same = record { leads = tt }
 of_test false version now same = of_done version now same
 
 of_room : (set' : Tables) (u version : ℕ) (now : State) → now.version ≡ version → IsOf version (if_room set' u now)
-of_room set' u version now same = of_test (int_lt (room_of (least_side (row_of set' now.accounts u))) (pos 0)) version now same
+of_room set' u version now same = of_test (int_lt (unit_room set' now.accounts u) (pos 0)) version now same
 
 pub keeps_version : (set' : Tables) (s : State) (command : Command) → (step_under set' s command).0.version ≡ s.version
 keeps_version set' s (NewOrigin name mode) = of_answer s (originated s name mode) (of_chain s.version _ _ (λ _. of_origin s name mode))
-keeps_version set' s (NewAccount account origin) = of_answer s (opened s account origin) (of_chain s.version _ _ (λ u. of_account s account u))
+keeps_version set' s (NewAccount account origin) = of_answer s (opened s account origin) (of_chain s.version _ _ (λ home. of_account s account home))
 keeps_version set' s (Trade account lot contract quantity premium) = of_answer s (traded set' s account lot contract quantity premium) (of_chain s.version _ _ (λ _. of_done s.version _ refl))
 keeps_version set' s (Bust account lot) = of_answer s (undone s account lot) (of_chain s.version _ _ (λ _. of_done s.version _ refl))
 keeps_version set' s (Hold account order contract quantity limit) = of_answer s (entered set' s account order contract quantity limit) (of_chain s.version _ _ (λ at. of_room set' _ s.version _ refl))

@@ -1,22 +1,49 @@
 -- Histories: what was committed, in order, and when that is legal (own profile). The sets are those of a shelf, by version.
 use Rattle.std.specs.Prelude.{ℕ, suc, ◌+◌, ◌<◌, ◌≡◌, ◌==◌, if◌then◌else◌, List, [], ◌∷◌, ◌++◌, length}
+use Rattle.mgn_params.specs.Shelves.{set_at}
 use Rattle.mgn_params.specs.Tables.{Tables}
-use Rattle.mgn_machine.specs.declared.command.Command.{Command}
 use Rattle.mgn_machine.specs.declared.entry.Entry.{Entry}
 use Rattle.mgn_machine.specs.declared.entry.Item.{Item}
 use Rattle.mgn_machine.specs.declared.reply.Reply.{Reply}
+use Rattle.mgn_machine.specs.declared.reply.Reply.TheVariants.{Done, Figures, NewSet, Refused}
+use Rattle.mgn_machine.specs.declared.request.Recorded.{Recorded}
+use Rattle.mgn_machine.specs.declared.request.Recorded.TheVariants.{Asked, InForce, SetRefused}
+use Rattle.mgn_machine.specs.declared.request.Request.{Request}
+use Rattle.mgn_machine.specs.declared.request.Request.TheVariants.{Do, Switch}
 use Rattle.mgn_machine.specs.State.{State, start}
 use Rattle.mgn_machine.specs.Step.{step}
 
-abbrev pub entry : ℕ → ℕ → Command → Reply → Entry
-entry session number command reply = record { session = session; number = number; command = command; reply = reply }
+-- how a switch is kept: by the version that it was told, or with its set, where it was refused
+abbrev pub recorded_switch : Tables → Reply → Recorded
+recorded_switch set (NewSet told) = InForce told.version
+recorded_switch set (Refused why) = SetRefused set
+recorded_switch set Done = SetRefused set
+recorded_switch set (Figures figures) = SetRefused set
 
-abbrev pub item : ℕ → Command → Reply → Item
-item place command reply = record { place = place; command = command; reply = reply }
+-- how a request is kept that was answered
+abbrev pub recorded : Request → Reply → Recorded
+recorded (Do command) reply = Asked command
+recorded (Switch set) reply = recorded_switch set reply
+
+-- the request that is kept: a version stands for the set that it shows
+abbrev pub request_of : List Tables → Recorded → Request
+request_of sets (Asked command) = Do command
+request_of sets (InForce version) = Switch (set_at sets version)
+request_of sets (SetRefused set) = Switch set
+
+abbrev pub entry : ℕ → ℕ → Recorded → Reply → Entry
+entry session number request reply = record { session = session; number = number; request = request; reply = reply }
+
+abbrev pub item : ℕ → Recorded → Reply → Item
+item place request reply = record { place = place; request = request; reply = reply }
+
+-- one step further, by an entry
+abbrev pub next : List Tables → State → Entry → State × Reply
+next sets s e = step sets s (request_of sets e.request)
 
 abbrev pub replay_from : List Tables → State → List Entry → State
 replay_from sets s [] = s
-replay_from sets s (e ∷ es) = replay_from sets (step sets s e.command).0 es
+replay_from sets s (e ∷ es) = replay_from sets (next sets s e).0 es
 
 -- the state after a history
 abbrev pub replay : List Tables → List Entry → State
@@ -27,11 +54,13 @@ abbrev pub calls : ℕ → List Entry → ℕ
 calls session [] = 0
 calls session (e ∷ es) = if e.session == session then suc (calls session es) else calls session es
 
--- an entry may come next: the version in force is that of a set, its reply is the machine's, and its number the next one
--- of its session
+-- an entry may come next: its reply is the machine's, its request is kept as such a reply wants, the version in force is
+-- that of a set before it and after it, and its number is the next one of its session
 pub record Follows (sets : List Tables) (history : List Entry) (e : Entry) : Type 0 where
   pub shown : (replay sets history).version < length sets
-  pub reply : e.reply ≡ (step sets (replay sets history) e.command).1
+  pub after : (next sets (replay sets history) e).0.version < length sets
+  pub request : e.request ≡ recorded (request_of sets e.request) e.reply
+  pub reply : e.reply ≡ (next sets (replay sets history) e).1
   pub number : e.number ≡ calls e.session history + 1
 
 abbrev pub LegalFrom : List Tables → List Entry → List Entry → Type 0
@@ -45,7 +74,7 @@ Legal sets history = LegalFrom sets [] history
 abbrev pub items_from : ℕ → ℕ → List Entry → List Item
 items_from session place [] = []
 items_from session place (e ∷ es) =
-    if e.session == session then item place e.command e.reply ∷ items_from session (place + 1) es else items_from session (place + 1) es
+    if e.session == session then item place e.request e.reply ∷ items_from session (place + 1) es else items_from session (place + 1) es
 
 -- what a session asked and was answered, with the places in the history
 abbrev pub items_of : ℕ → List Entry → List Item

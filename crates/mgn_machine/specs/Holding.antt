@@ -1,19 +1,13 @@
--- Holds: what is held for orders, filled and released, and what that changes (own profile).
-use Rattle.std.specs.Prelude.{ℕ, ◌≡◌, ◌<◌, Bool, true, false, not, ◌==◌, int_lt, if◌then◌else◌, ℤ, pos, neg_ℤ, ◌+ℤ◌, ◌*ℤ◌, unsigned_abs, List, [], ◌∷◌, ◌++◌, length, remove, slice_set, Result, Ok, Err}
+-- Holds: what is held for orders, filled and released (own profile).
+use Rattle.std.specs.Prelude.{ℕ, Bool, not, ◌==◌, ℤ, [], ◌∷◌, ◌++◌, List, remove, Result, Ok, Err}
 use Rattle.mgn_params.specs.Tables.{Tables}
 use Rattle.mgn_lots.specs.declared.lot.Lot.{Lot}
-use Rattle.mgn_lots.specs.Refusals.{has_number, is_full}
+use Rattle.mgn_lots.specs.Lots.{has_number, is_full}
 use Rattle.mgn_holds.specs.declared.held.Held.{Held}
-use Rattle.mgn_holds.specs.Holds.{is_buy, hold_at, has_order, place_of_order, filled_at}
-use Rattle.mgn_holds.specs.Refusals.{is_full as holds_full, meets_limit, covers}
-use Rattle.mgn_machine.specs.declared.change.Change.{Change}
-use Rattle.mgn_machine.specs.declared.change.Gain.{Gain}
+use Rattle.mgn_holds.specs.Holds.{hold_at, has_order, place_of_order, filled_at, is_full as holds_full, meets_limit, covers}
 use Rattle.mgn_machine.specs.declared.reply.Refusal.{Refusal}
 use Rattle.mgn_machine.specs.declared.reply.Refusal.TheVariants.{Duplicate, NoOrder, Limit, Premium, Over, Closed}
-use Rattle.mgn_machine.specs.declared.row.Row.{Row}
 use Rattle.mgn_machine.specs.State.{State, AccountState, account_at, put, traded_lot}
-use Rattle.mgn_machine.specs.Portfolios.{Portfolio, OnlyLots, WithBuys, WithSales, WithAll}
-use Rattle.mgn_machine.specs.Rows.{gain, room_of, least_side, side_of}
 use Rattle.mgn_machine.specs.Refusals.{◌>>=◌, refuse_if, found, place_of, contract_of, premium_fits, is_over, if_room}
 
 -- Changes of one account.
@@ -31,45 +25,6 @@ without_hold a j = record a { holds = remove a.holds j }
 -- a lot more, and its quantity off what is held
 abbrev pub with_fill : AccountState → ℕ → ℤ → Lot → AccountState
 with_fill a j quantity lot = record a { lots = a.lots ++ lot ∷ []; holds = filled_at a.holds j quantity }
-
--- Changes of a row.
-
--- one gain for the two portfolios that count what is held on a side, another for the two that do not
-abbrev pub held_change : ℕ → ℤ → Bool → Gain → Gain → Change
-held_change i size buys apart own = record {
-  contract = i;
-  size = size;
-  lots = apart;
-  buys = if buys then own else apart;
-  sales = if buys then apart else own;
-  all = own;
-}
-
--- what a hold more changes: where it counts it is a lot at its limit
-abbrev pub hold_change : ℕ → ℤ → ℕ → Change
-hold_change i quantity limit =
-    held_change i (pos (unsigned_abs quantity)) (is_buy quantity) (gain (pos 0) (pos 0)) (gain quantity (neg_ℤ (quantity *ℤ pos limit)))
-
--- what a hold less changes
-abbrev pub release_change : ℕ → ℤ → ℕ → Change
-release_change i quantity limit =
-    held_change i (neg_ℤ (pos (unsigned_abs quantity))) (is_buy quantity) (gain (pos 0) (pos 0)) (gain (neg_ℤ quantity) (quantity *ℤ pos limit))
-
--- what a fill changes: a lot more, and where its hold counts as much less of it
-abbrev pub fill_change : ℕ → ℤ → ℕ → ℕ → Change
-fill_change i quantity limit premium =
-    let paid = neg_ℤ (quantity *ℤ pos premium) in
-    held_change i (pos 0) (is_buy quantity) (gain quantity paid) (gain (pos 0) (paid +ℤ quantity *ℤ pos limit))
-
--- Room.
-
--- the lesser of two rooms; the first of equals
-abbrev pub lesser_room : ℤ → ℤ → ℤ
-lesser_room first second = if int_lt second first then second else first
-
--- the least room of the portfolios of a unit is below 0
-abbrev pub is_short : Row → Bool
-is_short row = int_lt (room_of (least_side row)) (pos 0)
 
 -- HOLD
 
@@ -134,20 +89,3 @@ abbrev pub released : State → List ℕ → ℕ → Result State Refusal
 released s account order = do
   at ← release_places s account order
   Ok (put s at.0 (without_hold (account_at s.accounts at.0) at.1))
-
--- A fill at the limit
-
--- the portfolios that count a hold, by whether it buys
-abbrev pub counts : Portfolio → Bool → Bool
-counts OnlyLots buys = false
-counts WithBuys buys = buys
-counts WithSales buys = not buys
-counts WithAll buys = true
-
--- a fill at the limit of its hold leaves each portfolio that counts the hold as it was: its nets, its worth and what it
--- requires, and so its room
-abbrev pub FillAtLimitKeeps : Type 0
-FillAtLimitKeeps =
-    (set : Tables) (accounts : List AccountState) (k j lot : ℕ) (quantity : ℤ) (p : Portfolio) (u : ℕ) → k < length accounts → j < length (account_at accounts k).holds
-    → covers (hold_at (account_at accounts k).holds j) quantity ≡ true → counts p (is_buy quantity) ≡ true
-    → side_of set (slice_set accounts k (fill_of (account_at accounts k) j lot quantity (hold_at (account_at accounts k).holds j).limit)) u p ≡ side_of set accounts u p

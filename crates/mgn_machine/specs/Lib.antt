@@ -1,8 +1,9 @@
 -- The definitions of the machine of one thread.
 pub mod State
 pub mod Portfolios
-pub mod Rows
+pub mod Room
 pub mod Refusals
 pub mod Holding
+pub mod NewSet
 pub mod Step
 pub mod History

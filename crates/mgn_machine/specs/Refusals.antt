@@ -1,19 +1,12 @@
 -- Why commands are refused, in the one order in which the reasons are looked for (own profile).
-use Rattle.std.specs.Prelude.{◌≡◌, All, ℕ, ◌^◌, Bool, true, false, not, ◌==◌, ◌&&◌, ◌||◌, nat_le, int_lt, if◌then◌else◌, ℤ, pos, ◌+ℤ◌, unsigned_abs, Option, None, Some, is_some, List, length, map, position, slice_index_or, codes, Result, Ok, Err}
+use Rattle.std.specs.Prelude.{◌≡◌, All, ℕ, ◌+◌, ◌-◌, ◌^◌, Bool, true, false, not, ◌==◌, ◌&&◌, ◌||◌, nat_le, nat_lt, int_lt, if◌then◌else◌, ℤ, pos, ◌+ℤ◌, unsigned_abs, Option, None, Some, is_some, List, length, map, position, slice_index_or, codes, Result, Ok, Err}
 use Rattle.std.specs.Str.{bytes_eq}
 use Rattle.std.specs.List.{list_any}
 use Rattle.mgn_params.specs.Limits.{contract_names}
 use Rattle.mgn_params.specs.Tables.{Tables, contract_at, is_premium}
-use Rattle.mgn_coll.specs.declared.fault.PostFault.{PostFault}
-use Rattle.mgn_coll.specs.declared.fault.PostFault.TheVariants.{NoClass as UnknownClass, Limit as OverLimit, Memory}
-use Rattle.mgn_coll.specs.declared.fault.DrawFault.{DrawFault}
-use Rattle.mgn_coll.specs.declared.fault.DrawFault.TheVariants.{NoClass as NoSuchClass, Over as OverPosted}
-use Rattle.mgn_coll.specs.Refusals.{amount_posted, amount_left}
+use Rattle.mgn_coll.specs.Posted.{amount_of, is_known, most_of}
 use Rattle.mgn_lots.specs.declared.lot.Lot.{Lot}
-use Rattle.mgn_lots.specs.Lots.{is_live}
-use Rattle.mgn_lots.specs.Refusals.{has_number, is_full, traded_place}
-use Rattle.mgn_lots.specs.declared.fault.RemoveFault.{RemoveFault}
-use Rattle.mgn_lots.specs.declared.fault.RemoveFault.TheVariants.{NoLot, Moved as WasMoved}
+use Rattle.mgn_lots.specs.Lots.{has_number, is_busted, is_full, is_live, is_moved, lot_at, place_of_lot}
 use Rattle.mgn_holds.specs.declared.held.Held.{Held}
 use Rattle.mgn_machine.specs.declared.command.Mode.{Mode}
 use Rattle.mgn_machine.specs.declared.command.Mode.TheVariants.{Gross, Net}
@@ -22,7 +15,7 @@ use Rattle.mgn_machine.specs.declared.reply.Refusal.{Refusal}
 use Rattle.mgn_machine.specs.declared.reply.Refusal.TheVariants.{NoAccount, NoOrigin, Duplicate, NoContract, NoTrade, Moved, NoClass, NoRoom, Limit, Premium, Over, Closed}
 use Rattle.mgn_machine.specs.State.{State, AccountState, account_at}
 use Rattle.mgn_machine.specs.Portfolios.{unit_sum, account_size}
-use Rattle.mgn_machine.specs.Rows.{row_of, room_of, least_side}
+use Rattle.mgn_machine.specs.Room.{unit_room}
 
 infixl 10 ◌>>=◌
 abbrev pub ◌>>=◌ : {A B : Type 0} → Result A Refusal → (A → Result B Refusal) → Result B Refusal
@@ -61,22 +54,23 @@ account_names accounts = map (λ (a : AccountState). a.name) accounts
 abbrev pub no_origin : Origin
 no_origin = record { name = codes ""; unit = None }
 
-abbrev pub unit_at : List Origin → Option ℕ → Result (Option ℕ) Refusal
-unit_at origins None = Err NoOrigin
-unit_at origins (Some i) = Ok (slice_index_or origins i no_origin).unit
+abbrev pub home_at : List Origin → Option ℕ → Result (ℕ × Option ℕ) Refusal
+home_at origins None = Err NoOrigin
+home_at origins (Some i) = Ok (i, (slice_index_or origins i no_origin).unit)
 
--- the unit of an origin's accounts, if it is netted
-unfoldable pub unit_of_origin : List Origin → List ℕ → Result (Option ℕ) Refusal
-unit_of_origin origins name = unit_at origins (position (λ (o : Origin). bytes_eq o.name name) origins)
+-- where an origin stands, and the unit of its accounts, if it is netted
+unfoldable pub home_of : List Origin → List ℕ → Result (ℕ × Option ℕ) Refusal
+home_of origins name = home_at origins (position (λ (o : Origin). bytes_eq o.name name) origins)
 
-unfoldable pub open_unit : State → List ℕ → List ℕ → Result (Option ℕ) Refusal
-open_unit s account origin = do
+-- where the origin of a new account stands, and its unit
+unfoldable pub open_home : State → List ℕ → List ℕ → Result (ℕ × Option ℕ) Refusal
+open_home s account origin = do
   _ ← refuse_if s.closed Closed
-  u ← unit_of_origin s.origins origin
+  home ← home_of s.origins origin
   _ ← refuse_if (list_any (bytes_eq account) (account_names s.accounts)) Duplicate
   _ ← refuse_if (nat_le 1024 (length s.accounts)) Limit
-  _ ← refuse_if (not (is_some u) && nat_le 1024 s.units) Limit
-  Ok u
+  _ ← refuse_if (not (is_some home.1) && nat_le 1024 s.units) Limit
+  Ok home
 
 -- TRADE
 
@@ -129,51 +123,38 @@ trade_places set s account lot contract quantity premium = do
 
 -- BUST
 
-abbrev pub bust_refusal : Result ℕ RemoveFault → Result ℕ Refusal
-bust_refusal (Ok i) = Ok i
-bust_refusal (Err NoLot) = Err NoTrade
-bust_refusal (Err WasMoved) = Err Moved
-
 -- where the account and its traded lot stand
 unfoldable pub bust_places : State → List ℕ → ℕ → Result (ℕ × ℕ) Refusal
 bust_places s account lot = do
   _ ← refuse_if s.closed Closed
   k ← place_of s account
-  i ← bust_refusal (traded_place (account_at s.accounts k).lots lot)
+  i ← found (place_of_lot (account_at s.accounts k).lots lot) NoTrade
+  _ ← refuse_if (is_busted (lot_at (account_at s.accounts k).lots i).mark) NoTrade
+  _ ← refuse_if (is_moved (lot_at (account_at s.accounts k).lots i).mark) Moved
   Ok (k, i)
 
 -- POST
-
--- the refusal of what cannot be posted; want of memory is none
-abbrev pub post_refusal : Result ℕ PostFault → Result ℕ Refusal
-post_refusal (Ok amount) = Ok amount
-post_refusal (Err UnknownClass) = Err NoClass
-post_refusal (Err OverLimit) = Err Limit
-post_refusal (Err Memory) = Err Limit
 
 -- where the account stands, and what is then posted of the class
 unfoldable pub post_place : Tables → State → List ℕ → List ℕ → ℕ → Result (ℕ × ℕ) Refusal
 post_place set s account class units = do
   _ ← refuse_if s.closed Closed
   k ← place_of s account
-  amount ← post_refusal (amount_posted set.classes (account_at s.accounts k).collateral class units)
-  Ok (k, amount)
+  _ ← refuse_if (not (is_known set.classes class)) NoClass
+  _ ← refuse_if (nat_lt (most_of class) (amount_of class (account_at s.accounts k).collateral + units)) Limit
+  Ok (k, amount_of class (account_at s.accounts k).collateral + units)
 
 -- DRAW
-
-abbrev pub draw_refusal : Result ℕ DrawFault → Result ℕ Refusal
-draw_refusal (Ok amount) = Ok amount
-draw_refusal (Err NoSuchClass) = Err NoClass
-draw_refusal (Err OverPosted) = Err Over
 
 -- where the account stands, and what is then left of the class
 unfoldable pub draw_place : Tables → State → List ℕ → List ℕ → ℕ → Result (ℕ × ℕ) Refusal
 draw_place set s account class units = do
   _ ← refuse_if s.closed Closed
   k ← place_of s account
-  amount ← draw_refusal (amount_left set.classes (account_at s.accounts k).collateral class units)
-  Ok (k, amount)
+  _ ← refuse_if (not (is_known set.classes class)) NoClass
+  _ ← refuse_if (nat_lt (amount_of class (account_at s.accounts k).collateral) units) Over
+  Ok (k, amount_of class (account_at s.accounts k).collateral - units)
 
 -- the state, unless a portfolio of a unit has room below 0 in it
 abbrev pub if_room : Tables → ℕ → State → Result State Refusal
-if_room set u now = if int_lt (room_of (least_side (row_of set now.accounts u))) (pos 0) then Err NoRoom else Ok now
+if_room set u now = if int_lt (unit_room set now.accounts u) (pos 0) then Err NoRoom else Ok now

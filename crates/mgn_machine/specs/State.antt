@@ -8,9 +8,10 @@ use Rattle.mgn_holds.specs.declared.held.Held.{Held}
 use Rattle.mgn_holds.specs.Holds.{IsHeld}
 use Rattle.mgn_machine.specs.declared.origin.Origin.{Origin}
 
--- an account: its margin unit, its collateral, and its lots and holds in order of entry
+-- an account: the place of its origin, its margin unit, its collateral, and its lots and holds in order of entry
 pub record AccountState : Type 0 where
   pub name : List ℕ
+  pub origin : ℕ
   pub unit : ℕ
   pub collateral : Posted
   pub lots : List Lot
@@ -30,7 +31,7 @@ abbrev pub start : State
 start = record { origins = []; accounts = []; units = 0; closed = false; version = 0 }
 
 abbrev pub no_account : AccountState
-no_account = record { name = []; unit = 0; collateral = nothing; lots = []; holds = [] }
+no_account = record { name = []; origin = 0; unit = 0; collateral = nothing; lots = []; holds = [] }
 
 abbrev pub account_at : List AccountState → ℕ → AccountState
 account_at accounts k = slice_index_or accounts k no_account
@@ -50,8 +51,8 @@ pub record IsAccount (a : AccountState) : Type 0 where
 -- Changes of one account.
 
 -- as it is opened
-abbrev pub fresh : List ℕ → ℕ → AccountState
-fresh name unit = record { name = name; unit = unit; collateral = nothing; lots = []; holds = [] }
+abbrev pub fresh : List ℕ → ℕ → ℕ → AccountState
+fresh name origin unit = record { name = name; origin = origin; unit = unit; collateral = nothing; lots = []; holds = [] }
 
 -- a lot as it is traded
 abbrev pub traded_lot : ℕ → List ℕ → ℤ → ℕ → Lot

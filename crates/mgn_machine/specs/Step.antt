@@ -1,4 +1,4 @@
--- One step of the machine: what a command does to the state, and what it is answered (own profile).
+-- One step of the machine: what a request does to the state, and what it is answered (own profile).
 use Rattle.std.specs.Prelude.{ℕ, ◌+◌, true, Option, None, Some, ℤ, List, [], ◌∷◌, ◌++◌, Result, Ok, Err}
 use Rattle.mgn_params.specs.Shelves.{set_at}
 use Rattle.mgn_params.specs.Tables.{Tables}
@@ -9,11 +9,14 @@ use Rattle.mgn_machine.specs.declared.command.Mode.TheVariants.{Gross, Net}
 use Rattle.mgn_machine.specs.declared.reply.Refusal.{Refusal}
 use Rattle.mgn_machine.specs.declared.reply.Refusal.TheVariants.{Closed}
 use Rattle.mgn_machine.specs.declared.reply.Reply.{Reply}
-use Rattle.mgn_machine.specs.declared.reply.Reply.TheVariants.{Done, Figures, Refused}
+use Rattle.mgn_machine.specs.declared.reply.Reply.TheVariants.{Done, Figures, NewSet, Refused}
+use Rattle.mgn_machine.specs.declared.request.Request.{Request}
+use Rattle.mgn_machine.specs.declared.request.Request.TheVariants.{Do, Switch}
 use Rattle.mgn_machine.specs.State.{State, account_at, put, fresh, with_lot, with_bust, with_amount, traded_lot}
-use Rattle.mgn_machine.specs.Rows.{row_of, figures_of}
-use Rattle.mgn_machine.specs.Refusals.{◌>>=◌, refuse_if, origin_fits, open_unit, place_of, trade_places, bust_places, post_place, draw_place, if_room}
+use Rattle.mgn_machine.specs.Room.{figures_of}
+use Rattle.mgn_machine.specs.Refusals.{◌>>=◌, refuse_if, origin_fits, open_home, place_of, trade_places, bust_places, post_place, draw_place, if_room}
 use Rattle.mgn_machine.specs.Holding.{entered, filled, released}
+use Rattle.mgn_machine.specs.NewSet.{set_fits, on_call}
 
 -- an origin more; a netted one makes its unit
 abbrev pub with_origin : State → List ℕ → Mode → State
@@ -26,14 +29,14 @@ originated s name mode = do
   Ok (with_origin s name mode)
 
 -- an account more, in a unit of its own or in the origin's
-abbrev pub with_account : State → List ℕ → Option ℕ → State
-with_account s name None = record s { accounts = s.accounts ++ fresh name s.units ∷ []; units = s.units + 1 }
-with_account s name (Some u) = record s { accounts = s.accounts ++ fresh name u ∷ [] }
+abbrev pub with_account : State → List ℕ → ℕ × Option ℕ → State
+with_account s name (origin, None) = record s { accounts = s.accounts ++ fresh name origin s.units ∷ []; units = s.units + 1 }
+with_account s name (origin, Some u) = record s { accounts = s.accounts ++ fresh name origin u ∷ [] }
 
 abbrev pub opened : State → List ℕ → List ℕ → Result State Refusal
 opened s account origin = do
-  u ← open_unit s account origin
-  Ok (with_account s account u)
+  home ← open_home s account origin
+  Ok (with_account s account home)
 
 -- a lot more, as it is traded
 abbrev pub traded : Tables → State → List ℕ → ℕ → List ℕ → ℤ → ℕ → Result State Refusal
@@ -41,7 +44,7 @@ traded set s account number contract quantity premium = do
   at ← trade_places set s account number contract quantity premium
   Ok (put s at.0 (with_lot (account_at s.accounts at.0) (traded_lot number contract quantity premium)))
 
--- a lot taken back: it stays in the list, and counts for nothing
+-- a lot busted: it stays in the list, and counts for nothing
 abbrev pub undone : State → List ℕ → ℕ → Result State Refusal
 undone s account lot = do
   at ← bust_places s account lot
@@ -63,7 +66,7 @@ drawn set s account class units = do
 abbrev pub asked : Tables → State → List ℕ → Result Reply Refusal
 asked set s account = do
   k ← place_of s account
-  Ok (Figures (figures_of (row_of set s.accounts (account_at s.accounts k).unit)))
+  Ok (Figures (figures_of set s.accounts (account_at s.accounts k).unit))
 
 abbrev pub ended : State → Result State Refusal
 ended s = do
@@ -94,6 +97,12 @@ step_under set s (Draw account class units) = answered s (drawn set s account cl
 step_under set s (Ask account) = (s, told (asked set s account))
 step_under set s EndDay = answered s (ended s)
 
+-- a set comes into force under the next version, or is refused
+abbrev pub switched : State → ℕ → Result (Unit {0}) Refusal → State × Reply
+switched s calls (Ok _) = (record s { version = s.version + 1 }, NewSet record { version = s.version + 1; on_call = calls })
+switched s calls (Err why) = (s, Refused why)
+
 -- one step, where these are the sets by version
-abbrev pub step : List Tables → State → Command → State × Reply
-step sets s command = step_under (set_at sets s.version) s command
+abbrev pub step : List Tables → State → Request → State × Reply
+step sets s (Do command) = step_under (set_at sets s.version) s command
+step sets s (Switch set) = switched s (on_call set s.accounts s.units) (set_fits set s)

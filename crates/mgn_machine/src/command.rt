@@ -20,7 +20,7 @@ pub enum Command {
     NewAccount(AccountName, OriginName),
     /// `TRADE`: a lot of an account, with the premium for each contract.
     Trade(AccountName, LotId, ContractName, LotQuantity, Premium),
-    /// `BUST`: a traded lot of an account is taken back.
+    /// `BUST`: a traded lot of an account is busted: it counts no more.
     Bust(AccountName, LotId),
     /// `HOLD`: room held for an order of an account, with the limit for each contract.
     Hold(AccountName, OrderId, ContractName, LotQuantity, Premium),

@@ -1,30 +1,16 @@
-//! The machine of one thread: commands, replies, the state of the book, and the definition of a step.
+//! The machine of one thread: requests, replies, the state of the book, what is asked of it, and the definition of a step.
 #![tactic(auto)]
 
-pub mod account;
-#[cfg(test)]
-mod account_tests;
-pub mod change;
-#[cfg(test)]
-mod change_tests;
 pub mod command;
 pub mod entry;
-pub mod holding;
-pub mod nets;
 pub mod origin;
 pub mod reply;
-pub mod row;
-#[cfg(test)]
-mod row_tests;
-pub mod rows;
+pub mod request;
 #[cfg(test)]
 mod tests;
 
-pub use account::Account;
-pub use change::{Change, Gain};
 pub use command::{Command, Mode};
 pub use entry::{Entry, Item};
-pub use nets::Nets;
 pub use origin::Origin;
-pub use reply::{Answer, Figures, Refusal, Reply};
-pub use row::{Priced, Row, Side};
+pub use reply::{Answer, Figures, NewSet, Refusal, Reply};
+pub use request::{Recorded, Request};

@@ -35,6 +35,10 @@ pub enum Refusal {
     Over,
     /// The lot was moved between accounts.
     Moved,
+    /// The new set lacks the contract of a live lot or of a hold, or a class of which units are posted.
+    Missing,
+    /// There were 64 sets after the first.
+    Sets,
     /// The day is over.
     Closed,
     /// Memory could not be had. Nothing has changed.
@@ -58,13 +62,24 @@ pub struct Figures {
     pub room: Cents,
 }
 
-/// What a command is answered.
+/// What a set that came into force is told by.
+#[derive(Clone, Copy, PartialEq, Eq, Debug)]
+pub struct NewSet {
+    /// The number of its version, 1 to 64.
+    pub version: u8,
+    /// How many margin units must have deposited more than is there for their lots.
+    pub on_call: u32,
+}
+
+/// What a request is answered.
 #[derive(Clone, Copy, PartialEq, Eq, Debug)]
 pub enum Reply {
     /// It is done.
     Done,
     /// The figures asked for.
     Figures(Figures),
+    /// The set is in force.
+    NewSet(NewSet),
     /// It is refused, and nothing has changed.
     Refused(Refusal),
 }

@@ -1,8 +1,8 @@
 -- Nets with their short option minimums, one for each commodity of a set in file order, and their net option value.
 use Rattle.std.specs.Prelude.{ℕ, ◌*◌, ◌≡◌, ◌<◌, ◌≤◌, ◌^◌, ℤ, unsigned_abs, List, length, slice_index, All}
-use Rattle.mgn_params.specs.Options.{net_option_value}
-use Rattle.mgn_params.specs.Positions.{IsNet, positions}
-use Rattle.mgn_params.specs.Requirement.{minimum}
+use Rattle.mgn_span.specs.Options.{net_option_value}
+use Rattle.mgn_span.specs.Positions.{IsNet, positions}
+use Rattle.mgn_span.specs.Requirement.{minimum}
 use Rattle.mgn_params.specs.Tables.{Tables}
 
 -- at most 256 * 10^16: 256 contracts sold 10^7 times each, at a charge of at most 10^9 (own profile)

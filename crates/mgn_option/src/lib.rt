@@ -6,6 +6,3 @@ mod shares;
 mod sums;
 
 pub use sums::OptionSums;
-
-#[cfg(test)]
-mod tests;

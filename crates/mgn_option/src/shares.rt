@@ -1,6 +1,6 @@
 ghost use Rattle.std.specs.Prelude.{◌≡◌, ◌≤◌, ◌^◌};
-ghost use Rattle.mgn_params.specs.Options.{short_share_of, value_share};
-ghost use Rattle.mgn_params.specs.Positions.{IsNet};
+ghost use Rattle.mgn_span.specs.Options.{short_share_of, value_share};
+ghost use Rattle.mgn_span.specs.Positions.{IsNet};
 ghost use Rattle.mgn_params.specs.Tables.{is_option, is_premium};
 
 use mgn_num::{Cents, Quantity};

@@ -1,8 +1,8 @@
 ghost use Rattle.std.specs.Prelude.{◌≡◌, ◌*◌, ◌<◌, ◌≤◌, ◌^◌, pos, ◌+ℤ◌, ◌≤ℤ◌, unsigned_abs, length, replicate, slice_index, slice_set, IfOk};
-ghost use Rattle.mgn_params.specs.Options.{net_option_value};
-ghost use Rattle.mgn_params.specs.Positions.{IsNet, positions};
-ghost use Rattle.mgn_params.specs.Requirement.{minimum};
-ghost use Rattle.mgn_params.specs.Scan.{value_at};
+ghost use Rattle.mgn_span.specs.Options.{net_option_value};
+ghost use Rattle.mgn_span.specs.Positions.{IsNet, positions};
+ghost use Rattle.mgn_span.specs.Requirement.{minimum};
+ghost use Rattle.mgn_span.specs.Scan.{value_at};
 ghost use Rattle.mgn_params.specs.Tables.{Tables};
 ghost use Rattle.mgn_option.specs.Sums.{AreSums};
 

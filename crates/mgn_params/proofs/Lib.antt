@@ -1,15 +1,3 @@
--- Laws of the definitions.
-pub mod Examples
+-- Lemmas on limits and names.
 pub mod LimitsLemmas
-pub mod FlatLemmas
-pub mod PositionLemmas
-pub mod ShareLemmas
-pub mod ActiveLemmas
-pub mod ScanLemmas
-pub mod StageLemmas
 pub mod NameLemmas
-pub mod RecordLemmas
-pub mod LineLemmas
-pub mod FileLemmas
-pub mod LegLemmas
-pub mod MonthDeltaLemmas

@@ -1,15 +1,16 @@
 -- The limits, kept as tables grow.
-use Rattle.std.proofs.Common.{◌≡◌, ◌≢◌, ℕ, ◌+◌, ◌<◌, ◌≤◌, ◌++◌, ◌∷◌, [], List, length, map, All, ap, ◌∙◌, ⊎_elim, arith, length-append, count_by, false, get_or}
-use Rattle.std.specs.Prelude.{◌==◌}
-use Rattle.std.specs.List.{IsDistinct, list_any}
+use Rattle.std.proofs.Common.{◌≡◌, ◌≢◌, ℕ, ◌+◌, ◌<◌, ◌≤◌, ◌++◌, ◌∷◌, [], Bool, List, length, map, All, ap, ◌∙◌, ⊎_elim, arith, length-append, count_by, true, false, cond, refl, subst, get_or, Some, None}
+use Rattle.std.specs.Prelude.{◌==◌, ◌&&◌, is_some, nat_lt, position}
+use Rattle.std.specs.List.{IsDistinct, list_any, position_or_len}
 use Rattle.std.specs.Str.{bytes_eq}
 use Rattle.std.proofs.Math.ListN.{get_or-append}
-use Rattle.std.proofs.lemmas.Bool.{cases_eq, ne_eqb}
+use Rattle.std.proofs.lemmas.Bool.{cases_eq, eqb-true, ne_eqb}
 use Rattle.std.proofs.lemmas.Cmp.{nat_list_eq_equiv}
 use Rattle.std.proofs.lemmas.Grind.{common_steps}
 use Rattle.std.proofs.lemmas.List.{map-append}
 use Rattle.std.proofs.lemmas.List.Elements.{All-push}
-use Rattle.std.proofs.lemmas.List.Sums.{sum_by_push}
+use Rattle.std.proofs.lemmas.List.Sums.{fails_before_first, sum_by-le, sum_by_push}
+use Rattle.std.proofs.lemmas.Bool.Decides.{nat_tests}
 use Rattle.std.proofs.lemmas.Map.Keys.{IsDistinct-push}
 use Rattle.mgn_params.specs.declared.tables.Class.{Class}
 use Rattle.mgn_params.specs.declared.tables.Commodity.{Commodity}
@@ -20,7 +21,7 @@ use Rattle.mgn_params.specs.declared.tables.Month.{Month}
 use Rattle.mgn_params.specs.declared.tables.SpotCharge.{SpotCharge}
 use Rattle.mgn_params.specs.declared.tables.Spread.{Spread}
 use Rattle.mgn_params.specs.Limits.{IsClass, IsCommodity, IsContract, IsCreditSpread, IsLeg, IsMonth, IsNextClass, IsNextCommodity, IsNextContract, IsNextCreditSpread, IsNextMonth, IsNextSpot, IsNextSpread, IsSpotCharge, IsSpread, IsWithinLimits}
-use Rattle.mgn_params.specs.Tables.{Tables, no_month}
+use Rattle.mgn_params.specs.Tables.{Tables, is_month, no_month}
 
 -- one more row of a commodity that had room
 count_push : {X : Type 0} (f : X → ℕ) → (most g : ℕ) (xs : List X) (x : X) → count_by (λ y. f y == f x) xs < most → count_by (λ y. f y == g) xs ≤ most → count_by (λ y. f y == g) (xs ++ x ∷ []) ≤ most
@@ -29,6 +30,33 @@ count_push {X} f most g xs x room few =
     (λ (same : f x ≡ g). let moved = ap (λ (k : ℕ). count_by (λ (y : X). f y == k) xs) same in grind (arith, common_steps, sum_by_push, moved))
     (λ (other : f x ≢ g). grind (arith, common_steps, sum_by_push, ne_eqb (f x) g other))
     (cases_eq (f x) g)
+
+past : (a b : ℕ) → is_some (cond (nat_lt a b) (Some a) None) ≡ false → b ≤ a
+past a b none = grind (arith, nat_tests, none)
+
+-- where no row passes a test, none is counted
+none_counted : {X : Type 0} (p : X → Bool) (xs : List X) → is_some (position p xs) ≡ false → count_by p xs ≡ 0
+none_counted p xs none =
+    let all : All (λ x. cond (p x) 1 0 ≤ 0) xs = λ i d inside. rw (fails_before_first p xs i d (omega (arith, past (position_or_len p xs) (length xs) none))) (omega arith) in
+    omega (arith, sum_by-le (λ x. cond (p x) 1 0) 0 xs all)
+
+both : (a b : Bool) → (a && b) ≡ true → (a ≡ true) × (b ≡ true)
+both true true e = (refl, refl)
+both true false e = cc
+both false b e = cc
+
+-- a month more, of a number that its commodity did not have
+month_push : (g number : ℕ) (ms : List Month) (m : Month) → is_some (position (is_month m.commodity m.number) ms) ≡ false → count_by (is_month g number) ms ≤ 1 → count_by (is_month g number) (ms ++ m ∷ []) ≤ 1
+month_push g number ms m new once = by (is_month g number m) refl
+  where
+    by : (b : Bool) → is_month g number m ≡ b → count_by (is_month g number) (ms ++ m ∷ []) ≤ 1
+    by true own =
+        let parts = both (m.commodity == g) (m.number == number) own in
+        let commodity : m.commodity ≡ g = eqb-true m.commodity g parts.0 in
+        let of : m.number ≡ number = eqb-true m.number number parts.1 in
+        let none : count_by (is_month g number) ms ≡ 0 = subst (λ (x : ℕ × ℕ). count_by (is_month x.0 x.1) ms ≡ 0) (λ i. (commodity i, of i)) (none_counted (is_month m.commodity m.number) ms new) in
+        rw (sum_by_push (λ (x : Month). cond (is_month g number x) 1 0) ms m, own) (omega (arith, none))
+    by false own = rw (sum_by_push (λ (x : Month). cond (is_month g number x) 1 0) ms m, own) (omega (arith, once))
 
 length_push : {X : Type 0} (xs : List X) (x : X) → length (xs ++ x ∷ []) ≡ length xs + 1
 length_push xs x = length-append xs (x ∷ [])
@@ -95,6 +123,7 @@ IsWithinLimits-commodity t c limits next = record {
   few_commodities = omega (arith, next.few, length_push t.commodities c);
   few_months = limits.few_months;
   few_months_in_each = limits.few_months_in_each;
+  months_once = limits.months_once;
   few_contracts = limits.few_contracts;
   few_contracts_in_each = limits.few_contracts_in_each;
   few_spreads = limits.few_spreads;
@@ -119,6 +148,7 @@ IsWithinLimits-month t m limits next = record {
   few_commodities = limits.few_commodities;
   few_months = omega (arith, next.few, length_push t.months m);
   few_months_in_each = λ g. count_push (λ (x : Month). x.commodity) 64 g t.months m next.few_in_commodity (limits.few_months_in_each g);
+  months_once = λ g number. month_push g number t.months m next.new (limits.months_once g number);
   few_contracts = limits.few_contracts;
   few_contracts_in_each = limits.few_contracts_in_each;
   few_spreads = limits.few_spreads;
@@ -143,6 +173,7 @@ IsWithinLimits-contract t c limits next = record {
   few_commodities = limits.few_commodities;
   few_months = limits.few_months;
   few_months_in_each = limits.few_months_in_each;
+  months_once = limits.months_once;
   few_contracts = omega (arith, next.few, length_push t.contracts c);
   few_contracts_in_each = λ g. count_push (λ (x : Contract). x.commodity) 256 g t.contracts c next.few_in_commodity (limits.few_contracts_in_each g);
   few_spreads = limits.few_spreads;
@@ -167,6 +198,7 @@ IsWithinLimits-spread t s limits next = record {
   few_commodities = limits.few_commodities;
   few_months = limits.few_months;
   few_months_in_each = limits.few_months_in_each;
+  months_once = limits.months_once;
   few_contracts = limits.few_contracts;
   few_contracts_in_each = limits.few_contracts_in_each;
   few_spreads = omega (arith, next.few, length_push t.spreads s);
@@ -191,6 +223,7 @@ IsWithinLimits-credit t s limits next = record {
   few_commodities = limits.few_commodities;
   few_months = limits.few_months;
   few_months_in_each = limits.few_months_in_each;
+  months_once = limits.months_once;
   few_contracts = limits.few_contracts;
   few_contracts_in_each = limits.few_contracts_in_each;
   few_spreads = limits.few_spreads;
@@ -215,6 +248,7 @@ IsWithinLimits-class t c limits next = record {
   few_commodities = limits.few_commodities;
   few_months = limits.few_months;
   few_months_in_each = limits.few_months_in_each;
+  months_once = limits.months_once;
   few_contracts = limits.few_contracts;
   few_contracts_in_each = limits.few_contracts_in_each;
   few_spreads = limits.few_spreads;
@@ -239,6 +273,7 @@ IsWithinLimits-spot t s limits next = record {
   few_commodities = limits.few_commodities;
   few_months = limits.few_months;
   few_months_in_each = limits.few_months_in_each;
+  months_once = limits.months_once;
   few_contracts = limits.few_contracts;
   few_contracts_in_each = limits.few_contracts_in_each;
   few_spreads = limits.few_spreads;

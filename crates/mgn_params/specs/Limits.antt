@@ -1,5 +1,5 @@
 -- The limits on a set and on each of its rows (own profile), and when a row may come next in its table.
-use Rattle.std.specs.Prelude.{◌≡◌, ℕ, ◌<◌, ◌≤◌, ◌^◌, ◌*◌, true, false, ◌==◌, List, length, map, unsigned_abs, All, count_by}
+use Rattle.std.specs.Prelude.{◌≡◌, ℕ, ◌<◌, ◌≤◌, ◌^◌, ◌*◌, true, false, ◌==◌, List, length, map, unsigned_abs, All, codes, count_by, is_some, position}
 use Rattle.std.specs.List.{IsDistinct, list_any}
 use Rattle.std.specs.Str.{bytes_eq}
 use Rattle.mgn_params.specs.declared.tables.Class.{Class}
@@ -10,7 +10,7 @@ use Rattle.mgn_params.specs.declared.tables.Leg.{Leg}
 use Rattle.mgn_params.specs.declared.tables.Month.{Month}
 use Rattle.mgn_params.specs.declared.tables.SpotCharge.{SpotCharge}
 use Rattle.mgn_params.specs.declared.tables.Spread.{Spread}
-use Rattle.mgn_params.specs.Tables.{Tables, is_side_a, is_side_b, legs_of, month_at}
+use Rattle.mgn_params.specs.Tables.{Tables, is_month, is_side_a, is_side_b, legs_of, month_at}
 
 -- The names in a table.
 
@@ -77,7 +77,9 @@ pub record IsSidedSpread (commodities : ℕ) (s : CreditSpread) : Type 0 where
   pub side_a : list_any (λ leg. is_side_a leg.side) (legs_of s) ≡ true
   pub side_b : list_any (λ leg. is_side_b leg.side) (legs_of s) ≡ true
 
+-- a class beside cash, which has no row
 pub record IsClass (c : Class) : Type 0 where
+  pub not_cash : bytes_eq c.name (codes "CASH") ≡ false
   pub price : c.price ≤ 10 ^ 8
   pub haircut : c.haircut ≤ 10000
 
@@ -99,6 +101,7 @@ pub record IsWithinLimits (t : Tables) : Type 0 where
   pub few_commodities : length t.commodities ≤ 256
   pub few_months : length t.months ≤ 256 * 64
   pub few_months_in_each : (g : ℕ) → count_by (λ m. m.commodity == g) t.months ≤ 64
+  pub months_once : (g number : ℕ) → count_by (is_month g number) t.months ≤ 1
   pub few_contracts : length t.contracts ≤ 4096
   pub few_contracts_in_each : (g : ℕ) → count_by (λ c. c.commodity == g) t.contracts ≤ 256
   pub few_spreads : length t.spreads ≤ 256 * 32
@@ -121,6 +124,7 @@ pub record IsNextMonth (t : Tables) (m : Month) : Type 0 where
   pub limits : IsMonth (length t.commodities) m
   pub few : length t.months < 256 * 64
   pub few_in_commodity : count_by (λ x. x.commodity == m.commodity) t.months < 64
+  pub new : is_some (position (is_month m.commodity m.number) t.months) ≡ false
 
 pub record IsNextContract (t : Tables) (c : Contract) : Type 0 where
   pub limits : IsContract (length t.commodities) t.months c

@@ -1,5 +1,5 @@
 -- The tables of a parameter set, in file order.
-use Rattle.std.specs.Prelude.{ℕ, Bool, true, false, List, [], pos, slice_index_or, take}
+use Rattle.std.specs.Prelude.{ℕ, ◌==◌, ◌&&◌, Bool, true, false, List, [], pos, slice_index_or, take}
 use Rattle.mgn_params.specs.declared.tables.Class.{Class}
 use Rattle.mgn_params.specs.declared.tables.Commodity.{Commodity}
 use Rattle.mgn_params.specs.declared.tables.Contract.{Contract}
@@ -81,6 +81,10 @@ spot_at spots i = slice_index_or spots i no_spot
 -- the legs of an intercommodity spread
 abbrev pub legs_of : CreditSpread → List Leg
 legs_of spread = take spread.count spread.legs
+
+-- whether a month is the commodity's of a number
+abbrev pub is_month : ℕ → ℕ → Month → Bool
+is_month commodity number m = (m.commodity == commodity) && (m.number == number)
 
 abbrev pub is_option : Kind → Bool
 is_option Future = false

@@ -1,28 +1,14 @@
-//! Parameter sets of the margin calculation, and the definitions of the calculation itself.
+//! Parameter sets of the margin calculation: their tables, their limits, and the shelf on which the sets of a day stand.
 #![tactic(auto)]
 
-mod contracts;
-mod credits;
-mod draft;
-mod fault;
-mod fields;
-mod file;
-mod line;
-mod records;
 mod set;
 mod shelf;
-mod spreads;
 mod tables;
-#[cfg(test)]
-mod tests;
 mod work;
 
-pub use fault::{Cause, SetFault};
-pub use file::read_set;
 pub use set::ParamSet;
 pub use shelf::{PutFault, SetList, Shelf, Version};
 pub use tables::{
-    Class, Commodity, Contract, CreditSpread, Kind, Leg, Month, Side, SpotCharge, Spread, Stage,
-    Style,
+    Class, Commodity, Contract, CreditSpread, Kind, Leg, Month, Side, SpotCharge, Spread, Style,
 };
 pub use work::Work;

@@ -2,8 +2,7 @@ ghost use Rattle.std.specs.Prelude.{◌≡◌, ◌+◌, ◌-◌, ◌<◌, ◌≤
 ghost use Rattle.std.specs.List.{list_any};
 ghost use Rattle.std.specs.Str.{bytes_eq};
 ghost use Rattle.mgn_params.specs.Limits.{IsWithinLimits, class_names, commodity_names, contract_names};
-ghost use Rattle.mgn_params.specs.Records.{is_month};
-ghost use Rattle.mgn_params.specs.Tables.{class_at, commodity_at, contract_at, credit_spread_at, month_at, spot_at, spread_at};
+ghost use Rattle.mgn_params.specs.Tables.{is_month, class_at, commodity_at, contract_at, credit_spread_at, month_at, spot_at, spread_at};
 
 use crate::tables::{Class, Commodity, Contract, CreditSpread, Month, SpotCharge, Spread};
 use crate::work::Work;

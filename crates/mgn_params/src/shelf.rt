@@ -58,7 +58,7 @@ pub enum PutFault {
 }
 
 /// Where the sets of a book stand. Contracts see the list of them, in order of version, and a number for what a change
-/// of the shelf leaves alone, which tells whoever lends a part of himself to a shelf that he has it back.
+/// of the shelf leaves alone, which tells a caller that lends a shelf a field of its own that the field is unchanged.
 pub trait Shelf {
     ghost use Rattle.std.specs.Prelude.{ℕ, List};
     ghost use Rattle.mgn_params.specs.Tables.{Tables};

@@ -7,10 +7,10 @@ use Rattle.std.proofs.lemmas.List.Elements.{All-more}
 use Rattle.std.proofs.lemmas.List.Sums.{AllPass-from_list_all, fold_more}
 use Rattle.mgn_params.specs.declared.tables.CreditSpread.{CreditSpread}
 use Rattle.mgn_params.specs.declared.tables.Leg.{Leg}
-use Rattle.mgn_params.specs.Credits.{fits, leg_amount, formed}
-use Rattle.mgn_params.specs.Scan.{value_at}
+use Rattle.mgn_span.specs.Credits.{fits, leg_amount, formed}
+use Rattle.mgn_span.specs.Scan.{value_at}
 use Rattle.mgn_plain.specs.Rests.{AreCreditNumbers, AreRests, IsCreditable}
-use Rattle.mgn_params.proofs.StageLemmas.{used_le_left}
+use Rattle.mgn_span.proofs.StageLemmas.{used_le_left}
 
 -- a leg that fits has a rest other than 0
 pub fits_size : (a_long : Bool) (rests : List ℤ) (leg : Leg) → fits a_long rests leg ≡ true → 0 < unsigned_abs (value_at rests leg.commodity)

@@ -9,15 +9,15 @@ use Rattle.mgn_num.specs.Signed.{signed_sum_by, signed_sum_below, sum_below}
 use Rattle.mgn_num.proofs.SignedLemmas.{size-*ℤ-le}
 use Rattle.mgn_params.specs.declared.tables.Contract.{Contract}
 use Rattle.mgn_params.specs.declared.tables.Month.{Month}
-use Rattle.mgn_params.specs.Deltas.{month_share, month_delta, net_share, net_delta, long_share, short_share, start_of, starts_of}
+use Rattle.mgn_span.specs.Deltas.{month_share, month_delta, net_share, net_delta, long_share, short_share, start_of, starts_of}
 use Rattle.mgn_params.specs.Limits.{IsContract, IsWithinLimits}
-use Rattle.mgn_params.specs.Positions.{Position, positions, IsNet}
-use Rattle.mgn_params.specs.Scan.{value_at}
+use Rattle.mgn_span.specs.Positions.{Position, positions, IsNet}
+use Rattle.mgn_span.specs.Scan.{value_at}
 use Rattle.mgn_params.specs.Tables.{Tables, contract_at, no_contract, month_at}
 use Rattle.mgn_plain.specs.Kept.{start_share, month_start, month_net, month_net_share, leg_of, legs_row}
 use Rattle.mgn_plain.specs.Parts.{AreDeltas, AreNets}
-use Rattle.mgn_params.proofs.PositionLemmas.{position_sum_more}
-use Rattle.mgn_params.proofs.ShareLemmas.{share_sum_by_count, month_share_small}
+use Rattle.mgn_span.proofs.PositionLemmas.{position_sum_more}
+use Rattle.mgn_span.proofs.ShareLemmas.{share_sum_by_count, month_share_small}
 use Rattle.mgn_plain.proofs.SumLemmas.{sum_below_same, signed_sum_below_same, sum_below_le, sum_below_none, signed_sum_below_none, sum_below_grown, signed_sum_below_grown, sum_below_one, signed_sum_below_one, sum_below_if}
 
 -- a month counts for at most its delta's size

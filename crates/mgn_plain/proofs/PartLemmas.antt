@@ -9,14 +9,14 @@ use Rattle.std.proofs.lemmas.Bool.{cases_lt}
 use Rattle.std.proofs.lemmas.Int.{ints}
 use Rattle.std.proofs.lemmas.List.{get_or-replicate, get_or_default, get_or_past, length-replicate, nil_from_length}
 use Rattle.std.proofs.lemmas.List.FromFn.{fill_by_all, length-map-range_with_len}
-use Rattle.mgn_params.specs.Credits.{credits_of}
-use Rattle.mgn_params.specs.Deltas.{net_delta}
+use Rattle.mgn_span.specs.Credits.{credits_of}
+use Rattle.mgn_span.specs.Deltas.{net_delta}
 use Rattle.mgn_params.specs.Limits.{IsWithinLimits}
-use Rattle.mgn_params.specs.Positions.{Position, positions}
-use Rattle.mgn_params.specs.Requirement.{credit, credits, intra_charge, minimum, price_risk2_of, risk, spot_charge}
-use Rattle.mgn_params.specs.Scan.{scenario_total}
-use Rattle.mgn_params.specs.Spot.{spot_charge_of, spot_of}
-use Rattle.mgn_params.specs.Stages.{charges_of, stages_of}
+use Rattle.mgn_span.specs.Positions.{Position, positions}
+use Rattle.mgn_span.specs.Requirement.{credit, credits, intra_charge, minimum, price_risk2_of, risk, spot_charge}
+use Rattle.mgn_span.specs.Scan.{scenario_total}
+use Rattle.mgn_span.specs.Spot.{spot_charge_of, spot_of}
+use Rattle.mgn_span.specs.Stages.{charges_of, stages_of}
 use Rattle.mgn_params.specs.Tables.{Tables}
 use Rattle.mgn_plain.specs.declared.figure_rows.FigureRows.{FigureRows}
 use Rattle.mgn_plain.specs.declared.scanned.ScanFigures.{ScanFigures}
@@ -25,8 +25,8 @@ use Rattle.mgn_plain.specs.Parts.{AreCharges, AreChargesFrom, AreCredits, AreCre
 use Rattle.mgn_plain.specs.Rests.{AreCreditNumbers}
 use Rattle.mgn_plain.specs.Scans.{AreScans, AreScansOf, scan_at, scanned}
 use Rattle.mgn_plain.proofs.DeltaLemmas.{net_is, net_small, start_is, start_small, starts_are}
-use Rattle.mgn_params.proofs.ShareLemmas.{scenario_total_small}
-use Rattle.mgn_params.proofs.ScanLemmas.{active_same, scan_risk_same, price_risk2_same, price_risk2_small}
+use Rattle.mgn_span.proofs.ShareLemmas.{scenario_total_small}
+use Rattle.mgn_span.proofs.ScanLemmas.{active_same, scan_risk_same, price_risk2_same, price_risk2_small}
 use Rattle.mgn_plain.proofs.StageLemmas.{charges_of-small, kept_charge_is, stages_of-are, stages_of-few}
 
 -- no kept total is large

@@ -8,12 +8,12 @@ use Rattle.std.proofs.Math.Seq.{drop-cons}
 use Rattle.std.proofs.lemmas.List.Sums.{fold-append, sum_by-cons}
 use Rattle.std.proofs.lemmas.List.Elements.{All-tail}
 use Rattle.std.proofs.lemmas.Grind.{common_steps}
-use Rattle.mgn_params.proofs.StageLemmas.{used_le_left}
+use Rattle.mgn_span.proofs.StageLemmas.{used_le_left}
 use Rattle.mgn_params.specs.declared.tables.Spread.{Spread}
-use Rattle.mgn_params.specs.declared.tables.Stage.{Stage}
-use Rattle.mgn_params.specs.Stages.{amount_of, left_after, charge_of, charges_of, left_by, used_of, used_by, stages_of_spread, stages_of, IsStage, long_leg, short_leg}
+use Rattle.mgn_span.specs.declared.stage.Stage.{Stage}
+use Rattle.mgn_span.specs.Stages.{amount_of, left_after, charge_of, charges_of, left_by, used_of, used_by, stages_of_spread, stages_of, IsStage, long_leg, short_leg}
 use Rattle.mgn_params.specs.declared.tables.SpotCharge.{SpotCharge}
-use Rattle.mgn_params.specs.Spot.{spread_delta, outright_delta, spot_charge_of}
+use Rattle.mgn_span.specs.Spot.{spread_delta, outright_delta, spot_charge_of}
 use Rattle.mgn_plain.specs.Kept.{kept_charge_of}
 use Rattle.mgn_params.specs.Limits.{IsSpread}
 

@@ -2,11 +2,11 @@
 use Rattle.std.specs.Prelude.{◌≤◌, ◌^◌, unsigned_abs, ℕ, Option, Some, None, ◌+◌, ◌*◌, ◌-◌, ◌==◌, ◌&&◌, nat_lt, if◌then◌else◌, ℤ, pos, List, [], slice_index_or, slice_index}
 use Rattle.std.specs.Int.{div_ceil}
 use Rattle.mgn_params.specs.declared.tables.SpotCharge.{SpotCharge}
-use Rattle.mgn_params.specs.Stages.{long_leg, short_leg}
+use Rattle.mgn_span.specs.Stages.{long_leg, short_leg}
 use Rattle.mgn_params.specs.declared.tables.Month.{Month}
-use Rattle.mgn_params.specs.Deltas.{positive_part, negative_part}
+use Rattle.mgn_span.specs.Deltas.{positive_part, negative_part}
 use Rattle.mgn_params.specs.Tables.{month_at}
-use Rattle.mgn_params.specs.Scan.{value_at}
+use Rattle.mgn_span.specs.Scan.{value_at}
 
 -- at most 8 * 10^18 in size, so that 64 bits hold it (own profile)
 abbrev pub IsTotal : ℤ → Type 0

@@ -1,13 +1,13 @@
 -- What the rows of a calculation are, in the words of the definitions.
 use Rattle.std.specs.Prelude.{ℕ, ◌*◌, ◌≡◌, ◌<◌, ◌≤◌, ◌^◌, ℤ, unsigned_abs, List, length, slice_index, All}
 use Rattle.mgn_num.specs.Signed.{signed_sum_below, sum_below}
-use Rattle.mgn_params.specs.Credits.{credits_of}
-use Rattle.mgn_params.specs.Deltas.{month_delta}
-use Rattle.mgn_params.specs.Positions.{IsNet, positions}
-use Rattle.mgn_params.specs.Requirement.{credits, intra_charge, minimum, spot_charge}
-use Rattle.mgn_params.specs.Scan.{scenario_total, value_at}
-use Rattle.mgn_params.specs.Spot.{spot_of}
-use Rattle.mgn_params.specs.Stages.{charges_of, left_by, stages_of}
+use Rattle.mgn_span.specs.Credits.{credits_of}
+use Rattle.mgn_span.specs.Deltas.{month_delta}
+use Rattle.mgn_span.specs.Positions.{IsNet, positions}
+use Rattle.mgn_span.specs.Requirement.{credits, intra_charge, minimum, spot_charge}
+use Rattle.mgn_span.specs.Scan.{scenario_total, value_at}
+use Rattle.mgn_span.specs.Spot.{spot_of}
+use Rattle.mgn_span.specs.Stages.{charges_of, left_by, stages_of}
 use Rattle.mgn_params.specs.Tables.{Tables}
 use Rattle.mgn_plain.specs.declared.figure_rows.FigureRows.{FigureRows}
 use Rattle.mgn_plain.specs.declared.scanned.ScanFigures.{ScanFigures}

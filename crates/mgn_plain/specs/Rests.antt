@@ -1,8 +1,8 @@
 -- The rests of the net deltas while intercommodity spreads form.
 use Rattle.std.specs.Prelude.{ℕ, ◌<◌, ◌≤◌, ◌≡◌, ◌^◌, ◌*◌, ℤ, unsigned_abs, List, length, slice_index, All}
 use Rattle.mgn_params.specs.declared.tables.Leg.{Leg}
-use Rattle.mgn_params.specs.Scan.{value_at}
-use Rattle.mgn_params.specs.Stages.{used}
+use Rattle.mgn_span.specs.Scan.{value_at}
+use Rattle.mgn_span.specs.Stages.{used}
 
 -- one net delta and one doubled price risk for each commodity, within the limits of a set
 pub record AreCreditNumbers (deltas : List ℤ) (risks : List ℕ) : Type 0 where

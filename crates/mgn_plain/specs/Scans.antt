@@ -1,7 +1,7 @@
 -- The scan figures of a commodity, and those of all commodities in file order.
 use Rattle.std.specs.Prelude.{ℕ, ◌≡◌, ◌<◌, ◌≤◌, ◌*◌, ◌^◌, ℤ, pos, unsigned_abs, List, length, slice_index_or}
-use Rattle.mgn_params.specs.Positions.{positions}
-use Rattle.mgn_params.specs.Scan.{active, price_risk2, scan_risk, scenario_total}
+use Rattle.mgn_span.specs.Positions.{positions}
+use Rattle.mgn_span.specs.Scan.{active, price_risk2, scan_risk, scenario_total}
 use Rattle.mgn_params.specs.Tables.{Tables}
 use Rattle.mgn_plain.specs.Kept.{total_of}
 use Rattle.mgn_plain.specs.declared.scanned.ScanFigures.{ScanFigures}

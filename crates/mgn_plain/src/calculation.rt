@@ -1,8 +1,8 @@
 ghost use Rattle.std.specs.Prelude.{◌≡◌, ℕ, ◌*◌, ◌<◌, ◌≤◌, ◌^◌, ℤ, pos, ◌+ℤ◌, ◌-ℤ◌, ◌≤ℤ◌, List, unsigned_abs, length, slice_index, map, All, IfOk};
 ghost use Rattle.std.specs.Int.{int_max};
 ghost use Rattle.mgn_num.specs.Signed.{signed_sum_below};
-ghost use Rattle.mgn_params.specs.Positions.{IsNet, positions};
-ghost use Rattle.mgn_params.specs.Requirement.{commodities_of, requirement, risk};
+ghost use Rattle.mgn_span.specs.Positions.{IsNet, positions};
+ghost use Rattle.mgn_span.specs.Requirement.{commodities_of, requirement, risk};
 ghost use Rattle.mgn_plain.specs.Figures.{commodity_figures, figures_of};
 ghost use Rattle.mgn_plain.specs.Parts.{AreFigureRows, AreNets};
 
@@ -126,7 +126,7 @@ fn sum_of_risks(set: &ParamSet, rows: &FigureRows) -> Cents
     total
 }
 
-#[tactic(auto, unfolding(mgn_params::specs::Requirement::requirement))]
+#[tactic(auto, unfolding(mgn_span::specs::Requirement::requirement))]
 // The sum of the risks less the net option value, or 0 where that is negative.
 fn requirement_of(set: &ParamSet, nets: &[Quantity], rows: &FigureRows) -> Cents
     requires nets { AreNets set.now nets.now }
@@ -138,7 +138,7 @@ fn requirement_of(set: &ParamSet, nets: &[Quantity], rows: &FigureRows) -> Cents
     risks.minus(option_value(set, nets)).or_zero()
 }
 
-/// What the nets require under the set, in whole cents, worked out anew: one net for each contract of the set in file
+/// What the nets require under the set, in whole cents, computed from scratch: one net for each contract of the set in file
 /// order, each at most 10,000,000 in size.
 ///
 /// It is 0 to 10^30. An error says that memory was refused, and nothing else fails. Each array of a contract with a
@@ -178,7 +178,7 @@ fn list_figures(
     Ok(list)
 }
 
-/// All figures of the nets under the set, worked out anew: one net for each contract of the set in file order, each at
+/// All figures of the nets under the set, computed from scratch: one net for each contract of the set in file order, each at
 /// most 10,000,000 in size.
 ///
 /// An error says that memory was refused, and nothing else fails. Each array of a contract with a net other than 0 is

@@ -1,9 +1,9 @@
 ghost use Rattle.std.specs.Prelude.{◌≡◌, ℕ, ℤ, ◌+◌, ◌*◌, ◌<◌, ◌≤◌, ◌^◌, pos, length, All, unsigned_abs, slice_index, replicate, IsTrue};
 ghost use Rattle.std.specs.List.{list_all, fold};
-ghost use Rattle.mgn_params.specs.Credits.{is_long, fits, forms, leg_amount, spread_amount, rests_after, leg_credit, credits_after, formed, credits_of};
+ghost use Rattle.mgn_span.specs.Credits.{is_long, fits, forms, leg_amount, spread_amount, rests_after, leg_credit, credits_after, formed, credits_of};
 ghost use Rattle.mgn_params.specs.Limits.{IsCreditSpread};
-ghost use Rattle.mgn_params.specs.Scan.{value_at};
-ghost use Rattle.mgn_params.specs.Stages.{used};
+ghost use Rattle.mgn_span.specs.Scan.{value_at};
+ghost use Rattle.mgn_span.specs.Stages.{used};
 ghost use Rattle.mgn_plain.specs.Rests.{AreCreditNumbers, AreRests, IsCreditable};
 
 use crate::deltas::delta_at;

@@ -1,8 +1,8 @@
 ghost use Rattle.std.specs.Prelude.{◌≡◌, ℕ, ◌+◌, ◌*◌, ◌<◌, ◌≤◌, ◌^◌, ℤ, pos, ◌+ℤ◌, ◌*ℤ◌, unsigned_abs, length, All, replicate, slice_index};
 ghost use Rattle.mgn_num.specs.Signed.{sum_below, signed_sum_below};
-ghost use Rattle.mgn_params.specs.Deltas.{month_share, month_delta, net_delta, start_of, positive_part, negative_part};
-ghost use Rattle.mgn_params.specs.Positions.{positions, IsNet};
-ghost use Rattle.mgn_params.specs.Scan.{value_at};
+ghost use Rattle.mgn_span.specs.Deltas.{month_share, month_delta, net_delta, start_of, positive_part, negative_part};
+ghost use Rattle.mgn_span.specs.Positions.{positions, IsNet};
+ghost use Rattle.mgn_span.specs.Scan.{value_at};
 ghost use Rattle.mgn_params.specs.Tables.{contract_at, month_at};
 ghost use Rattle.mgn_plain.specs.Kept.{leg_of, legs_row, start_share, month_net, month_start, month_net_share};
 
@@ -44,7 +44,7 @@ fn add_position(deltas: &mut [Tenk], contract: &Contract, net: Quantity)
     }
 }
 
-#[tactic(auto, using(mgn_params::proofs::PositionLemmas::position_sum_all))]
+#[tactic(auto, using(mgn_span::proofs::PositionLemmas::position_sum_all))]
 // Adds up the deltas of the months, one net for each contract of the set.
 pub(crate) fn add_positions(deltas: &mut [Tenk], set: &ParamSet, nets: &[Quantity])
     requires one_each { length nets.now ≡ length set.now.contracts }

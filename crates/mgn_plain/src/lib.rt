@@ -1,4 +1,4 @@
-//! The margin calculation of a list of nets, worked out anew from a set.
+//! The margin calculation of a list of nets, computed from scratch under a set.
 #![tactic(auto)]
 
 mod calculation;
@@ -19,6 +19,3 @@ mod whole;
 pub use calculation::{figures, requirement};
 pub use commodity::CommodityFigures;
 pub use whole::Figures;
-
-#[cfg(test)]
-mod tests;

@@ -1,6 +1,6 @@
 ghost use Rattle.std.specs.Prelude.{◌≡◌, ℕ, ◌+◌, ◌*◌, ◌<◌, ◌≤◌, ◌^◌, unsigned_abs, length, All, replicate, slice_index};
-ghost use Rattle.mgn_params.specs.Options.{net_option_value, short_option_minimum, short_share_of, value_share};
-ghost use Rattle.mgn_params.specs.Positions.{positions, IsNet};
+ghost use Rattle.mgn_span.specs.Options.{net_option_value, short_option_minimum, short_share_of, value_share};
+ghost use Rattle.mgn_span.specs.Positions.{positions, IsNet};
 ghost use Rattle.mgn_params.specs.Tables.{commodity_at, contract_at, is_option, is_premium};
 
 use crate::rows::net_at;
@@ -54,7 +54,7 @@ fn add_minimum(minimums: &mut [u128], set: &ParamSet, i: usize, net: Quantity)
     }
 }
 
-#[tactic(auto, using(mgn_params::proofs::PositionLemmas::position_count_more, mgn_params::proofs::PositionLemmas::position_count_all))]
+#[tactic(auto, using(mgn_span::proofs::PositionLemmas::position_count_more, mgn_span::proofs::PositionLemmas::position_count_all))]
 // Adds up the short option minimums of the commodities, one net for each contract of the set.
 pub(crate) fn add_minimums(minimums: &mut [u128], set: &ParamSet, nets: &[Quantity])
     requires one_each { length nets.now ≡ length set.now.contracts }
@@ -85,7 +85,7 @@ fn share_of_value(contract: &Contract, net: Quantity) -> Cents
     }
 }
 
-#[tactic(auto, using(mgn_params::proofs::PositionLemmas::position_sum_more, mgn_params::proofs::PositionLemmas::position_sum_all))]
+#[tactic(auto, using(mgn_span::proofs::PositionLemmas::position_sum_more, mgn_span::proofs::PositionLemmas::position_sum_all))]
 // The net option value, one net for each contract of the set.
 pub(crate) fn option_value(set: &ParamSet, nets: &[Quantity]) -> Cents
     requires one_each { length nets.now ≡ length set.now.contracts }

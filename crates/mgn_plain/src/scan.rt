@@ -1,8 +1,8 @@
 ghost use Rattle.std.specs.Prelude.{◌≡◌, ℕ, ◌+◌, ◌*◌, ◌<◌, ◌≤◌, ◌^◌, ℤ, pos, ◌+ℤ◌, ◌*ℤ◌, unsigned_abs, length, All, replicate, slice_index};
 ghost use Rattle.std.specs.Int.{int_max};
 ghost use Rattle.mgn_params.specs.Tables.{contract_at};
-ghost use Rattle.mgn_params.specs.Positions.{positions, IsNet};
-ghost use Rattle.mgn_params.specs.Scan.{value_at, scenario_share, scenario_total, active, pair_of, price_risk2_at};
+ghost use Rattle.mgn_span.specs.Positions.{positions, IsNet};
+ghost use Rattle.mgn_span.specs.Scan.{value_at, scenario_share, scenario_total, active, pair_of, price_risk2_at};
 ghost use Rattle.mgn_plain.specs.Kept.{total_of, totals_of};
 ghost use Rattle.mgn_plain.specs.Scans.{scan_at, scanned};
 
@@ -73,7 +73,7 @@ fn add_position(
     }
 }
 
-#[tactic(auto, using(mgn_params::proofs::PositionLemmas::position_sum_more, mgn_params::proofs::PositionLemmas::position_sum_all, mgn_params::proofs::ShareLemmas::scenario_share_small))]
+#[tactic(auto, using(mgn_span::proofs::PositionLemmas::position_sum_more, mgn_span::proofs::PositionLemmas::position_sum_all, mgn_span::proofs::ShareLemmas::scenario_share_small))]
 // Adds up the totals of the 16 scenarios of each commodity, one net for each contract of the set.
 pub(crate) fn add_positions(
     totals: &mut [[Total; 16]],

@@ -1,6 +1,6 @@
 ghost use Rattle.std.specs.Prelude.{◌≡◌, ℕ, ◌+◌, ◌*◌, ◌<◌, ◌≤◌, ◌^◌, length, All, replicate, slice_index};
 ghost use Rattle.mgn_params.specs.Limits.{IsSpotCharge};
-ghost use Rattle.mgn_params.specs.Spot.{spot_of};
+ghost use Rattle.mgn_span.specs.Spot.{spot_of};
 ghost use Rattle.mgn_params.specs.Tables.{spot_at};
 ghost use Rattle.mgn_plain.specs.Kept.{leg_of, legs_row, kept_charge_at, kept_charge_of};
 

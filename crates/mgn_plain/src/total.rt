@@ -1,5 +1,5 @@
 ghost use Rattle.std.specs.Prelude.{◌≡◌, ◌*◌, ◌≤◌, ◌^◌, ◌<ℤ◌, ◌+ℤ◌, ◌*ℤ◌, unsigned_abs, IsTrue, ◌↔◌};
-ghost use Rattle.mgn_params.specs.Positions.{IsNet};
+ghost use Rattle.mgn_span.specs.Positions.{IsNet};
 
 use mgn_num::{Cents, Quantity};
 use std::marker::Model;

@@ -1,8 +1,8 @@
 -- Nets with their rows of totals: one row for each commodity of a set in file order, and in it one total for each of the
 -- 16 scenarios.
 use Rattle.std.specs.Prelude.{ℕ, ◌*◌, ◌≡◌, ◌<◌, ◌≤◌, ◌^◌, ℤ, unsigned_abs, List, [], length, slice_index_or, All}
-use Rattle.mgn_params.specs.Positions.{IsNet, positions}
-use Rattle.mgn_params.specs.Scan.{scenario_total, value_at}
+use Rattle.mgn_span.specs.Positions.{IsNet, positions}
+use Rattle.mgn_span.specs.Scan.{scenario_total, value_at}
 use Rattle.mgn_params.specs.Tables.{Tables}
 
 -- at most 256 * 10^15 in size: 256 contracts at 10^7 each, with arrays of at most 10^8 (own profile)

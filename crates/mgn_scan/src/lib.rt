@@ -6,6 +6,3 @@ mod total;
 mod totals;
 
 pub use totals::ScanTotals;
-
-#[cfg(test)]
-mod tests;

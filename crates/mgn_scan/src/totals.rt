@@ -1,7 +1,7 @@
 ghost use Rattle.std.specs.Prelude.{◌≡◌, ◌+◌, ◌-◌, ◌*◌, ◌<◌, ◌≤◌, ◌^◌, pos, ◌+ℤ◌, ◌≤ℤ◌, unsigned_abs, length, min, replicate, slice_set, IfOk};
-ghost use Rattle.mgn_params.specs.Positions.{IsNet, positions};
-ghost use Rattle.mgn_params.specs.Requirement.{scan_of};
-ghost use Rattle.mgn_params.specs.Scan.{active, price_risk2, scenario_total, value_at};
+ghost use Rattle.mgn_span.specs.Positions.{IsNet, positions};
+ghost use Rattle.mgn_span.specs.Requirement.{scan_of};
+ghost use Rattle.mgn_span.specs.Scan.{active, price_risk2, scenario_total, value_at};
 ghost use Rattle.mgn_params.specs.Tables.{Tables};
 ghost use Rattle.mgn_scan.specs.Totals.{AreTotals, totals_of};
 

@@ -1,5 +1,5 @@
 -- Lemmas of the crate.
+pub mod DeviceFacts
 pub mod LineFacts
 pub mod RunFacts
-pub mod PlainFacts
-pub mod ScriptFacts
+pub mod Seen

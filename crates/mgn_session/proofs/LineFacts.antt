@@ -1,19 +1,20 @@
 -- From piece to piece of a line, and from line to line of a session.
-use Rattle.std.proofs.Common.{◌≡◌, ◌+◌, ◌-◌, ◌<◌, ◌≤◌, ℕ, Bool, true, false, List, [], ◌∷◌, ◌++◌, length, take, drop, get_or, Some, None, Result, Ok, Err, OnErr, cond, refl, sym, ap, ◌∙◌, arith, append_assoc, length-append, min}
-use Rattle.std.specs.Prelude.{◌==◌, nat_lt, position}
-use Rattle.std.specs.List.{list_any, position_or_len}
+use Rattle.std.proofs.Common.{◌≡◌, ◌+◌, ◌-◌, ◌<◌, ◌≤◌, ℕ, Bool, true, false, List, [], ◌∷◌, ◌++◌, length, take, drop, get_or, Some, None, cond, refl, sym, ap, ◌∙◌, arith, append_assoc, length-append, drop-drop, length-drop, min}
+use Rattle.std.specs.Prelude.{◌==◌, ◌||◌, nat_lt, position}
+use Rattle.std.specs.List.{filter, list_any, position_or_len}
 use Rattle.std.proofs.lemmas.Bool.Decides.{nat_tests}
 use Rattle.std.proofs.lemmas.Grind.{flat_map-append}
 use Rattle.std.proofs.lemmas.List.{append-nil, get_or-take, length-take, take_all, take_more, take-append-le, take-append-drop}
-use Rattle.std.proofs.lemmas.List.Elements.{All-from_get_or}
+use Rattle.std.proofs.lemmas.List.Elements.{All-from_get_or, filter-append}
 use Rattle.std.proofs.lemmas.List.Folds.{list_any-append, list_any_none}
 use Rattle.std.proofs.lemmas.List.Quantifiers.{position-Some}
 use Rattle.std.proofs.lemmas.List.Sums.{fails_before_first}
-use Rattle.mgn_machine.specs.declared.entry.Item.{Item}
 use Rattle.mgn_machine.specs.declared.reply.Answer.{Answer}
 use Rattle.mgn_wire.specs.Line.{line_of}
 use Rattle.mgn_wire.specs.Text.{text_of}
-use Rattle.mgn_session.specs.Session.{AddsRead, AnswersRead, HasTaken, IsAt, IsGrown, Matches, ended, has_end}
+use Rattle.mgn_session.specs.Conversation.{line_ends}
+use Rattle.mgn_session.specs.Session.{Answers, Call, AnswersAll, ended, has_end}
+use Rattle.mgn_session.specs.SessionInside.{IsAt}
 
 -- the fronts of lists that are put together
 
@@ -93,84 +94,92 @@ end_at xs i e =
     rw (get_or-take i xs k 0 small) (found.2 k small) in
     (found.0, rw (is_end (get_or xs i 0) found.1) at (take_more xs i 0 found.0), list_any_none (λ b. b == 10) (take i xs) (All-from_get_or (λ b. (b == 10) ≡ false) (take i xs) 0 before))
 
-any_append : {A : Type 0} (p : A → Bool) (xs ys : List A) → list_any p xs ≡ false → list_any p ys ≡ false → list_any p (xs ++ ys) ≡ false
+pub any_append : {A : Type 0} (p : A → Bool) (xs ys : List A) → list_any p xs ≡ false → list_any p ys ≡ false → list_any p (xs ++ ys) ≡ false
 any_append p xs ys e f = rw (list_any-append p xs ys, e, f) refl
+
+-- how many lines end
+
+no_ends_by : (b : Bool) (x : ℕ) (xs : List ℕ) → (b || has_end xs) ≡ false → (has_end xs ≡ false → line_ends xs ≡ 0)
+    → length (cond b (x ∷ filter (λ b. b == 10) xs) (filter (λ b. b == 10) xs)) ≡ 0
+no_ends_by true x xs none rest = cc
+no_ends_by false x xs none rest = rest none
+
+pub no_ends : (xs : List ℕ) → has_end xs ≡ false → line_ends xs ≡ 0
+no_ends [] none = refl
+no_ends (x ∷ xs) none = no_ends_by (x == 10) x xs none (no_ends xs)
+
+pub ends_after : (last rest : List ℕ) → has_end last ≡ false → line_ends ((last ++ 10 ∷ []) ++ rest) ≡ line_ends rest + 1
+ends_after last rest none =
+    let ends = λ (b : ℕ). b == 10 in
+    rw (filter-append ends (last ++ 10 ∷ []) rest, filter-append ends last (10 ∷ []))
+    (omega (arith, no_ends last none, length-append (filter ends last ++ 10 ∷ []) (filter ends rest), length-append (filter ends last) (10 ∷ [])))
+
+-- a text from a place on, in which a line ends
+pub splits_at : (chunk : List ℕ) (at end : ℕ) → at ≤ length chunk → position (λ b. b == 10) (drop at chunk) ≡ Some end
+    → (at + (end + 1) ≤ length chunk) × (has_end (take end (drop at chunk)) ≡ false)
+    × (drop at chunk ≡ (take end (drop at chunk) ++ 10 ∷ []) ++ drop (at + (end + 1)) chunk)
+    × (line_ends (drop at chunk) ≡ line_ends (drop (at + (end + 1)) chunk) + 1)
+splits_at chunk at end within e =
+    let found = end_at (drop at chunk) end e in
+    let later : drop (end + 1) (drop at chunk) ≡ drop (at + (end + 1)) chunk = drop-drop (end + 1) at chunk in
+    let whole : drop at chunk ≡ (take end (drop at chunk) ++ 10 ∷ []) ++ drop (at + (end + 1)) chunk =
+    sym (take-append-drop (end + 1) (drop at chunk)) ∙ rw (found.1, later) refl in
+    (omega (arith, found.0, length-drop at chunk), found.2, whole, ap line_ends whole ∙ ends_after (take end (drop at chunk)) (drop (at + (end + 1)) chunk) found.2)
 
 -- answers line by line
 
-matches_more : (lines : List (List ℕ)) (answers : List Answer) (items new : List Item) (line : List ℕ) (answer : Answer)
-    → Matches lines answers items → AnswersRead (line_of line) answer new → Matches (lines ++ line ∷ []) (answers ++ answer ∷ []) (items ++ new)
-matches_more [] [] items new line answer m read = (new, [], rw m (sym (append-nil new)), read, refl)
-matches_more [] (a ∷ answers) items new line answer m read = absurd m
-matches_more (l ∷ lines) [] items new line answer m read = absurd m
-matches_more (l ∷ lines) (a ∷ answers) items new line answer m read =
-    (m.0, m.1 ++ new, rw (m.2, append_assoc) refl, m.3, matches_more lines answers m.1 new line answer m.4 read)
+pub answers_more : {E : Type 0} (call : Call E) (old mid new : E) (lines : List (List ℕ)) (answers : List Answer) (line : List ℕ) (answer : Answer)
+    → AnswersAll call old lines answers mid → Answers call mid (line_of line) answer new → AnswersAll call old (lines ++ line ∷ []) (answers ++ answer ∷ []) new
+answers_more call old mid new [] [] line answer all one = (new, rw all at one, refl)
+answers_more call old mid new [] (a ∷ answers) line answer all one = absurd all
+answers_more call old mid new (l ∷ lines) [] line answer all one = absurd all
+answers_more call old mid new (l ∷ lines) (a ∷ answers) line answer all one =
+    (all.0, all.1, answers_more call all.0 mid new lines answers line answer all.2 one)
 
 -- a line that is answered
-pub ends_line : (old now now2 : List Item) (input text : List ℕ) (n : ℕ) (line last : List ℕ) (answer : Answer)
-    → IsAt old now input text n line → has_end last ≡ false → AddsRead (line_of (line ++ last)) answer now now2
-    → IsAt old now2 (input ++ (last ++ 10 ∷ [])) (text ++ text_of answer) (n + 1) []
-ends_line old now now2 input text n line last answer at whole adds =
+abbrev pub ends_line : {E : Type 0} (call : Call E) (old mid new : E) (input text : List ℕ) (n : ℕ) (line last : List ℕ) (answer : Answer)
+    → IsAt call old mid input text n line → has_end last ≡ false → Answers call mid (line_of (line ++ last)) answer new
+    → IsAt call old new (input ++ (last ++ 10 ∷ [])) (text ++ text_of answer) (n + 1) []
+ends_line call old mid new input text n line last answer at whole one =
     let s = at.session in
-    let read = rw (same_line (line ++ last) (s.rest ++ last) (fronts 257 line s.rest last at.front)) at adds.2 in
+    let read : Answers call mid (line_of (s.rest ++ last)) answer new = rw (same_line (line ++ last) (s.rest ++ last) (fronts 257 line s.rest last at.front)) at one in
     let unbroken : has_end (s.rest ++ last) ≡ false = any_append (λ b. b == 10) s.rest last s.splits.partial whole in
     record {
       session = record {
         lines = s.lines ++ (s.rest ++ last) ∷ [];
         rest = [];
         answers = s.answers ++ answer ∷ [];
-        gained = s.gained ++ adds.0;
         splits = record {
           whole = rw (s.splits.whole, flat_map-append ended s.lines ((s.rest ++ last) ∷ [])) (simp (append_assoc, append-nil));
           each = any_append has_end s.lines ((s.rest ++ last) ∷ []) s.splits.each (rw unbroken refl);
           partial = refl;
         };
         count_is = omega (arith, s.count_is, length-append s.lines ((s.rest ++ last) ∷ []));
-        matches = matches_more s.lines s.answers s.gained adds.0 (s.rest ++ last) answer s.matches read;
-        entries = rw (adds.1, s.entries, append_assoc) refl;
+        answered = answers_more call old mid new s.lines s.answers (s.rest ++ last) answer s.answered read;
         text_is = rw (s.text_is, flat_map-append text_of s.answers (answer ∷ [])) (simp append-nil);
       };
       front = refl;
     }
 
 -- a piece of a line that goes on
-pub goes_further : (old now : List Item) (input text : List ℕ) (n : ℕ) (line piece line2 : List ℕ)
-    → IsAt old now input text n line → has_end piece ≡ false → take 257 line2 ≡ take 257 (line ++ piece)
-    → IsAt old now (input ++ piece) text n line2
-goes_further old now input text n line piece line2 at whole front =
+pub goes_further : {E : Type 0} (call : Call E) (old new : E) (input text : List ℕ) (n : ℕ) (line piece line2 : List ℕ)
+    → IsAt call old new input text n line → has_end piece ≡ false → take 257 line2 ≡ take 257 (line ++ piece)
+    → IsAt call old new (input ++ piece) text n line2
+goes_further call old new input text n line piece line2 at whole front =
     let s = at.session in
     record {
       session = record {
         lines = s.lines;
         rest = s.rest ++ piece;
         answers = s.answers;
-        gained = s.gained;
         splits = record {
           whole = rw (s.splits.whole, append_assoc) refl;
           each = s.splits.each;
           partial = any_append (λ b. b == 10) s.rest piece s.splits.partial whole;
         };
         count_is = s.count_is;
-        matches = s.matches;
-        entries = s.entries;
+        answered = s.answered;
         text_is = s.text_is;
       };
       front = front ∙ fronts 257 line s.rest piece at.front;
     }
-
--- a fact holds at an error too
-pub at_err : {X E P : Type 0} (r : Result X E) → P → OnErr r P
-at_err (Ok x) p = tt
-at_err (Err e) p = p
-
-pub grown_none : (xs : List Item) → IsGrown xs xs
-grown_none xs = ([], sym (append-nil xs))
-
-pub grown_on : (xs ys zs : List Item) → IsGrown xs ys → IsGrown ys zs → IsGrown xs zs
-grown_on xs ys zs first second = (first.0 ++ second.0, rw (second.1, first.1, append_assoc) refl)
-
--- what was taken of a chunk
-pub part_taken : (old now final : List Item) (input text chunk : List ℕ) (lines : ℕ) (line : List ℕ) (k : ℕ)
-    → IsAt old now (input ++ take k chunk) text lines line → IsGrown now final → HasTaken old final input text chunk
-part_taken old now final input text chunk lines line k at grown =
-    record { k = k; now = now; count = lines; session = at.session; grown = grown }

@@ -1,211 +1,283 @@
--- From turn to turn of a session.
-use Rattle.std.proofs.Common.{◌≡◌, ◌+◌, ◌<◌, ℕ, List, [], ◌++◌, length, take, take-add, drop, Option, Some, None, refl, sym, ap, arith, append_assoc, length-append, length-drop, inl, inr}
-use Rattle.std.proofs.lemmas.List.{append-nil, take-append-drop}
-use Rattle.std.specs.Io.KnownBytes.{Appends, Consumes, IsAtEnd, Keeps}
+-- From call to call of a session.
+use Rattle.std.proofs.Common.{◌≡◌, ◌+◌, ◌<◌, ◌≤◌, ℕ, true, false, List, [], ◌∷◌, ◌++◌, length, take, Result, Ok, Err, IfOk, IfErr, OnOk, OnErr, refl, ap, ◌∙◌, arith, append_assoc, length-append, inl, inr}
+use Rattle.std.proofs.lemmas.List.{append-nil, take_all, take-append-le}
 use Rattle.std.proofs.Math.Seq.{take-append-add}
-use Rattle.mgn_machine.specs.declared.entry.Item.{Item}
-use Rattle.mgn_session.specs.Session.{HasAnswered, HasStopped, HasTaken, HasTooMuch, HasTurned, IsAt, IsGrown, IsOpen}
+use Rattle.std.specs.Prelude.{◌==◌, ◌&&◌, nat_lt}
+use Rattle.std.proofs.lemmas.Bool.Decides.{nat_tests}
+use Rattle.std.specs.Io.KnownBytes.{Appends}
+use Rattle.mgn_machine.specs.declared.reply.Answer.{Answer}
+use Rattle.mgn_wire.specs.Line.{line_of}
+use Rattle.mgn_wire.specs.Text.{text_of}
+use Rattle.mgn_session.specs.Conversation.{ConversationView, HasFailedToRead, HasRead, HasReplied, HasSent, IsQuiet, KeepsDevices}
+use Rattle.mgn_session.specs.Session.{Answers, Call, HasAnswered, HasStopped, HasTooMuch, IsCaughtUp, has_end}
+use Rattle.mgn_session.specs.SessionInside.{IsCutOff, IsUnderWay}
+use Rattle.mgn_session.proofs.DeviceFacts.{appends_on, kept_none, reads_none, reads_on, writes_none}
+use Rattle.mgn_session.proofs.LineFacts.{ends_line, goes_further}
 
--- what the devices tell, one call after another
-
-pub writes_on : (old mid new : Option (List ℕ)) (n k : ℕ) (text : List ℕ) → Appends old mid (take n text) → Appends mid new (take k (drop n text))
-    → Appends old new (take (n + k) text)
-writes_on None mid new n k text a b = tt
-writes_on (Some xs) None new n k text a b = absurd a
-writes_on (Some xs) (Some ys) None n k text a b = absurd b
-writes_on (Some xs) (Some ys) (Some zs) n k text a b = rw (b, a, take-add n k text, append_assoc) refl
-
-pub writes_none : (old : Option (List ℕ)) → Appends old old []
-writes_none None = tt
-writes_none (Some xs) = sym (append-nil xs)
-
-pub kept_none : (l0 l1 : Option (List ℕ)) → Keeps l0 l1 → Consumes l0 l1 []
-kept_none None l1 k = tt
-kept_none (Some xs) None k = absurd k
-kept_none (Some xs) (Some ys) k = sym k
-
-pub reads_none : (l : Option (List ℕ)) → Consumes l l []
-reads_none None = tt
-reads_none (Some xs) = refl
-
-pub reads_on : (a b c : Option (List ℕ)) (x y : List ℕ) → Consumes a b x → Consumes b c y → Consumes a c (x ++ y)
-reads_on None b c x y h k = tt
-reads_on (Some xs) None c x y h k = absurd h
-reads_on (Some xs) (Some ys) None x y h k = absurd k
-reads_on (Some xs) (Some ys) (Some zs) x y h k = rw (h, k, append_assoc) refl
-
-pub appends_on : (a b c : Option (List ℕ)) (x y : List ℕ) → Appends a b x → Appends b c y → Appends a c (x ++ y)
-appends_on None b c x y h k = tt
-appends_on (Some xs) None c x y h k = absurd h
-appends_on (Some xs) (Some ys) None x y h k = absurd k
-appends_on (Some xs) (Some ys) (Some zs) x y h k = rw (k, h, append_assoc) refl
-
--- one turn
-
--- nothing waits to be written as it begins
-pub nothing_waits : (old now : List Item) (input text out : List ℕ) (lines : ℕ) (line : List ℕ) → out ≡ [] → IsAt old now input text lines line → IsAt old now input (text ++ out) lines line
-nothing_waits old now input text out lines line none at = rw (none, append-nil text) at
-
-pub turned : (l0 l1 h0 h1 : Option (List ℕ)) (old now : List Item) (input text chunk out : List ℕ) (lines : ℕ) (line : List ℕ) (n : ℕ)
-    → Consumes l0 l1 chunk → length chunk ≡ n → (n ≡ 0 → IsAtEnd l1) → IsAt old now (input ++ chunk) (text ++ out) lines line → Appends h0 h1 out
-    → HasTurned l0 l1 h0 h1 old now input text lines line n
-turned l0 l1 h0 h1 old now input text chunk out lines line n reads size end at writes =
-    record { got = chunk; sent = out; reads = reads; size = size; writes = writes; at = at; end = end }
-
--- a turn that answered these bytes and then stopped
-pub stopped : (l0 l1 h0 h1 : Option (List ℕ)) (old final : List Item) (input text chunk out : List ℕ) (k : ℕ)
-    → Consumes l0 l1 chunk → HasTaken old final input (text ++ out) chunk → Appends h0 h1 (take k out)
-    → HasStopped l0 l1 h0 h1 old final input text
-stopped l0 l1 h0 h1 old final input text chunk out k reads taken writes =
-    record {
-      got = take taken.k chunk;
-      more = drop taken.k chunk;
-      sent = out;
-      now = taken.now;
-      count = taken.count;
-      k = k;
-      reads = rw (take-append-drop taken.k chunk) reads;
-      writes = writes;
-      session = taken.session;
-      grown = taken.grown;
-    }
-
--- a turn that wrote nothing
-pub idle : (l0 l1 h0 : Option (List ℕ)) (old now final : List Item) (input text chunk : List ℕ) (lines : ℕ) (line : List ℕ)
-    → Consumes l0 l1 chunk → IsAt old now input text lines line → IsGrown now final → HasStopped l0 l1 h0 h0 old final input text
-idle l0 l1 h0 old now final input text chunk lines line reads at grown =
-    record {
-      got = [];
-      more = chunk;
-      sent = [];
-      now = now;
-      count = lines;
-      k = 0;
-      reads = reads;
-      writes = writes_none h0;
-      session = rw (append-nil input, append-nil text) at.session;
-      grown = grown;
-    }
-
--- a turn in which a byte came after the last line that may be
-pub too_many : (l0 l1 h0 h1 : Option (List ℕ)) (old now : List Item) (input text chunk out : List ℕ) (lines : ℕ) (line : List ℕ) (j : ℕ)
-    → Consumes l0 l1 chunk → j < length chunk → lines ≡ 1000000 → IsAt old now (input ++ take j chunk) (text ++ out) lines line → Appends h0 h1 out
-    → HasTooMuch l0 l1 h0 h1 old now input text
-too_many l0 l1 h0 h1 old now input text chunk out lines line j reads short most at writes =
-    record {
-      got = take j chunk;
-      more = drop j chunk;
-      sent = out;
-      count = lines;
-      further = omega (arith, length-drop j chunk);
-      bound = inl most;
-      reads = rw (take-append-drop j chunk) reads;
-      writes = writes;
-      session = at.session;
-    }
-
--- all turns so far, and one more
-
-abbrev pub opens : (l h : Option (List ℕ)) (old : List Item) (line : List ℕ) → line ≡ [] → IsOpen l l h h old old 0 line
-opens l h old line none =
+-- before the first read
+pub begins : {E : Type 0} (call : Call E) (before : ConversationView) (e : E) (line : List ℕ)
+    → IsQuiet before → line ≡ [] → IsUnderWay call before before e e [] 0 0 line
+begins call before e line quiet none =
     record {
       input = [];
-      text = [];
-      reads = reads_none l;
-      writes = writes_none h;
+      written = [];
+      reads = reads_none before.input;
+      writes = writes_none before.output;
       at = record {
         session = record {
           lines = [];
           rest = [];
           answers = [];
-          gained = [];
           splits = record { whole = refl; each = refl; partial = refl };
           count_is = refl;
-          matches = refl;
-          entries = sym (append-nil old);
-          text_is = refl;
+          answered = refl;
+          text_is = quiet.sent;
         };
         front = ap (take 257) none;
       };
+      size_is = refl;
     }
 
-abbrev pub goes_on : (l0 l1 l2 h0 h1 h2 : Option (List ℕ)) (old now now2 : List Item) (count count2 : ℕ) (line line2 : List ℕ) (n : ℕ)
-    → (o : IsOpen l0 l1 h0 h1 old now count line) → HasTurned l1 l2 h1 h2 old now2 o.input o.text count2 line2 n → IsOpen l0 l2 h0 h2 old now2 count2 line2
-goes_on l0 l1 l2 h0 h1 h2 old now now2 count count2 line line2 n o t =
+-- a read
+abbrev pub reads_more : {E : Type 0} (call : Call E) (before t u : ConversationView) (old new : E) (size count room : ℕ) (line chunk : List ℕ)
+    → IsUnderWay call before t old new [] size count line → HasRead t u room chunk → IsUnderWay call before u old new chunk (size + length chunk) count line
+reads_more call before t u old new size count room line chunk way read =
     record {
-      input = o.input ++ t.got;
-      text = o.text ++ t.sent;
-      reads = reads_on l0 l1 l2 o.input t.got o.reads t.reads;
-      writes = appends_on h0 h1 h2 o.text t.sent o.writes t.writes;
-      at = t.at;
+      input = way.input;
+      written = way.written;
+      reads = reads_on before.input t.input u.input way.input chunk (rw (append-nil way.input) at way.reads) read.reads;
+      writes = rw read.output way.writes;
+      at = rw read.waiting way.at;
+      size_is = omega (arith, way.size_is, length-append way.input [], length-append way.input chunk);
     }
 
-pub goes_on-size : (l0 l1 l2 h0 h1 h2 : Option (List ℕ)) (old now now2 : List Item) (count count2 : ℕ) (line line2 : List ℕ) (n : ℕ)
-    → (o : IsOpen l0 l1 h0 h1 old now count line) → (t : HasTurned l1 l2 h1 h2 old now2 o.input o.text count2 line2 n)
-    → length (o.input ++ t.got) ≡ length o.input + n
-goes_on-size l0 l1 l2 h0 h1 h2 old now now2 count count2 line line2 n o t = omega (arith, length-append o.input t.got, t.size)
+pub still_quiet : (t u : ConversationView) (room : ℕ) → IsQuiet t → HasRead t u room [] → IsQuiet u
+still_quiet t u room quiet read =
+    record { answered = read.owed; sent = read.waiting ∙ quiet.sent; flushed = read.dirty ∙ quiet.flushed }
 
-pub answered : (l0 l1 h0 h1 : Option (List ℕ)) (old now : List Item) (count : ℕ) (line : List ℕ)
-    → IsOpen l0 l1 h0 h1 old now count line → IsAtEnd l1 → HasAnswered l0 l1 h0 h1 old now count
-answered l0 l1 h0 h1 old now count line o end =
-    record { input = o.input; text = o.text; reads = o.reads; end = end; writes = o.writes; session = o.at.session }
+more_than_none : (room : ℕ) → 0 < room → (0 == 0) && nat_lt 0 room ≡ true
+more_than_none room some = grind (arith, nat_tests)
 
--- a last read that gave nothing
-pub reads_end : (l0 l1 l2 h0 h1 : Option (List ℕ)) (old now : List Item) (count : ℕ) (line : List ℕ)
-    → IsOpen l0 l1 h0 h1 old now count line → Consumes l1 l2 [] → IsAtEnd l2 → HasAnswered l0 l2 h0 h1 old now count
-reads_end l0 l1 l2 h0 h1 old now count line o reads end =
+pub answers_to_end : {E : Type 0} (call : Call E) (before t u : ConversationView) (old new : E) (size count room : ℕ) (line : List ℕ)
+    → IsUnderWay call before t old new [] size count line → IsQuiet t → HasRead t u room [] → 0 < room → count ≤ 1000000 → size ≤ 268435456
+    → HasAnswered call before u old new count
+answers_to_end call before t u old new size count room line way quiet read some lines bytes =
+    let now = reads_more call before t u old new size count room line [] way read in
+    let still = still_quiet t u room quiet read in
     record {
-      input = o.input;
-      text = o.text;
-      reads = rw (append-nil o.input) at (reads_on l0 l1 l2 o.input [] o.reads reads);
-      end = end;
-      writes = o.writes;
-      session = o.at.session;
+      all = record {
+        input = way.input;
+        text = way.written;
+        reads = rw (append-nil way.input) at now.reads;
+        writes = now.writes;
+        session = rw (quiet.sent, append-nil way.written) at way.at.session;
+        quiet = still;
+      };
+      end = read.end refl some;
+      ended = read.ended ∙ more_than_none room some;
+      lines = lines;
+      bytes = omega (arith, now.size_is, length-append way.input []);
     }
 
-pub halts : (l0 l1 l2 h0 h1 h2 : Option (List ℕ)) (old now final : List Item) (count : ℕ) (line : List ℕ)
-    → (o : IsOpen l0 l1 h0 h1 old now count line) → HasStopped l1 l2 h1 h2 old final o.input o.text → HasStopped l0 l2 h0 h2 old final [] []
-halts l0 l1 l2 h0 h1 h2 old now final count line o s =
+-- a read that failed
+pub read_failed : {E : Type 0} (call : Call E) (before t u : ConversationView) (old new : E) (size count : ℕ) (line : List ℕ)
+    → IsUnderWay call before t old new [] size count line → IsQuiet t → HasFailedToRead t u → IsCaughtUp call before u old new count
+read_failed call before t u old new size count line way quiet failed =
     record {
-      got = o.input ++ s.got;
-      more = s.more;
-      sent = o.text ++ s.sent;
-      now = s.now;
-      count = s.count;
-      k = length o.text + s.k;
-      reads = rw append_assoc (reads_on l0 l1 l2 o.input (s.got ++ s.more) o.reads s.reads);
-      writes = rw (take-append-add o.text s.sent s.k) (appends_on h0 h1 h2 o.text (take s.k s.sent) o.writes s.writes);
-      session = s.session;
-      grown = s.grown;
+      input = way.input;
+      text = way.written;
+      reads = rw (append-nil way.input, append-nil way.input) at (reads_on before.input t.input u.input (way.input ++ []) [] way.reads (kept_none t.input u.input failed.reads));
+      writes = rw failed.output way.writes;
+      session = rw (quiet.sent, append-nil way.written) at way.at.session;
+      quiet = record { answered = failed.owed ∙ quiet.answered; sent = failed.waiting ∙ quiet.sent; flushed = failed.dirty ∙ quiet.flushed };
     }
 
-pub too_much_on : (l0 l1 l2 h0 h1 h2 : Option (List ℕ)) (old now now2 : List Item) (count : ℕ) (line : List ℕ)
-    → (o : IsOpen l0 l1 h0 h1 old now count line) → HasTooMuch l1 l2 h1 h2 old now2 o.input o.text → HasTooMuch l0 l2 h0 h2 old now2 [] []
-too_much_on l0 l1 l2 h0 h1 h2 old now now2 count line o s =
+pub stops : {E : Type 0} (call : Call E) (before t : ConversationView) (old new : E) (count : ℕ)
+    → IsCaughtUp call before t old new count → HasStopped call before t old new
+stops call before t old new count all =
     record {
-      got = o.input ++ s.got;
-      more = s.more;
-      sent = o.text ++ s.sent;
-      count = s.count;
-      further = s.further;
-      bound = s.bound;
-      reads = rw append_assoc (reads_on l0 l1 l2 o.input (s.got ++ s.more) o.reads s.reads);
-      writes = appends_on h0 h1 h2 o.text s.sent o.writes s.writes;
-      session = s.session;
+      input = all.input;
+      more = [];
+      text = all.text;
+      count = count;
+      sent = length all.text;
+      reads = rw (append-nil all.input) all.reads;
+      writes = rw (take_all (length all.text) all.text (omega arith)) all.writes;
+      session = all.session;
+    }
+
+pub stops_at_more : {E : Type 0} (call : Call E) (before t : ConversationView) (old new : E)
+    → HasTooMuch call before t old new → HasStopped call before t old new
+stops_at_more call before t old new much =
+    record {
+      input = much.input;
+      more = much.more;
+      text = much.text;
+      count = much.count;
+      sent = length much.text;
+      reads = much.reads;
+      writes = rw (take_all (length much.text) much.text (omega arith)) much.writes;
+      session = much.session;
+    }
+
+-- a line that is answered, and one whose reply found no memory
+
+pub replies : {E : Type 0} (call : Call E) (before t u : ConversationView) (old mid new : E) (rest : List ℕ) (size count : ℕ) (line last : List ℕ) (answer : Answer)
+    → IsUnderWay call before t old mid ((last ++ 10 ∷ []) ++ rest) size count line → has_end last ≡ false → Answers call mid (line_of (line ++ last)) answer new
+    → HasReplied t u (text_of answer) → IsUnderWay call before u old new rest size (count + 1) []
+replies call before t u old mid new rest size count line last answer way whole one replied =
+    record {
+      input = way.input ++ (last ++ 10 ∷ []);
+      written = way.written;
+      reads = rw (replied.devices.input, append_assoc way.input (last ++ 10 ∷ []) rest) way.reads;
+      writes = rw replied.devices.output way.writes;
+      at = rw (replied.waiting, ← append_assoc way.written t.waiting (text_of answer)) (ends_line call old mid new way.input (way.written ++ t.waiting) count line last answer way.at whole one);
+      size_is = rw (append_assoc way.input (last ++ 10 ∷ []) rest) way.size_is;
+    }
+
+pub loses_reply : {E : Type 0} (call : Call E) (before t : ConversationView) (old mid new : E) (rest : List ℕ) (size count : ℕ) (line last : List ℕ) (answer : Answer)
+    → IsUnderWay call before t old mid ((last ++ 10 ∷ []) ++ rest) size count line → has_end last ≡ false → Answers call mid (line_of (line ++ last)) answer new
+    → IsCutOff call before t old new
+loses_reply call before t old mid new rest size count line last answer way whole one =
+    record {
+      input = way.input ++ (last ++ 10 ∷ []);
+      more = rest;
+      written = way.written;
+      lost = text_of answer;
+      count = count + 1;
+      reads = rw (append_assoc way.input (last ++ 10 ∷ []) rest) way.reads;
+      writes = way.writes;
+      session = (ends_line call old mid new way.input (way.written ++ t.waiting) count line last answer way.at whole one).session;
+    }
+
+pub cuts_off : {E : Type 0} (call : Call E) (before t : ConversationView) (old new : E) (rest : List ℕ) (size count : ℕ) (line : List ℕ)
+    → IsUnderWay call before t old new rest size count line → IsCutOff call before t old new
+cuts_off call before t old new rest size count line way =
+    record {
+      input = way.input;
+      more = rest;
+      written = way.written;
+      lost = [];
+      count = count;
+      reads = way.reads;
+      writes = way.writes;
+      session = rw (append-nil (way.written ++ t.waiting)) way.at.session;
+    }
+
+-- a piece of a line
+pub goes_on : {E : Type 0} (call : Call E) (before t : ConversationView) (old new : E) (piece : List ℕ) (size count : ℕ) (line line2 : List ℕ)
+    → IsUnderWay call before t old new piece size count line → has_end piece ≡ false → take 257 line2 ≡ take 257 (line ++ piece)
+    → IsUnderWay call before t old new [] size count line2
+goes_on call before t old new piece size count line line2 way whole front =
+    record {
+      input = way.input ++ piece;
+      written = way.written;
+      reads = rw (append-nil (way.input ++ piece)) way.reads;
+      writes = way.writes;
+      at = goes_further call old new way.input (way.written ++ t.waiting) count line piece line2 way.at whole front;
+      size_is = rw (append-nil (way.input ++ piece)) way.size_is;
+    }
+
+-- what waited is sent
+
+pub sends : {E : Type 0} (call : Call E) (before t u : ConversationView) (old new : E) (size count : ℕ) (line : List ℕ)
+    → IsUnderWay call before t old new [] size count line → HasSent t u → IsUnderWay call before u old new [] size count line
+sends call before t u old new size count line way sent =
+    record {
+      input = way.input;
+      written = way.written ++ t.waiting;
+      reads = rw sent.input way.reads;
+      writes = appends_on before.output t.output u.output way.written t.waiting way.writes sent.writes;
+      at = rw (sent.waiting, append-nil (way.written ++ t.waiting)) way.at;
+      size_is = way.size_is;
+    }
+
+pub sends_cut_off : {E : Type 0} (call : Call E) (before t u : ConversationView) (old new : E) (k : ℕ)
+    → IsCutOff call before t old new → Appends t.output u.output (take k t.waiting) → k ≤ length t.waiting → u.input ≡ t.input → HasStopped call before u old new
+sends_cut_off call before t u old new k cut writes within input =
+    record {
+      input = cut.input;
+      more = cut.more;
+      text = (cut.written ++ t.waiting) ++ cut.lost;
+      count = cut.count;
+      sent = length cut.written + k;
+      reads = rw input cut.reads;
+      writes = rw (append_assoc cut.written t.waiting cut.lost, take-append-add cut.written (t.waiting ++ cut.lost) k, take-append-le k t.waiting cut.lost within)
+          (appends_on before.output t.output u.output cut.written (take k t.waiting) cut.writes writes);
+      session = cut.session;
+    }
+
+pub sends_much : {E : Type 0} (call : Call E) (before t u : ConversationView) (old new : E) (rest : List ℕ) (size : ℕ) (line : List ℕ)
+    → IsUnderWay call before t old new rest size 1000000 line → 0 < length rest → HasSent t u → HasTooMuch call before u old new
+sends_much call before t u old new rest size line way some sent =
+    record {
+      input = way.input;
+      more = rest;
+      text = way.written ++ t.waiting;
+      count = 1000000;
+      further = some;
+      bound = inl refl;
+      reads = rw sent.input way.reads;
+      writes = appends_on before.output t.output u.output way.written t.waiting way.writes sent.writes;
+      session = way.at.session;
     }
 
 -- a byte after the last that may be
-pub one_byte_more : (l0 l1 l2 h0 h1 : Option (List ℕ)) (old now : List Item) (count : ℕ) (line chunk : List ℕ)
-    → (o : IsOpen l0 l1 h0 h1 old now count line) → length o.input ≡ 268435456 → 0 < length chunk → Consumes l1 l2 chunk → HasTooMuch l0 l2 h0 h1 old now [] []
-one_byte_more l0 l1 l2 h0 h1 old now count line chunk o size some reads =
+pub one_byte_more : {E : Type 0} (call : Call E) (before t u : ConversationView) (old new : E) (count room : ℕ) (line chunk : List ℕ)
+    → IsUnderWay call before t old new [] 268435456 count line → IsQuiet t → HasRead t u room chunk → 0 < length chunk → HasTooMuch call before u old new
+one_byte_more call before t u old new count room line chunk way quiet read some =
+    let now = reads_more call before t u old new 268435456 count room line chunk way read in
     record {
-      got = o.input;
+      input = way.input;
       more = chunk;
-      sent = o.text;
+      text = way.written;
       count = count;
       further = some;
-      bound = inr size;
-      reads = reads_on l0 l1 l2 o.input chunk o.reads reads;
-      writes = o.writes;
-      session = o.at.session;
+      bound = inr (omega (arith, way.size_is, length-append way.input []));
+      reads = now.reads;
+      writes = now.writes;
+      session = rw (quiet.sent, append-nil way.written) at way.at.session;
     }
+
+-- a fact holds at an error too
+pub at_err : {X E P : Type 0} (r : Result X E) → P → OnErr r P
+at_err (Ok x) p = tt
+at_err (Err e) p = p
+
+-- call after call without a device
+pub keeps_on : (t u v : ConversationView) → KeepsDevices t u → KeepsDevices u v → KeepsDevices t v
+keeps_on t u v first second =
+    record {
+      input = second.input ∙ first.input;
+      output = second.output ∙ first.output;
+      dirty = second.dirty ∙ first.dirty;
+      ended = second.ended ∙ first.ended;
+      failed_reads = second.failed_reads ∙ first.failed_reads;
+      failed_writes = second.failed_writes ∙ first.failed_writes;
+    }
+
+-- by result
+
+pub on_ok : {X E P Q : Type 0} (r : Result X E) → OnOk r P → (P → Q) → OnOk r Q
+on_ok (Ok x) p f = f p
+on_ok (Err e) p f = tt
+
+pub on_err : {X E P Q : Type 0} (r : Result X E) → OnErr r P → (P → Q) → OnErr r Q
+on_err (Ok x) p f = tt
+on_err (Err e) p f = f p
+
+pub if_err : {X E : Type 0} {P Q : E → Type 0} (r : Result X E) → IfErr r P → ((e : E) → P e → Q e) → IfErr r Q
+if_err (Ok x) p f = tt
+if_err (Err e) p f = f e p
+
+pub either : {X E P Q R : Type 0} (r : Result X E) → OnOk r P → OnErr r Q → (P → R) → (Q → R) → R
+either (Ok x) p q f g = f p
+either (Err e) p q f g = g q
+
+pub if_ok : {X E : Type 0} {P Q : X → Type 0} (r : Result X E) → IfOk r P → ((x : X) → P x → Q x) → IfOk r Q
+if_ok (Ok x) p f = f x p
+if_ok (Err e) p f = tt
+
+pub by_outcome : {X E : Type 0} {P : X → Type 0} {Q R : Type 0} (r : Result X E) → IfOk r P → OnErr r Q → ((x : X) → P x → R) → (Q → R) → R
+by_outcome (Ok x) p q f g = f x p
+by_outcome (Err e) p q f g = g q

@@ -1,5 +1,5 @@
 -- A device that counts its failures (own profile).
-use Rattle.std.specs.Prelude.{◌≡◌, ◌+◌, ◌-◌, ◌^◌, ◌<◌, min, ℕ, Bool, Result, MatchResult}
+use Rattle.std.specs.Prelude.{◌≡◌, ◌==◌, ◌&&◌, ◌+◌, ◌-◌, ◌^◌, ◌<◌, min, nat_lt, ℕ, Bool, false, Result, Ok, Err, MatchResult}
 use Rattle.mgn_session.specs.declared.counted.Counted.{Counted}
 
 abbrev pub device_of : {T : Type 0} → Counted T → T
@@ -17,6 +17,11 @@ is_dirty c = c.dirty
 abbrev pub has_ended : {T : Type 0} → Counted T → Bool
 has_ended c = c.ended
 
+-- whether a read into so much room gave nothing
+abbrev pub gave_nothing : {E : Type 0} → Result ℕ E → ℕ → Bool
+gave_nothing (Ok taken) room = (taken == 0) && nat_lt 0 room
+gave_nothing (Err error) room = false
+
 -- one failure more, up to the greatest number
 abbrev pub one_more : ℕ → ℕ
 one_more n = min (n + 1) (2 ^ 64 - 1)
@@ -31,3 +36,8 @@ CountsWrite old new result len =
     MatchResult result
     (λ taken. (taken ≡ 0 → 0 < len → new ≡ one_more old) × (0 < taken → new ≡ old) × (len ≡ 0 → new ≡ old))
     (λ _. new ≡ one_more old)
+
+-- after a flush nothing is unflushed, unless it failed
+abbrev pub dirty_after : {X E : Type 0} → Bool → Result X E → Bool
+dirty_after dirty (Ok x) = false
+dirty_after dirty (Err error) = dirty

@@ -1,5 +1,5 @@
 -- What the contracts of sessions cite.
 pub mod Device
-pub mod Plain
-pub mod Script
+pub mod Conversation
 pub mod Session
+pub mod SessionInside

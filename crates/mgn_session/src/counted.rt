@@ -1,7 +1,7 @@
-ghost use Rattle.std.specs.Prelude.{◌≡◌, ◌<◌, length, IfOk, OnOk, true, false};
+ghost use Rattle.std.specs.Prelude.{◌≡◌, length, true, false};
 ghost use Rattle.std.specs.Io.{ReadsAtMost, WritesAtMost};
 ghost use Rattle.std.specs.Io.KnownBytes.{Keeps, ReadConsumes, WriteAppends};
-ghost use Rattle.mgn_session.specs.Device.{device_of, failed_of, has_ended, is_dirty, Counts, CountsWrite};
+ghost use Rattle.mgn_session.specs.Device.{device_of, dirty_after, failed_of, gave_nothing, has_ended, is_dirty, Counts, CountsWrite};
 
 use std::io;
 use std::io::{Read, Write};
@@ -60,9 +60,11 @@ impl<R: Read> Read for Counted<R> {
 
     fn read(&mut self, buf: &mut [u8]) -> io::Result<usize>
         ensures bound { ReadsAtMost result buf.new }
-        ensures bytes { ReadConsumes (R.remaining (device_of self.old)) (R.remaining (device_of self.new)) result buf.new }
+        ensures bytes { ReadConsumes (R.remaining (device_of self.old)) (R.remaining (device_of self.new))
+            result buf.new }
         ensures failed { Counts (failed_of self.old) (failed_of self.new) result }
-        ensures ended { IfOk result (λ taken. taken ≡ 0 → 0 < length buf.new → has_ended self.new ≡ true) }
+        ensures ended { has_ended self.new ≡ gave_nothing result (length buf.new) }
+        ensures dirty { is_dirty self.new ≡ is_dirty self.old }
     {
         let outcome = self.device.read(buf);
         if outcome.is_err() {
@@ -81,8 +83,11 @@ impl<W: Write> Write for Counted<W> {
 
     fn write(&mut self, buf: &[u8]) -> io::Result<usize>
         ensures bound { WritesAtMost result buf.now }
-        ensures bytes { WriteAppends (W.contents (device_of self.old)) (W.contents (device_of self.new)) result buf.now }
+        ensures bytes { WriteAppends (W.contents (device_of self.old)) (W.contents (device_of self.new))
+            result buf.now }
         ensures failed { CountsWrite (failed_of self.old) (failed_of self.new) result (length buf.now) }
+        ensures dirty { is_dirty self.new ≡ true }
+        ensures ended { has_ended self.new ≡ has_ended self.old }
     {
         let outcome = self.device.write(buf);
         let failed = match &outcome {
@@ -99,7 +104,8 @@ impl<W: Write> Write for Counted<W> {
     fn flush(&mut self) -> io::Result<()>
         ensures bytes { Keeps (W.contents (device_of self.old)) (W.contents (device_of self.new)) }
         ensures failed { Counts (failed_of self.old) (failed_of self.new) result }
-        ensures clean { OnOk result (is_dirty self.new ≡ false) }
+        ensures dirty { is_dirty self.new ≡ dirty_after (is_dirty self.old) result }
+        ensures ended { has_ended self.new ≡ has_ended self.old }
     {
         let outcome = self.device.flush();
         match &outcome {

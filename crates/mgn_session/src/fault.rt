@@ -1,3 +1,5 @@
+use mgn_wire::Memory;
+
 /// Why a session ended before the end of its input.
 #[derive(Clone, Copy, PartialEq, Eq, Debug)]
 pub enum SessionFault {
@@ -9,4 +11,15 @@ pub enum SessionFault {
     Memory,
     /// There are more than 1,000,000 lines or 268,435,456 bytes.
     Lines,
+}
+
+impl From<Memory> for SessionFault {
+    ghost use Rattle.std.specs.Prelude.{◌≡◌};
+    ghost use Rattle.mgn_session.specs.declared.fault.SessionFault.TheVariants.{Memory as NoMemory};
+
+    ghost from_gives = { λ _ fault. fault ≡ NoMemory };
+
+    fn from(_memory: Memory) -> SessionFault {
+        SessionFault::Memory
+    }
 }

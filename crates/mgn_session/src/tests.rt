@@ -1,10 +1,14 @@
 //! Sessions over devices in memory: whole, in pieces, and torn.
-ghost use Rattle.std.specs.Prelude.{◌≡◌, ◌++◌, ◌∷◌, [], ◌≤◌, length, None};
-ghost use Rattle.std.specs.Prelude.{if◌then◌else◌};
+ghost use Rattle.std.specs.Prelude.{◌≡◌, ◌++◌, ◌∷◌, [], false, if◌then◌else◌};
+ghost use Rattle.mgn_machine.specs.declared.request.Recorded.TheVariants.{Asked};
+ghost use Rattle.mgn_machine.specs.History.{item};
+ghost use Rattle.mgn_session.specs.Device.{is_dirty};
 
-use crate::{Counted, Exec, SessionFault, run_lines};
-use mgn_machine::{Answer, Command, Item, Refusal, Reply};
+use crate::line_buffer::LineBuffer;
+use crate::{Conversation, Counted, Exec, SessionFault, run_lines};
+use mgn_machine::{Answer, Command, Item, Recorded, Refusal, Reply, Request};
 use std::alloc::Global;
+use std::cell::Cell;
 use std::io;
 use std::io::{ErrorKind, Read, Write};
 
@@ -22,11 +26,11 @@ impl Listed {
     }
 
     fn keep(&mut self, place: u64, command: &Command, reply: &Reply) -> bool
-        ensures { self.new.items.items ≡ self.old.items.items ++ (if result then record { place = place; command = command.now; reply = reply.now } ∷ [] else []) }
+        ensures { self.new.items.items ≡ self.old.items.items ++ (if result then item place (Asked command.now) reply.now ∷ [] else []) }
     {
         let item = Item {
             place,
-            command: *command,
+            request: Recorded::Asked(*command),
             reply: *reply,
         };
         self.items.push(item).is_ok()
@@ -36,14 +40,15 @@ impl Listed {
 impl Exec for Listed {
     ghost entries = { λ listed. listed.items.items };
 
-    ghost keeps = { λ _ _. Unit {0} };
+    ghost is_full = { λ _. ⊥ };
 
-    ghost keeps_none = { λ _. tt };
+    ghost does = { λ _ _ _ _. Unit {0} };
 
-    ghost keeps_on = { λ _ _ _ _ _. tt };
-
-    fn exec(&mut self, command: &Command) -> Answer {
-        let reply = match command {
+    fn exec(&mut self, request: Request) -> Answer {
+        let Request::Do(command) = request else {
+            return Answer::refused(Refusal::Memory);
+        };
+        let reply = match &command {
             Command::Ask(_) => Reply::Refused(Refusal::NoAccount),
             _ => Reply::Done,
         };
@@ -52,7 +57,7 @@ impl Exec for Listed {
             place: Some(place),
             reply,
         };
-        if self.keep(place, command, &answer.reply) {
+        if self.keep(place, &command, &answer.reply) {
             answer
         } else {
             Answer::refused(Refusal::Memory)
@@ -114,20 +119,22 @@ fn run(
     fails: bool,
     room: usize,
 ) -> (Result<u64, SessionFault>, u64, u64, Vec<u8>) {
-    let mut reader = Counted::new(Pieces {
+    let reader = Counted::new(Pieces {
         left: SCRIPT,
         size,
         fails,
     });
-    let mut writer = Counted::new(Narrow {
+    let writer = Counted::new(Narrow {
         taken: Vec::new(alloc),
         size,
         room,
     });
+    let mut talk = Conversation::new(alloc, reader, writer);
     let mut exec = Listed::new(alloc);
-    let ended = run_lines(alloc, &mut reader, &mut writer, &mut exec);
-    let read_failed = reader.failed();
-    let write_failed = writer.failed();
+    let ended = run_lines(alloc, &mut talk, &mut exec);
+    let read_failed = talk.failed_reads();
+    let write_failed = talk.failed_writes();
+    let (_, writer) = talk.into_parts();
     (ended, read_failed, write_failed, writer.into_inner().taken)
 }
 
@@ -151,4 +158,204 @@ fn stops_at_faults(rt: HostRuntime) {
     assert!(rt; matches!(&ended, Err(SessionFault::Write)));
     assert!(rt; read_failed == 0 && write_failed == 1);
     assert!(rt; taken.as_slice() == b"OK 1\nERR ".as_slice());
+}
+
+// Gives a line once the reply to the line before was shown, and fails where it is asked for more before that.
+#[derive(Drop)]
+struct Patient<'a> {
+    left: &'a [u8],
+    given: usize,
+    shown: &'a Cell<usize>,
+}
+
+impl Read for Patient<'_> {
+    fn read(&mut self, buf: &mut [u8]) -> io::Result<usize> {
+        if self.given > self.shown.get() {
+            return Err(io::Error::from(ErrorKind::Other));
+        }
+        let size = match self.left.iter().position(|byte| *byte == b'\n') {
+            Some(end) => (end + 1).min(buf.len()),
+            None => self.left.len().min(buf.len()),
+        };
+        buf[..size].copy_from_slice(&self.left[..size]);
+        self.left = &self.left[size..];
+        self.given = self.given.saturating_add(1);
+        Ok(size)
+    }
+}
+
+// Shows what was flushed, and nothing else.
+#[derive(Drop)]
+struct Shown<'a> {
+    held: Vec<u8>,
+    text: Vec<u8>,
+    replies: &'a Cell<usize>,
+}
+
+impl Write for Shown<'_> {
+    fn write(&mut self, buf: &[u8]) -> io::Result<usize> {
+        self.held.extend_from_slice(buf)?;
+        Ok(buf.len())
+    }
+
+    fn flush(&mut self) -> io::Result<()> {
+        let ends = self.held.iter().filter(|byte| **byte == b'\n').count();
+        self.text.extend_from_slice(self.held.as_slice())?;
+        self.held.clear();
+        self.replies.set(self.replies.get().saturating_add(ends));
+        Ok(())
+    }
+}
+
+#[test]
+fn replies_before_it_asks_for_more(rt: HostRuntime) {
+    let replies = Cell::new(0);
+    let reader = Counted::new(Patient {
+        left: SCRIPT,
+        given: 0,
+        shown: &replies,
+    });
+    let writer = Counted::new(Shown {
+        held: Vec::new(rt.alloc()),
+        text: Vec::new(rt.alloc()),
+        replies: &replies,
+    });
+    let mut talk = Conversation::new(rt.alloc(), reader, writer);
+    let mut exec = Listed::new(rt.alloc());
+    let ended = run_lines(rt.alloc(), &mut talk, &mut exec);
+    let (_, writer) = talk.into_parts();
+    // The last line has no end, and so no reply: the reader refuses to go on after it.
+    assert!(rt; matches!(&ended, Err(SessionFault::Read)));
+    assert!(rt; writer.into_inner().text.as_slice() == REPLIES);
+}
+
+#[test]
+fn a_conversation_is_read_and_answered(rt: HostRuntime) {
+    let replies = Cell::new(0);
+    let writer = Counted::new(Shown {
+        held: Vec::new(rt.alloc()),
+        text: Vec::new(rt.alloc()),
+        replies: &replies,
+    });
+    let mut talk = Conversation::new(rt.alloc(), Counted::new(b"a\nb".as_slice()), writer);
+    let mut buf = [0; 8];
+    assert!(rt; talk.read(&mut buf) == Ok(3));
+    assert!(rt; talk.reserve().is_ok());
+    assert!(rt; talk.owed() == 1);
+    assert!(rt; talk.reply(&Answer::refused(Refusal::Syntax)).is_ok());
+    assert!(rt; replies.get() == 0);
+    let sent = talk.send();
+    assert!(rt; sent.is_ok() && replies.get() == 1 && talk.owed() == 0);
+    if sent.is_err() {
+        return;
+    }
+    assert!(rt; talk.read(&mut buf) == Ok(0));
+}
+
+// Fails at one call, and works before it and after it.
+#[derive(Drop)]
+struct Faltering<'a> {
+    left: &'a [u8],
+    taken: Vec<u8>,
+    fails_at: usize,
+    calls: usize,
+}
+
+impl Faltering<'_> {
+    fn call(&mut self) -> io::Result<()> {
+        let fails = self.calls == self.fails_at;
+        self.calls = self.calls.saturating_add(1);
+        if fails {
+            return Err(io::Error::from(ErrorKind::Interrupted));
+        }
+        Ok(())
+    }
+}
+
+impl Read for Faltering<'_> {
+    fn read(&mut self, buf: &mut [u8]) -> io::Result<usize> {
+        self.call()?;
+        let size = self.left.len().min(buf.len()).min(20);
+        buf[..size].copy_from_slice(&self.left[..size]);
+        self.left = &self.left[size..];
+        Ok(size)
+    }
+}
+
+impl Write for Faltering<'_> {
+    fn write(&mut self, buf: &[u8]) -> io::Result<usize> {
+        self.call()?;
+        self.taken.extend_from_slice(buf)?;
+        Ok(buf.len())
+    }
+
+    fn flush(&mut self) -> io::Result<()> {
+        self.call()
+    }
+}
+
+fn falter<'a>(alloc: Global, fails_at: usize) -> Counted<Faltering<'a>>
+    ensures { is_dirty result ≡ false }
+{
+    Counted::new(Faltering {
+        left: SCRIPT,
+        taken: Vec::new(alloc),
+        fails_at,
+        calls: 0,
+    })
+}
+
+// The fault, the failures, the calls of the reader and the writer, and what was written.
+fn run_faltering(
+    alloc: Global,
+    read: usize,
+    write: usize,
+) -> (Result<u64, SessionFault>, [u64; 2], [usize; 2], Vec<u8>) {
+    let mut talk = Conversation::new(alloc, falter(alloc, read), falter(alloc, write));
+    let mut exec = Listed::new(alloc);
+    let ended = run_lines(alloc, &mut talk, &mut exec);
+    let failed = [talk.failed_reads(), talk.failed_writes()];
+    let (reader, writer) = talk.into_parts();
+    let reader = reader.into_inner();
+    let writer = writer.into_inner();
+    (ended, failed, [reader.calls, writer.calls], writer.taken)
+}
+
+#[test]
+fn what_fails_once_is_not_tried_again(rt: HostRuntime) {
+    // The second read. The first ends one line, for which there is a write and a flush.
+    let (ended, failed, calls, taken) = run_faltering(rt.alloc(), 1, 99);
+    assert!(rt; ended == Err(SessionFault::Read));
+    assert!(rt; failed == [1, 0] && calls == [2, 2]);
+    assert!(rt; taken.as_slice() == b"OK 1\n".as_slice());
+    // The first write.
+    let (ended, failed, calls, taken) = run_faltering(rt.alloc(), 99, 0);
+    assert!(rt; ended == Err(SessionFault::Write));
+    assert!(rt; failed == [0, 1] && calls == [1, 1]);
+    assert!(rt; taken.is_empty());
+    // The first flush.
+    let (ended, failed, calls, taken) = run_faltering(rt.alloc(), 99, 1);
+    assert!(rt; ended == Err(SessionFault::Write));
+    assert!(rt; failed == [0, 1] && calls == [1, 2]);
+    assert!(rt; taken.as_slice() == b"OK 1\n".as_slice());
+}
+
+#[test]
+fn a_chunk_is_taken_line_by_line(rt: HostRuntime) {
+    let text = b"OPEN A1 CUST\nASK".as_slice();
+    let writer = Counted::new(Vec::new(rt.alloc()));
+    let mut talk = Conversation::new(rt.alloc(), Counted::new(text), writer);
+    let mut buf = [0; 32];
+    let taken = talk.read(&mut buf);
+    assert!(rt; taken == Ok(16) && talk.owed() == 1);
+    let mut lines = LineBuffer::new(rt.alloc());
+    let mut exec = Listed::new(rt.alloc());
+    let Ok(taken) = taken else {
+        return;
+    };
+    assert!(rt; lines.take_chunk(&mut talk, &mut exec, &buf[..taken]) == Ok(()));
+    assert!(rt; lines.lines == 1 && lines.line.as_slice() == b"ASK".as_slice());
+    assert!(rt; talk.send() == Ok(()));
+    let (_, writer) = talk.into_parts();
+    assert!(rt; writer.into_inner().as_slice() == b"OK 1\n".as_slice());
 }

@@ -6,7 +6,7 @@ use Rattle.std.proofs.lemmas.Grind.{flat_map-append}
 use Rattle.std.proofs.lemmas.List.Elements.{filter-append}
 use Rattle.std.proofs.lemmas.List.Sums.{count_by_more_yes, sum_by-cons, sum_by-take-le}
 use Rattle.mgn_params.specs.declared.tables.Spread.{Spread}
-use Rattle.mgn_params.specs.Stages.{stages_of, stages_of_spread}
+use Rattle.mgn_span.specs.Stages.{stages_of, stages_of_spread}
 
 -- a spread has at most two stages
 stages_of_spread_few : (s : Spread) → length (stages_of_spread s) ≤ 2

@@ -1,11 +1,11 @@
--- The rows of a run after one stage is formed or taken back, after a stage is added, and after a start is written.
+-- The rows of a run after one stage is formed or undone, after a stage is added, and after a start is written.
 use Rattle.std.proofs.Common.{◌≡◌, ◌≢◌, ℕ, suc, ◌+◌, ◌-◌, ◌<◌, ◌≤◌, List, [], ◌∷◌, ◌++◌, length, take, set, get_or, slice_index, slice_set, ap, ◌∙◌, sym, arith, add-one, ⊎_elim, length-set, length-append, inl, inr, ◌⊎◌, get_or-set_same, get_or-set_other, ◌*◌, ◌^◌}
 use Rattle.std.proofs.lemmas.Bool.{cases_eq, cases_lt}
 use Rattle.std.proofs.lemmas.List.{get_or_append_left, get_or_at, take-append-le}
 use Rattle.std.proofs.lemmas.List.Elements.{All-push}
 use Rattle.std.specs.Prelude.{min}
-use Rattle.mgn_params.specs.declared.tables.Stage.{Stage}
-use Rattle.mgn_params.specs.Stages.{IsStage, charge_of, charges_of, left_after, left_by}
+use Rattle.mgn_span.specs.declared.stage.Stage.{Stage}
+use Rattle.mgn_span.specs.Stages.{IsStage, charge_of, charges_of, left_after, left_by}
 use Rattle.mgn_tiers.specs.declared.kept.Kept.{Kept}
 use Rattle.mgn_tiers.specs.Runs.{IsKept, IsRun, MissesBelow, Run, kept_at, no_stage, nothing_kept, stage_at}
 use Rattle.mgn_tiers.specs.Sizes.{IsStart}

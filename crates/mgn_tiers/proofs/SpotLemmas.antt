@@ -4,11 +4,11 @@ use Rattle.std.specs.Int.{div_ceil}
 use Rattle.std.specs.Prelude.{slice_index}
 use Rattle.std.proofs.lemmas.Grind.{common_steps}
 use Rattle.std.proofs.lemmas.List.Elements.{All-head, All-tail}
-use Rattle.mgn_params.proofs.StageLemmas.{first_used_le, second_used_le}
+use Rattle.mgn_span.proofs.StageLemmas.{first_used_le, second_used_le}
 use Rattle.mgn_params.specs.declared.tables.SpotCharge.{SpotCharge}
-use Rattle.mgn_params.specs.declared.tables.Stage.{Stage}
-use Rattle.mgn_params.specs.Spot.{outright_delta, spot_charge_at, spread_delta}
-use Rattle.mgn_params.specs.Stages.{IsStage, left_after, left_by, long_leg, short_leg, used_by, used_of}
+use Rattle.mgn_span.specs.declared.stage.Stage.{Stage}
+use Rattle.mgn_span.specs.Spot.{outright_delta, spot_charge_at, spread_delta}
+use Rattle.mgn_span.specs.Stages.{IsStage, left_after, left_by, long_leg, short_leg, used_by, used_of}
 use Rattle.mgn_tiers.specs.Runs.{spot_charge_left}
 
 -- what a stage uses of a leg is what the leg has less after it

@@ -4,8 +4,8 @@ use Rattle.std.proofs.lemmas.List.{set_comm, set-get_or}
 use Rattle.std.proofs.Math.Nat.{mul-le-mul}
 use Rattle.std.proofs.lemmas.Grind.{common_steps}
 use Rattle.std.proofs.lemmas.List.Sums.{fold_more}
-use Rattle.mgn_params.specs.declared.tables.Stage.{Stage}
-use Rattle.mgn_params.specs.Stages.{IsStage, amount_of, charge_of, charges_of, left_after, left_by, used}
+use Rattle.mgn_span.specs.declared.stage.Stage.{Stage}
+use Rattle.mgn_span.specs.Stages.{IsStage, amount_of, charge_of, charges_of, left_after, left_by, used}
 use Rattle.mgn_tiers.specs.Runs.{MissesBelow, no_stage, stage_at}
 use Rattle.mgn_tiers.specs.Sizes.{IsStart}
 
@@ -48,7 +48,7 @@ charges_of_small starts stages (suc n) h are small =
     let own = charge_of_small left (stage_at stages n) (are n no_stage inside) (λ k. omega (arith, left_by_le starts (take n stages) k, small k)) in
     omega (arith, charges_of_suc starts stages n inside, charges_of_small starts stages n (omega arith) are small, own)
 
--- a stage is taken back by what its two legs had
+-- a stage is undone by what its two legs had
 set_back : (row : List ℕ) (a b x y : ℕ) → a ≢ b → set (set (set (set row a x) b y) a (get_or row a 0)) b (get_or row b 0) ≡ row
 set_back row a b x y apart =
     ap (λ (l : List ℕ). set l b (get_or row b 0)) (set_comm (set row a x) b a y (get_or row a 0) (λ e. apart (sym e)) ∙ ap (λ (l : List ℕ). set l b y) (set-set row a x (get_or row a 0) ∙ set-get_or row a 0))

@@ -6,9 +6,9 @@ use Rattle.std.proofs.lemmas.Int.{ints}
 use Rattle.std.proofs.lemmas.List.{get_or-replicate, get_or_past, length-replicate}
 use Rattle.std.proofs.lemmas.List.FromFn.{fill_by_all, get_or-map-range_with_len, length-map-range_with_len}
 use Rattle.mgn_params.specs.declared.tables.Month.{Month}
-use Rattle.mgn_params.specs.Deltas.{negative_part, positive_part}
-use Rattle.mgn_params.specs.MonthDeltas.{leg_share, net_delta_by, net_share_by, start_by, starts_by}
-use Rattle.mgn_params.specs.Scan.{value_at}
+use Rattle.mgn_span.specs.Deltas.{negative_part, positive_part}
+use Rattle.mgn_span.specs.MonthDeltas.{leg_share, net_delta_by, net_share_by, start_by, starts_by}
+use Rattle.mgn_span.specs.Scan.{value_at}
 use Rattle.mgn_params.specs.Tables.{month_at}
 use Rattle.mgn_tiers.specs.Sizes.{IsDelta, IsStart}
 use Rattle.mgn_tiers.proofs.SumLemmas.{signed_sum_below_moved, signed_sum_below_none, sum_below_at, sum_below_moved, sum_below_small}

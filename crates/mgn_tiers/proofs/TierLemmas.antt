@@ -6,9 +6,9 @@ use Rattle.std.proofs.lemmas.Int.{ints}
 use Rattle.std.proofs.lemmas.List.Elements.{All-replicate, All-set}
 use Rattle.std.proofs.lemmas.List.{get_or-replicate, length-replicate}
 use Rattle.mgn_params.specs.declared.tables.Month.{Month}
-use Rattle.mgn_params.specs.Deltas.{negative_part, positive_part}
+use Rattle.mgn_span.specs.Deltas.{negative_part, positive_part}
 use Rattle.mgn_params.specs.Limits.{IsWithinLimits}
-use Rattle.mgn_params.specs.Scan.{value_at}
+use Rattle.mgn_span.specs.Scan.{value_at}
 use Rattle.mgn_params.specs.Tables.{Tables, month_at, no_month}
 use Rattle.mgn_tiers.specs.Runs.{Run}
 use Rattle.mgn_tiers.specs.Sizes.{IsDelta}

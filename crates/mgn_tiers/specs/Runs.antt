@@ -2,8 +2,8 @@
 use Rattle.std.specs.Prelude.{ℕ, ◌≡◌, ◌≢◌, ◌+◌, ◌-◌, ◌*◌, ◌<◌, ◌≤◌, ◌^◌, List, length, take, slice_index, slice_index_or, Option, IfSome, All}
 use Rattle.std.specs.Int.{div_ceil}
 use Rattle.mgn_params.specs.declared.tables.SpotCharge.{SpotCharge}
-use Rattle.mgn_params.specs.declared.tables.Stage.{Stage}
-use Rattle.mgn_params.specs.Stages.{IsStage, charges_of, left_by, long_leg, short_leg}
+use Rattle.mgn_span.specs.declared.stage.Stage.{Stage}
+use Rattle.mgn_span.specs.Stages.{IsStage, charges_of, left_by, long_leg, short_leg}
 use Rattle.mgn_tiers.specs.declared.kept.Kept.{Kept}
 use Rattle.mgn_tiers.specs.Sizes.{IsStart}
 

@@ -1,10 +1,10 @@
 -- The month deltas that changes add up to, and what is kept by them for each commodity of a set.
 use Rattle.std.specs.Prelude.{ℕ, ◌≡◌, ◌+◌, ◌-◌, ◌<◌, ◌≤◌, ℤ, slice_index, slice_set, List, [], length, replicate, slice_index_or, None, All}
-use Rattle.mgn_params.specs.Deltas.{negative_part, positive_part}
-use Rattle.mgn_params.specs.MonthDeltas.{net_delta_by, starts_by}
-use Rattle.mgn_params.specs.Scan.{value_at}
-use Rattle.mgn_params.specs.Spot.{spot_of}
-use Rattle.mgn_params.specs.Stages.{stages_of}
+use Rattle.mgn_span.specs.Deltas.{negative_part, positive_part}
+use Rattle.mgn_span.specs.MonthDeltas.{net_delta_by, starts_by}
+use Rattle.mgn_span.specs.Scan.{value_at}
+use Rattle.mgn_span.specs.Spot.{spot_of}
+use Rattle.mgn_span.specs.Stages.{stages_of}
 use Rattle.mgn_params.specs.Tables.{Tables}
 use Rattle.mgn_tiers.specs.Runs.{Run}
 use Rattle.mgn_tiers.specs.Sizes.{IsDelta, IsStart}

@@ -1,5 +1,5 @@
 ghost use Rattle.std.specs.Prelude.{◌≡◌, ◌≤◌, ◌*◌, ◌^◌, ◌+ℤ◌, unsigned_abs};
-ghost use Rattle.mgn_params.specs.Deltas.{negative_part, positive_part};
+ghost use Rattle.mgn_span.specs.Deltas.{negative_part, positive_part};
 
 use mgn_num::Tenk;
 use std::marker::Model;

@@ -11,6 +11,3 @@ mod stages;
 mod tiers;
 
 pub use tiers::TierStages;
-
-#[cfg(test)]
-mod tests;

@@ -2,15 +2,16 @@
 
 ghost use Rattle.std.specs.Prelude.{◌≡◌, ◌≢◌, ◌+◌, ◌-◌, ◌*◌, ◌<◌, ◌≤◌, ◌++◌, ℕ, pos, length, replicate, slice_index, slice_set, All, Some, None, IfOk, OnOk, count_by, ◌==◌};
 ghost use Rattle.mgn_params.specs.Limits.{IsSpread, IsSpotCharge};
-ghost use Rattle.mgn_params.specs.Scan.{value_at};
-ghost use Rattle.mgn_params.specs.Spot.{spot_of};
-ghost use Rattle.mgn_params.specs.Stages.{stages_of, stages_of_spread};
+ghost use Rattle.mgn_span.specs.Scan.{value_at};
+ghost use Rattle.mgn_span.specs.Spot.{spot_of};
+ghost use Rattle.mgn_span.specs.Stages.{stages_of, stages_of_spread};
 ghost use Rattle.mgn_tiers.specs.Sizes.{IsStart};
 ghost use Rattle.mgn_tiers.specs.Tiers.{HasRoom, moved, no_run, run_at, run_by};
 
 use crate::delta::Delta;
 use crate::run::StageRun;
-use mgn_params::{ParamSet, SpotCharge, Spread, Stage};
+use mgn_params::{ParamSet, SpotCharge, Spread};
+use mgn_span::Stage;
 use std::alloc::{AllocError, Global};
 
 // A row of equal values.

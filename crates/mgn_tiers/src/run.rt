@@ -1,13 +1,14 @@
 ghost use Rattle.std.specs.Prelude.{◌≡◌, ◌≢◌, ◌+◌, ◌-◌, ◌*◌, ◌<◌, ◌≤◌, ◌^◌, ℕ, List, [], ◌∷◌, ◌++◌, length, replicate, slice_index, slice_set, None, Some, OnOk};
-ghost use Rattle.mgn_params.specs.Spot.{spot_charge_of};
-ghost use Rattle.mgn_params.specs.Stages.{charges_of, IsStage};
+ghost use Rattle.mgn_span.specs.Spot.{spot_charge_of};
+ghost use Rattle.mgn_span.specs.Stages.{charges_of, IsStage};
 ghost use Rattle.mgn_tiers.specs.Runs.{IsSpot, MissesBelow};
 ghost use Rattle.mgn_tiers.specs.Sizes.{IsStart};
 
 use crate::kept::Kept;
 use crate::spot::charge_by;
 use crate::stages::form_stage;
-use mgn_params::{SpotCharge, Stage};
+use mgn_params::SpotCharge;
+use mgn_span::Stage;
 use std::alloc::{AllocError, Global};
 use std::marker::Model;
 

@@ -1,9 +1,9 @@
 ghost use Rattle.std.specs.Prelude.{◌≡◌, ◌*◌, ◌/◌, ◌<◌, ◌≤◌, ◌^◌, ℕ, slice_index};
 ghost use Rattle.std.specs.Int.{div_ceil};
-ghost use Rattle.mgn_params.specs.Stages.{amount_of, charge_of, IsStage, left_after, used};
+ghost use Rattle.mgn_span.specs.Stages.{amount_of, charge_of, IsStage, left_after, used};
 ghost use Rattle.mgn_tiers.specs.Sizes.{IsStart};
 
-use mgn_params::Stage;
+use mgn_span::Stage;
 
 // Below these 64 bits hold the products, which saves the long divisions of 128 bits. Nearly all numbers are.
 const SHORT_START: u64 = 1_000_000_000_000_000;

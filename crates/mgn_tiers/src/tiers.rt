@@ -1,6 +1,6 @@
 ghost use Rattle.std.specs.Prelude.{◌≡◌, ◌<◌, ◌≤◌, ◌^◌, ◌+ℤ◌, unsigned_abs, pos, length, replicate, slice_set, IfOk};
-ghost use Rattle.mgn_params.specs.MonthDeltas.{intra_charge_by, net_delta_by, spot_charge_by};
-ghost use Rattle.mgn_params.specs.Scan.{value_at};
+ghost use Rattle.mgn_span.specs.MonthDeltas.{intra_charge_by, net_delta_by, spot_charge_by};
+ghost use Rattle.mgn_span.specs.Scan.{value_at};
 ghost use Rattle.mgn_params.specs.Tables.{month_at, Tables};
 ghost use Rattle.mgn_tiers.specs.Sizes.{IsDelta};
 ghost use Rattle.mgn_tiers.specs.Tiers.{AreTiersOf};
@@ -37,7 +37,7 @@ impl Model for TierStages {
 }
 
 impl TierStages {
-    /// Nothing held: each month delta is 0. An error is want of memory.
+    /// Nothing held: each month delta is 0. The only error is that memory was refused.
     pub fn new(alloc: Global, set: &ParamSet) -> Result<TierStages, AllocError>
         ensures of_set { IfOk result (AreTiersOf set.now) }
         ensures none { IfOk result (λ t. t.deltas ≡ replicate (length set.now.months) (pos 0)) }

@@ -2,8 +2,9 @@
 use Rattle.std.specs.Prelude.{ℕ, ℤ, List, [], ◌++◌, Option, Some, None, codes}
 use Rattle.std.specs.Fmt.{decimal, signed_decimal}
 use Rattle.mgn_machine.specs.declared.reply.Refusal.{Refusal}
-use Rattle.mgn_machine.specs.declared.reply.Refusal.TheVariants.{Syntax, Long, Range, NoAccount, NoOrigin, Duplicate, NoContract, NoTrade, NoClass, NoRoom, Limit, Premium, Over, Moved, Closed, Memory, Full, NoOrder}
+use Rattle.mgn_machine.specs.declared.reply.Refusal.TheVariants.{Syntax, Long, Range, NoAccount, NoOrigin, Duplicate, NoContract, NoTrade, NoClass, NoRoom, Limit, Premium, Over, Moved, Missing, Sets, Closed, Memory, Full, NoOrder}
 use Rattle.mgn_machine.specs.declared.reply.Figures.{Figures}
+use Rattle.mgn_machine.specs.declared.reply.NewSet.{NewSet}
 use Rattle.mgn_machine.specs.declared.reply.Reply.{Reply}
 use Rattle.mgn_machine.specs.declared.reply.Reply.TheVariants as reply
 use Rattle.mgn_machine.specs.declared.reply.Answer.{Answer}
@@ -25,6 +26,8 @@ refusal_text Limit = codes "31 LIMIT"
 refusal_text Premium = codes "32 PREMIUM"
 refusal_text Over = codes "33 OVER"
 refusal_text Moved = codes "35 MOVED"
+refusal_text Missing = codes "42 MISSING"
+refusal_text Sets = codes "43 SETS"
 refusal_text Closed = codes "50 CLOSED"
 refusal_text Memory = codes "90 MEMORY"
 refusal_text Full = codes "91 FULL"
@@ -36,14 +39,23 @@ field cents = codes " " ++ signed_decimal cents
 abbrev pub figures_text : Figures → List ℕ
 figures_text f = field f.requirement ++ field f.exposure_requirement ++ field f.value ++ field f.exposure_value ++ field f.room
 
+-- a number after a space
+abbrev pub number_text : ℕ → List ℕ
+number_text number = codes " " ++ decimal number
+
 -- the place, where there is one, after the word that tells whether the command is done
 abbrev pub place_text : Option ℕ → List ℕ
 place_text None = []
-place_text (Some place) = codes " " ++ decimal place
+place_text (Some place) = number_text place
+
+-- the version of a set that came into force, and how many units are on call under it
+abbrev pub set_text : NewSet → List ℕ
+set_text told = number_text told.version ++ number_text told.on_call
 
 abbrev pub reply_of : Option ℕ → Reply → List ℕ
 reply_of place reply.Done = codes "OK" ++ place_text place
 reply_of place (reply.Figures figures) = codes "OK" ++ place_text place ++ figures_text figures
+reply_of place (reply.NewSet told) = codes "OK" ++ place_text place ++ set_text told
 reply_of place (reply.Refused refusal) = codes "ERR" ++ place_text place ++ codes " " ++ refusal_text refusal
 
 -- the text of an answer, a line

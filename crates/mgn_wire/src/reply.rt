@@ -1,9 +1,9 @@
-ghost use Rattle.std.specs.Prelude.{◌≡◌, ◌++◌, OnOk, OnErr, codes};
-ghost use Rattle.mgn_wire.specs.Text.{text_of, refusal_text, field, figures_text, place_text, reply_of};
+ghost use Rattle.std.specs.Prelude.{◌≡◌, ◌++◌, OnOk, OnErr, codes, length, take};
+ghost use Rattle.mgn_wire.specs.Text.{text_of, refusal_text, field, figures_text, number_text, place_text, reply_of, set_text};
 
 use crate::fault::Memory;
 use itoa::Buffer;
-use mgn_machine::{Answer, Figures, Refusal, Reply};
+use mgn_machine::{Answer, Figures, NewSet, Refusal, Reply};
 use mgn_num::Cents;
 use std::alloc::AllocError;
 
@@ -26,37 +26,51 @@ fn refusal_text(refusal: Refusal) -> &'static str
         Refusal::Premium => "32 PREMIUM",
         Refusal::Over => "33 OVER",
         Refusal::Moved => "35 MOVED",
+        Refusal::Missing => "42 MISSING",
+        Refusal::Sets => "43 SETS",
         Refusal::Closed => "50 CLOSED",
         Refusal::Memory => "90 MEMORY",
         Refusal::Full => "91 FULL",
     }
 }
 
+// Here and below: at any outcome what was there stays in front, so what a failed reply left can be cut off.
 fn print(text: &str, out: &mut Vec<u8>) -> Result<(), AllocError>
-    ensures { OnOk result (out.new.items ≡ out.old.items ++ text.now) }
+    ensures ok { OnOk result (out.new.items ≡ out.old.items ++ text.now) }
+    ensures kept { take (length out.old.items) out.new.items ≡ out.old.items }
 {
     out.extend_from_slice(text.as_bytes())
 }
 
-fn print_place(place: Option<u64>, out: &mut Vec<u8>) -> Result<(), AllocError>
-    ensures { OnOk result (out.new.items ≡ out.old.items ++ place_text place) }
+fn print_number(number: u64, out: &mut Vec<u8>) -> Result<(), AllocError>
+    ensures ok { OnOk result (out.new.items ≡ out.old.items ++ number_text number) }
+    ensures kept { take (length out.old.items) out.new.items ≡ out.old.items }
 {
-    let Some(place) = place else {
-        return Ok(());
-    };
     print(" ", out)?;
-    print(Buffer::new().format(place), out)
+    print(Buffer::new().format(number), out)
+}
+
+fn print_place(place: Option<u64>, out: &mut Vec<u8>) -> Result<(), AllocError>
+    ensures ok { OnOk result (out.new.items ≡ out.old.items ++ place_text place) }
+    ensures kept { take (length out.old.items) out.new.items ≡ out.old.items }
+{
+    match place {
+        Some(place) => print_number(place, out),
+        None => Ok(()),
+    }
 }
 
 fn print_field(cents: Cents, out: &mut Vec<u8>) -> Result<(), AllocError>
-    ensures { OnOk result (out.new.items ≡ out.old.items ++ field cents) }
+    ensures ok { OnOk result (out.new.items ≡ out.old.items ++ field cents) }
+    ensures kept { take (length out.old.items) out.new.items ≡ out.old.items }
 {
     print(" ", out)?;
     cents.print(out)
 }
 
 fn print_figures(figures: &Figures, out: &mut Vec<u8>) -> Result<(), AllocError>
-    ensures { OnOk result (out.new.items ≡ out.old.items ++ figures_text figures.now) }
+    ensures ok { OnOk result (out.new.items ≡ out.old.items ++ figures_text figures.now) }
+    ensures kept { take (length out.old.items) out.new.items ≡ out.old.items }
 {
     print_field(figures.requirement, out)?;
     print_field(figures.exposure_requirement, out)?;
@@ -65,8 +79,17 @@ fn print_figures(figures: &Figures, out: &mut Vec<u8>) -> Result<(), AllocError>
     print_field(figures.room, out)
 }
 
+fn print_set(told: NewSet, out: &mut Vec<u8>) -> Result<(), AllocError>
+    ensures ok { OnOk result (out.new.items ≡ out.old.items ++ set_text told) }
+    ensures kept { take (length out.old.items) out.new.items ≡ out.old.items }
+{
+    print_number(u64::from(told.version), out)?;
+    print_number(u64::from(told.on_call), out)
+}
+
 fn print_answer(answer: &Answer, out: &mut Vec<u8>) -> Result<(), AllocError>
-    ensures { OnOk result (out.new.items ≡ out.old.items ++ reply_of answer.now.place answer.now.reply) }
+    ensures ok { OnOk result (out.new.items ≡ out.old.items ++ reply_of answer.now.place answer.now.reply) }
+    ensures kept { take (length out.old.items) out.new.items ≡ out.old.items }
 {
     match &answer.reply {
         Reply::Done => {
@@ -78,6 +101,11 @@ fn print_answer(answer: &Answer, out: &mut Vec<u8>) -> Result<(), AllocError>
             print_place(answer.place, out)?;
             print_figures(figures, out)
         }
+        Reply::NewSet(told) => {
+            print("OK", out)?;
+            print_place(answer.place, out)?;
+            print_set(*told, out)
+        }
         Reply::Refused(refusal) => {
             print("ERR", out)?;
             print_place(answer.place, out)?;
@@ -87,14 +115,28 @@ fn print_answer(answer: &Answer, out: &mut Vec<u8>) -> Result<(), AllocError>
     }
 }
 
-/// Appends the text of an answer, a line with its line feed. On `Memory` the front of it may be there.
 #[tactic(auto, unfolding(crate::specs::Text::text_of))]
-pub fn reply_text(answer: &Answer, out: &mut Vec<u8>) -> Result<(), Memory>
-    ensures { OnOk result (out.new.items ≡ out.old.items ++ text_of answer.now) }
+fn print_line(answer: &Answer, out: &mut Vec<u8>) -> Result<(), AllocError>
+    ensures ok { OnOk result (out.new.items ≡ out.old.items ++ text_of answer.now) }
+    ensures kept { take (length out.old.items) out.new.items ≡ out.old.items }
 {
     print_answer(answer, out)?;
-    print("\n", out)?;
-    Ok(())
+    print("\n", out)
+}
+
+/// Appends the text of an answer, a line with its line feed. On `Memory` the buffer is as it was.
+pub fn reply_text(answer: &Answer, out: &mut Vec<u8>) -> Result<(), Memory>
+    ensures ok { OnOk result (out.new.items ≡ out.old.items ++ text_of answer.now) }
+    ensures err { OnErr result (out.new.items ≡ out.old.items) }
+{
+    let before = out.len();
+    match print_line(answer, out) {
+        Ok(()) => Ok(()),
+        Err(_) => {
+            out.truncate(before);
+            Err(Memory)
+        }
+    }
 }
 
 #[cfg(test)]
@@ -132,6 +174,19 @@ mod tests {
                 Some(6),
                 figures([140, 140, 0, 0, -140]),
                 "OK 6 140 140 0 0 -140\n",
+            ),
+            (
+                Some(7),
+                Reply::NewSet(NewSet {
+                    version: 64,
+                    on_call: 3,
+                }),
+                "OK 7 64 3\n",
+            ),
+            (
+                Some(8),
+                Reply::Refused(Refusal::Missing),
+                "ERR 8 42 MISSING\n",
             ),
             (
                 Some(1_000_000),

@@ -2,16 +2,16 @@
 #![tactic(auto)]
 
 mod fault;
-mod options;
 mod script;
 mod set;
 
+use fault::Fault;
 use std::process::ExitCode;
 
 fn main(rt: HostRuntime) -> ExitCode {
-    let ended = match options::read(&rt) {
+    let ended = match command_line::read(&rt) {
         Ok(script) => script::run(&rt, &script),
-        Err(fault) => Err(fault),
+        Err(error) => Err(Fault::from(error)),
     };
     match ended {
         Ok(()) => ExitCode::SUCCESS,

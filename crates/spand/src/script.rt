@@ -1,7 +1,8 @@
 use crate::fault::Fault;
-use crate::options::Script;
 use crate::set;
-use mgn_session::{Counted, Plain, run_script};
+use command_line::Script;
+use mgn_script::{Plain, run_script};
+use mgn_session::{Conversation, Counted};
 use std::io;
 use std::rt::Files;
 
@@ -9,9 +10,10 @@ use std::rt::Files;
 pub fn run<R: Files + Input + Print + AllocGlobal>(rt: &R, script: &Script) -> Result<(), Fault> {
     let set = set::read(rt, script.dir.as_str(), script.set.as_str())?;
     let mut plain = Plain::new(rt.alloc(), set)?;
-    let mut reader = Counted::new(rt.reader());
-    let mut writer = Counted::new(io::writer(rt));
-    match run_script(rt.alloc(), &mut reader, &mut writer, &mut plain) {
+    let reader = Counted::new(rt.reader());
+    let writer = Counted::new(io::writer(rt));
+    let mut talk = Conversation::new(rt.alloc(), reader, writer);
+    match run_script(rt.alloc(), &mut talk, &mut plain) {
         Ok(_) => Ok(()),
         Err(fault) => Err(Fault::Session(fault)),
     }

@@ -2,7 +2,8 @@ ghost use Rattle.std.specs.Prelude.{◌≤◌, vec_len, IfOk};
 
 use crate::fault::Fault;
 use mgn_ids::SetName;
-use mgn_params::{Cause, ParamSet, read_set};
+use mgn_params::ParamSet;
+use mgn_setfile::{Cause, read_set};
 use std::alloc::Global;
 use std::io::Read;
 use std::rt::Files;

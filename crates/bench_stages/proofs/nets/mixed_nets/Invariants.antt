@@ -1,5 +1,5 @@
 use Rattle.std.proofs.Common.{◌≡◌, All, length}
-use Rattle.mgn_params.specs.Positions.{IsNet}
+use Rattle.mgn_span.specs.Positions.{IsNet}
 use Rattle.bench_stages.proofs.nets.mixed_nets.Given as goal
 
 abbrev pub invariant-loop-i : goal.invariant-loop-i

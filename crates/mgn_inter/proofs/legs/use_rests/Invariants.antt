@@ -1,5 +1,5 @@
 use Rattle.std.proofs.Common.{◌≡◌, take}
-use Rattle.mgn_params.specs.Credits.{rests_after}
+use Rattle.mgn_span.specs.Credits.{rests_after}
 use Rattle.mgn_inter.proofs.legs.use_rests.Given as goal
 
 abbrev pub invariant-loop-leg : goal.invariant-loop-leg

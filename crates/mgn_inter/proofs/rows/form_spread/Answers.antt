@@ -1,5 +1,5 @@
 use Rattle.std.proofs.Common.{◌≡◌, ◌∙◌, length, refl, sym, true}
-use Rattle.mgn_params.specs.Credits.{forms}
+use Rattle.mgn_span.specs.Credits.{forms}
 use Rattle.mgn_params.specs.Tables.{legs_of}
 use Rattle.mgn_inter.proofs.SpreadLemmas.{legs_creditable}
 use Rattle.mgn_inter.proofs.rows.form_spread.Goals as goal

@@ -1,5 +1,5 @@
 use Rattle.std.proofs.Common.{◌≡◌, ◌<◌, ℕ, length, slice_index}
-use Rattle.mgn_params.specs.Scan.{value_at}
+use Rattle.mgn_span.specs.Scan.{value_at}
 use Rattle.mgn_inter.specs.Rows.{leg_at}
 use Rattle.mgn_inter.proofs.rows.keep_legs.Given as goal
 

@@ -2,7 +2,7 @@ use Rattle.std.proofs.Common.{ap, arith, length}
 use Rattle.std.specs.Prelude.{unsigned_abs}
 use Rattle.mgn_laws.proofs.CreditLemmas.{delta_of, rest_and_used}
 use Rattle.mgn_laws.proofs.credits.credit_uses_within_net_delta.Goals as goal
-use Rattle.mgn_params.specs.Positions.{positions}
+use Rattle.mgn_span.specs.Positions.{positions}
 
 pub returns : goal.returns
 returns c =

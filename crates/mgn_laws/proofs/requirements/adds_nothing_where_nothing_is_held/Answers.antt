@@ -1,6 +1,6 @@
 use Rattle.mgn_laws.proofs.AbsentLemmas.{credit_none, intra_none, minimum_none, risk_none, scan_none, spot_none}
 use Rattle.mgn_laws.proofs.requirements.adds_nothing_where_nothing_is_held.Goals as goal
-use Rattle.mgn_params.specs.Positions.{positions}
+use Rattle.mgn_span.specs.Positions.{positions}
 
 pub returns : goal.returns
 returns c =

@@ -1,5 +1,5 @@
-use Rattle.mgn_params.specs.Scan.{value_at}
-use Rattle.mgn_params.proofs.ActiveLemmas.{active_is}
+use Rattle.mgn_span.specs.Scan.{value_at}
+use Rattle.mgn_span.proofs.ActiveLemmas.{active_is}
 use Rattle.mgn_laws.proofs.scenarios.activates_lowest_largest.Goals as goal
 
 pub returns : goal.returns

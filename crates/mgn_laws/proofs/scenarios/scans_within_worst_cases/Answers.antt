@@ -1,4 +1,4 @@
-use Rattle.mgn_params.specs.Positions.{positions}
+use Rattle.mgn_span.specs.Positions.{positions}
 use Rattle.mgn_laws.proofs.RequirementLemmas.{scan_le_worst}
 use Rattle.mgn_laws.proofs.scenarios.scans_within_worst_cases.Goals as goal
 

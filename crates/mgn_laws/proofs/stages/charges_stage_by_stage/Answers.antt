@@ -1,4 +1,4 @@
-use Rattle.mgn_params.specs.Requirement.{intra_charge}
+use Rattle.mgn_span.specs.Requirement.{intra_charge}
 use Rattle.mgn_laws.specs.Turns.{stages_in, starts_in}
 use Rattle.mgn_laws.proofs.StageLemmas.{charges_by_turns}
 use Rattle.mgn_laws.proofs.stages.charges_stage_by_stage.Goals as goal

@@ -1,5 +1,5 @@
 use Rattle.std.proofs.Common.{arith}
-use Rattle.mgn_params.specs.Stages.{long_leg, short_leg}
+use Rattle.mgn_span.specs.Stages.{long_leg, short_leg}
 use Rattle.mgn_laws.specs.Turns.{stages_in, starts_in}
 use Rattle.mgn_laws.proofs.StageLemmas.{stages_in_limits, start_length, start_long, start_short, used_by_le}
 use Rattle.mgn_laws.proofs.stages.uses_within_deltas.Goals as goal

@@ -1,7 +1,7 @@
 use Rattle.std.proofs.Common.{arith, List, [], ◌∷◌, ◌++◌, ap, ◌∙◌, sym, map}
 use Rattle.std.specs.List.{range_with_len}
 use Rattle.std.proofs.lemmas.List.FromFn.{map-range_with_len_more}
-use Rattle.mgn_params.specs.Positions.{positions}
+use Rattle.mgn_span.specs.Positions.{positions}
 use Rattle.mgn_plain.specs.Figures.{commodity_figures}
 use Rattle.mgn_plain.specs.declared.commodity.CommodityFigures.{CommodityFigures}
 use Rattle.mgn_plain.proofs.calculation.list_figures.Goals as goal

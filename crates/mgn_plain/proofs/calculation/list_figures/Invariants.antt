@@ -1,7 +1,7 @@
 use Rattle.std.proofs.Common.{◌≡◌, ℤ, List, map, vec_len}
 use Rattle.std.specs.Vec.{vec_capacity}
 use Rattle.std.specs.List.{range_with_len}
-use Rattle.mgn_params.specs.Positions.{positions}
+use Rattle.mgn_span.specs.Positions.{positions}
 use Rattle.mgn_plain.specs.Figures.{commodity_figures}
 use Rattle.mgn_plain.specs.Parts.{AreFigureRows}
 use Rattle.mgn_plain.proofs.calculation.list_figures.Given as goal

@@ -1,7 +1,7 @@
 use Rattle.std.proofs.Common.{◌≡◌, ℤ, List, ◌≤◌, ◌*◌, ◌^◌, unsigned_abs}
 use Rattle.mgn_num.specs.Signed.{signed_sum_below}
-use Rattle.mgn_params.specs.Positions.{positions}
-use Rattle.mgn_params.specs.Requirement.{risk}
+use Rattle.mgn_span.specs.Positions.{positions}
+use Rattle.mgn_span.specs.Requirement.{risk}
 use Rattle.mgn_plain.specs.Parts.{AreFigureRows}
 use Rattle.mgn_plain.proofs.calculation.sum_of_risks.Given as goal
 

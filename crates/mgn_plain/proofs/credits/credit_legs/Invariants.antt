@@ -1,5 +1,5 @@
 use Rattle.std.proofs.Common.{◌≡◌, ◌≤◌, ◌+◌, ◌*◌, ◌^◌, ℕ, take, length, slice_index}
-use Rattle.mgn_params.specs.Credits.{credits_after}
+use Rattle.mgn_span.specs.Credits.{credits_after}
 use Rattle.mgn_plain.proofs.credits.credit_legs.Given as goal
 
 abbrev pub invariant-loop-leg : goal.invariant-loop-leg

@@ -1,6 +1,6 @@
 use Rattle.std.proofs.Common.{◌≡◌, ◌≤◌, ℕ, take, unsigned_abs}
-use Rattle.mgn_params.specs.Credits.{rests_after}
-use Rattle.mgn_params.specs.Scan.{value_at}
+use Rattle.mgn_span.specs.Credits.{rests_after}
+use Rattle.mgn_span.specs.Scan.{value_at}
 use Rattle.mgn_plain.proofs.credits.use_rests.Given as goal
 
 abbrev pub invariant-loop-leg : goal.invariant-loop-leg

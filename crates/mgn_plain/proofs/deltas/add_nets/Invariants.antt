@@ -1,6 +1,6 @@
 use Rattle.std.proofs.Common.{◌≡◌, ℕ, ◌<◌, ◌≤◌, ◌*◌, ◌^◌, length, unsigned_abs}
 use Rattle.mgn_num.specs.Signed.{signed_sum_below}
-use Rattle.mgn_params.specs.Scan.{value_at}
+use Rattle.mgn_span.specs.Scan.{value_at}
 use Rattle.mgn_plain.specs.Kept.{month_net_share}
 use Rattle.mgn_plain.proofs.deltas.add_nets.Given as goal
 

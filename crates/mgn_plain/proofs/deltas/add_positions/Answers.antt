@@ -1,10 +1,10 @@
 use Rattle.std.proofs.Common.{arith, ◌<◌, length, pos}
 use Rattle.std.proofs.lemmas.Int.{ints}
 use Rattle.mgn_params.specs.Tables.{contract_at, no_contract}
-use Rattle.mgn_params.specs.Deltas.{month_share}
-use Rattle.mgn_params.specs.Scan.{value_at}
-use Rattle.mgn_params.proofs.PositionLemmas.{position_sum_more}
-use Rattle.mgn_params.proofs.ShareLemmas.{month_share_small}
+use Rattle.mgn_span.specs.Deltas.{month_share}
+use Rattle.mgn_span.specs.Scan.{value_at}
+use Rattle.mgn_span.proofs.PositionLemmas.{position_sum_more}
+use Rattle.mgn_span.proofs.ShareLemmas.{month_share_small}
 use Rattle.mgn_plain.proofs.deltas.add_positions.Goals as goal
 
 pub loop-i-preserved : goal.loop-i-preserved

@@ -1,7 +1,7 @@
 use Rattle.std.proofs.Common.{◌≡◌, ℕ, ◌<◌, ◌≤◌, ◌*◌, ◌^◌, take, unsigned_abs, length}
-use Rattle.mgn_params.specs.Positions.{positions}
-use Rattle.mgn_params.specs.Deltas.{month_delta}
-use Rattle.mgn_params.specs.Scan.{value_at}
+use Rattle.mgn_span.specs.Positions.{positions}
+use Rattle.mgn_span.specs.Deltas.{month_delta}
+use Rattle.mgn_span.specs.Scan.{value_at}
 use Rattle.mgn_plain.proofs.deltas.add_positions.Given as goal
 
 abbrev pub invariant-loop-i : goal.invariant-loop-i

@@ -1,6 +1,6 @@
 use Rattle.std.proofs.Common.{arith, ◌∙◌, ◌<◌, length}
 use Rattle.mgn_num.proofs.SignedLemmas.{sum_below_more}
-use Rattle.mgn_params.specs.Scan.{value_at}
+use Rattle.mgn_span.specs.Scan.{value_at}
 use Rattle.mgn_params.specs.Tables.{month_at}
 use Rattle.mgn_plain.specs.Kept.{month_start}
 use Rattle.mgn_plain.proofs.DeltaLemmas.{start_share_small}

@@ -1,6 +1,6 @@
 use Rattle.std.proofs.Common.{◌≡◌, ℕ, ◌<◌, ◌≤◌, ◌*◌, ◌^◌, take, length, slice_index}
-use Rattle.mgn_params.specs.Options.{short_option_minimum}
-use Rattle.mgn_params.specs.Positions.{positions}
+use Rattle.mgn_span.specs.Options.{short_option_minimum}
+use Rattle.mgn_span.specs.Positions.{positions}
 use Rattle.mgn_params.specs.Tables.{commodity_at}
 use Rattle.mgn_plain.proofs.options.add_minimums.Given as goal
 

@@ -1,9 +1,9 @@
 use Rattle.std.proofs.Common.{arith, ◌<◌, length, pos}
 use Rattle.std.proofs.lemmas.Int.{ints}
 use Rattle.mgn_params.specs.Tables.{contract_at, no_contract}
-use Rattle.mgn_params.specs.Scan.{scenario_share, value_at}
-use Rattle.mgn_params.proofs.PositionLemmas.{position_sum_more}
-use Rattle.mgn_params.proofs.ShareLemmas.{scenario_share_small}
+use Rattle.mgn_span.specs.Scan.{scenario_share, value_at}
+use Rattle.mgn_span.proofs.PositionLemmas.{position_sum_more}
+use Rattle.mgn_span.proofs.ShareLemmas.{scenario_share_small}
 use Rattle.mgn_plain.proofs.scan.add_positions.Goals as goal
 
 pub loop-i-preserved : goal.loop-i-preserved

@@ -1,5 +1,5 @@
 use Rattle.std.proofs.Common.{◌≡◌, ℕ, ◌<◌, ◌≤◌, ◌^◌, length, drop, slice_index}
-use Rattle.mgn_params.specs.Spot.{spot_of}
+use Rattle.mgn_span.specs.Spot.{spot_of}
 use Rattle.mgn_plain.specs.Kept.{legs_row, kept_charge_of}
 use Rattle.mgn_plain.proofs.spot.charge_spots.Given as goal
 

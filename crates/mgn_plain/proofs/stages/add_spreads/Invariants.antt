@@ -1,5 +1,5 @@
 use Rattle.std.proofs.Common.{◌≡◌, ℕ, ◌+◌, ◌*◌, ◌<◌, ◌≤◌, ◌^◌, length, drop, slice_index}
-use Rattle.mgn_params.specs.Stages.{charges_of, left_by, stages_of}
+use Rattle.mgn_span.specs.Stages.{charges_of, left_by, stages_of}
 use Rattle.mgn_plain.specs.Kept.{leg_of, legs_row}
 use Rattle.mgn_plain.proofs.stages.add_spreads.Given as goal
 

@@ -1,7 +1,7 @@
 use Rattle.std.proofs.Common.{ℤ, ap, arith, FitsSigned, w64}
 use Rattle.std.specs.Prelude.{◌*ℤ◌}
 use Rattle.std.proofs.lemmas.Int.{ints, to_z-of_z}
-use Rattle.mgn_params.specs.Positions.{IsNet}
+use Rattle.mgn_span.specs.Positions.{IsNet}
 use Rattle.mgn_plain.proofs.ProductLemmas.{product_small}
 use Rattle.mgn_plain.proofs.total.product.Goals as goal
 use Rattle.mgn_plain.proofs.total.product.Goals.{After-contracts}

@@ -1,6 +1,6 @@
 use Rattle.std.proofs.Common.{arith, ◌≡◌, refl}
-use Rattle.mgn_params.specs.Scan.{value_at}
-use Rattle.mgn_params.proofs.ActiveLemmas.{active_along}
+use Rattle.mgn_span.specs.Scan.{value_at}
+use Rattle.mgn_span.proofs.ActiveLemmas.{active_along}
 use Rattle.mgn_scan.proofs.figures.active_scenario.Goals as goal
 
 pub returns-clause-active : goal.returns-clause-active

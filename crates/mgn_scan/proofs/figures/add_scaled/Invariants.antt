@@ -1,6 +1,6 @@
 use Rattle.std.proofs.Common.{◌≡◌, ℕ, ◌<◌, ◌≤◌}
 use Rattle.std.specs.Prelude.{◌+ℤ◌, ◌*ℤ◌}
-use Rattle.mgn_params.specs.Scan.{value_at}
+use Rattle.mgn_span.specs.Scan.{value_at}
 use Rattle.mgn_scan.proofs.figures.add_scaled.Given as goal
 
 abbrev pub invariant-loop-s : goal.invariant-loop-s

@@ -1,8 +1,8 @@
 use Rattle.std.proofs.Common.{◌≡◌, ◌∙◌, ℕ, List, ap, arith, length, pos, refl, replicate}
 use Rattle.std.proofs.lemmas.List.{length-replicate}
-use Rattle.mgn_params.specs.MonthDeltas.{starts_by}
-use Rattle.mgn_params.specs.Spot.{spot_of}
-use Rattle.mgn_params.specs.Stages.{stages_of}
+use Rattle.mgn_span.specs.MonthDeltas.{starts_by}
+use Rattle.mgn_span.specs.Spot.{spot_of}
+use Rattle.mgn_span.specs.Stages.{stages_of}
 use Rattle.mgn_tiers.specs.Runs.{Run}
 use Rattle.mgn_tiers.specs.Tiers.{no_run, run_by}
 use Rattle.mgn_tiers.proofs.StartLemmas.{starts_none}

@@ -1,5 +1,5 @@
 use Rattle.std.proofs.Common.{◌≡◌, ◌<◌, ℕ, length, take}
-use Rattle.mgn_params.specs.Stages.{stages_of}
+use Rattle.mgn_span.specs.Stages.{stages_of}
 use Rattle.mgn_tiers.specs.Tiers.{no_run, run_at}
 use Rattle.mgn_tiers.proofs.rows.push_spreads.Given as goal
 

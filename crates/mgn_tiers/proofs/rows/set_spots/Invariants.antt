@@ -1,5 +1,5 @@
 use Rattle.std.proofs.Common.{◌≡◌, ◌<◌, ℕ, length, drop}
-use Rattle.mgn_params.specs.Spot.{spot_of}
+use Rattle.mgn_span.specs.Spot.{spot_of}
 use Rattle.mgn_tiers.specs.Tiers.{run_at}
 use Rattle.mgn_tiers.proofs.rows.set_spots.Given as goal
 

@@ -1,14 +1,14 @@
-use Rattle.std.proofs.Common.{◌≡◌, ◌<◌, ap, ◌∙◌, sym, subst, length, rules, get_or, set as set'}
+use Rattle.std.proofs.Common.{◌≡◌, ◌<◌, ap, ◌∙◌, sym, subst, length, rules, get_or, true, set as set'}
 use Rattle.std.specs.Prelude.{Ok}
 use Rattle.std.proofs.lemmas.List.{get_or_default}
-use Rattle.mgn_lots.specs.declared.lot.Mark.TheVariants.{Traded}
 use Rattle.mgn_lots.specs.Lots.{is_live, lot_at}
-use Rattle.mgn_machine.specs.declared.change.Change.{Change}
-use Rattle.mgn_machine.specs.declared.row.Priced.{Priced}
+use Rattle.mgn_unit.specs.declared.change.Change.{Change}
+use Rattle.mgn_unit.specs.declared.row.Priced.{Priced}
 use Rattle.mgn_machine.specs.Refusals.{contract_of}
-use Rattle.mgn_machine.specs.Rows.{IsRoomy, Prices, bust_change, row_with}
+use Rattle.mgn_unit.specs.Rows.{IsRoomy, Prices, row_with}
+use Rattle.mgn_unit.specs.Changes.{bust_change}
 use Rattle.mgn_machine.specs.State.{AccountState, no_account, account_at, with_bust}
-use Rattle.mgn_book.specs.Floors.{Floor, IsKept, floor}
+use Rattle.mgn_book.specs.BookStates.{BookState, IsKept, book_state}
 use Rattle.mgn_book.proofs.Busts.{Busting, bust-roomy, bust-kept}
 use Rattle.mgn_book.proofs.Kept.{names-kept, kept-same}
 use Rattle.mgn_book.proofs.register.Register.bust.Goals as goal
@@ -17,14 +17,14 @@ pub bust_lot-requires-clause-roomy : goal.bust_lot-requires-clause-roomy
 bust_lot-requires-clause-roomy c =
     let r = c.self.inside in
     let set = c.args.set.now in
-    let f = floor r.origins.items r.accounts.items r.rows.items r.closed r.version in
+    let f = book_state r.origins.items r.accounts.items r.rows.items r.closed r.version in
     let a = c.index_mut-owner.result.now in
     let row = c.index_mut-row.result.now in
     let k = c.in-Ok.found.0 in
     let at = c.in-Ok.found.1 in
     let within : k < length r.accounts.items = search rules in
     let there : account_at c.args.self.now.state.accounts k ≡ a =
-    sym (c.index_mut-owner.ensures.value ∙ get_or_default r.accounts.items k a no_account within ∙ ap (λ (g : Floor). account_at g.state.accounts k) c.self.view_is)
+    sym (c.index_mut-owner.ensures.value ∙ get_or_default r.accounts.items k a no_account within ∙ ap (λ (g : BookState). account_at g.state.accounts k) c.self.view_is)
     in
     let busting : Busting set f k at c.contract_of_lot-contract.result a row = record {
       within = c.limits.ensures;
@@ -33,7 +33,7 @@ bust_lot-requires-clause-roomy c =
       was = c.index_mut-owner.ensures.value;
       row = c.index_mut-row.ensures.value ∙ ap (λ (u : _). get_or r.rows.items u row) c.unit.ensures;
       lot = subst (λ (x : AccountState). at < length x.lots) there c.in-Ok.ensures.lot;
-      live = ap is_live (subst (λ (x : AccountState). (lot_at x.lots at).mark ≡ Traded) there c.in-Ok.ensures.traded);
+      live = subst (λ (x : AccountState). is_live (lot_at x.lots at).mark ≡ true) there c.in-Ok.ensures.live;
       stands = subst (λ (x : AccountState). contract_of set (lot_at x.lots at).contract ≡ Ok c.contract_of_lot-contract.result) there c.contract_of_lot-contract.ensures.stands;
     } in
     let change_is : c.of_bust-change.result ≡ bust_change c.contract_of_lot-contract.result (lot_at a.lots at) =
@@ -45,7 +45,7 @@ pub returns-in-Err-bust_lot-clause-kept : goal.returns-in-Err-bust_lot-clause-ke
 returns-in-Err-bust_lot-clause-kept c =
     let r = c.self.inside in
     let a = c.index_mut-owner.result.now in
-    let kept : IsKept c.args.set.now (floor r.origins.items r.accounts.items r.rows.items r.closed r.version) = search rules in
+    let kept : IsKept c.args.set.now (book_state r.origins.items r.accounts.items r.rows.items r.closed r.version) = search rules in
     let same : c.bust_lot.new.owner ≡ a = search rules in
     let row : c.bust_lot.new.row ≡ c.index_mut-row.result.now = search rules in
     kept-same c.args.set.now r.origins.items r.accounts.items r.rows.items r.closed r.version c.in-Ok.found.0 c.unit.result a c.bust_lot.new.owner c.index_mut-row.result.now c.bust_lot.new.row kept c.index_mut-owner.ensures.value same c.index_mut-row.ensures.value row
@@ -61,14 +61,14 @@ pub returns-clause-kept : goal.returns-clause-kept
 returns-clause-kept c =
     let r = c.self.inside in
     let set = c.args.set.now in
-    let f = floor r.origins.items r.accounts.items r.rows.items r.closed r.version in
+    let f = book_state r.origins.items r.accounts.items r.rows.items r.closed r.version in
     let a = c.index_mut-owner.result.now in
     let row = c.index_mut-row.result.now in
     let k = c.in-Ok.found.0 in
     let at = c.in-Ok.found.1 in
     let within : k < length r.accounts.items = search rules in
     let there : account_at c.args.self.now.state.accounts k ≡ a =
-    sym (c.index_mut-owner.ensures.value ∙ get_or_default r.accounts.items k a no_account within ∙ ap (λ (g : Floor). account_at g.state.accounts k) c.self.view_is)
+    sym (c.index_mut-owner.ensures.value ∙ get_or_default r.accounts.items k a no_account within ∙ ap (λ (g : BookState). account_at g.state.accounts k) c.self.view_is)
     in
     let busting : Busting set f k at c.contract_of_lot-contract.result a row = record {
       within = c.limits.ensures;
@@ -77,7 +77,7 @@ returns-clause-kept c =
       was = c.index_mut-owner.ensures.value;
       row = c.index_mut-row.ensures.value ∙ ap (λ (u : _). get_or r.rows.items u row) c.unit.ensures;
       lot = subst (λ (x : AccountState). at < length x.lots) there c.in-Ok.ensures.lot;
-      live = ap is_live (subst (λ (x : AccountState). (lot_at x.lots at).mark ≡ Traded) there c.in-Ok.ensures.traded);
+      live = subst (λ (x : AccountState). is_live (lot_at x.lots at).mark ≡ true) there c.in-Ok.ensures.live;
       stands = subst (λ (x : AccountState). contract_of set (lot_at x.lots at).contract ≡ Ok c.contract_of_lot-contract.result) there c.contract_of_lot-contract.ensures.stands;
     } in
     let change_is : c.of_bust-change.result ≡ bust_change c.contract_of_lot-contract.result (lot_at a.lots at) =
@@ -89,4 +89,4 @@ returns-clause-kept c =
     let kept = bust-kept set r.origins.items r.accounts.items r.rows.items r.closed r.version k at c.contract_of_lot-contract.result a c.bust_lot.new.owner row c.bust_lot.new.row said.0 busting
     (subst (λ (x : Change). Prices set x row said.0) change_is said.1) (changed ∙ ap (λ (x : Change). row_with set x row) change_is) done
     in
-    subst (λ (u : _). IsKept set (floor r.origins.items (set' r.accounts.items k c.bust_lot.new.owner) (set' r.rows.items u c.bust_lot.new.row) r.closed r.version)) (sym c.unit.ensures) kept
+    subst (λ (u : _). IsKept set (book_state r.origins.items (set' r.accounts.items k c.bust_lot.new.owner) (set' r.rows.items u c.bust_lot.new.row) r.closed r.version)) (sym c.unit.ensures) kept

@@ -2,32 +2,31 @@ use Rattle.std.proofs.Common.{◌≡◌, ◌<◌, ap, ◌∙◌, sym, subst, rul
 use Rattle.std.specs.Prelude.{Ok}
 use Rattle.std.proofs.lemmas.List.{get_or_default}
 use Rattle.mgn_holds.specs.declared.held.Held.{Held}
-use Rattle.mgn_holds.specs.Holds.{hold_at}
-use Rattle.mgn_holds.specs.Refusals.{covers}
+use Rattle.mgn_holds.specs.Holds.{hold_at, covers}
 use Rattle.mgn_lots.specs.declared.lot.Lot.{Lot}
-use Rattle.mgn_lots.specs.Lots.{IsLot}
-use Rattle.mgn_lots.specs.Refusals.{is_full}
-use Rattle.mgn_machine.specs.declared.change.Change.{Change}
-use Rattle.mgn_machine.specs.declared.row.Priced.{Priced}
-use Rattle.mgn_machine.specs.Rows.{IsRoomy, Prices, row_with}
+use Rattle.mgn_lots.specs.Lots.{IsLot, is_full}
+use Rattle.mgn_unit.specs.declared.change.Change.{Change}
+use Rattle.mgn_unit.specs.declared.row.Priced.{Priced}
+use Rattle.mgn_unit.specs.Rows.{IsRoomy, Prices, row_with}
 use Rattle.mgn_machine.specs.Refusals.{contract_of}
-use Rattle.mgn_machine.specs.Holding.{with_fill, fill_change}
+use Rattle.mgn_machine.specs.Holding.{with_fill}
+use Rattle.mgn_unit.specs.Changes.{fill_change}
 use Rattle.mgn_machine.specs.State.{AccountState, no_account, account_at, traded_lot}
-use Rattle.mgn_book.specs.Floors.{Floor, IsKept, floor}
+use Rattle.mgn_book.specs.BookStates.{BookState, IsKept, book_state}
 use Rattle.mgn_book.proofs.Kept.{names-kept}
-use Rattle.mgn_book.proofs.Holding.{Reads, same-floor, fill-roomy, fill-kept}
+use Rattle.mgn_book.proofs.Holding.{Reads, same-state, fill-roomy, fill-kept}
 use Rattle.mgn_book.proofs.register.Register.fill.Goals as goal
 
 pub fill_hold-requires-clause-roomy : goal.fill_hold-requires-clause-roomy
 fill_hold-requires-clause-roomy c =
     let r = c.self.inside in
     let set' = c.args.set.now in
-    let f = floor r.origins.items r.accounts.items r.rows.items r.closed r.version in
+    let f = book_state r.origins.items r.accounts.items r.rows.items r.closed r.version in
     let at = c.in-Ok.places in
     let a = c.index_mut-owner.result.now in
     let account : a ≡ account_at c.args.self.now.state.accounts c.in-Ok.places.0 =
     c.index_mut-owner.ensures.value ∙ get_or_default c.self.inside.accounts.items c.in-Ok.places.0 a no_account (search rules)
-    ∙ ap (λ (g : Floor). account_at g.state.accounts c.in-Ok.places.0) c.self.view_is
+    ∙ ap (λ (g : BookState). account_at g.state.accounts c.in-Ok.places.0) c.self.view_is
     in
     let stands : contract_of c.args.set.now (hold_at a.holds c.in-Ok.places.1).contract ≡ Ok c.held_contract-i.result =
     ap (λ (x : AccountState). contract_of c.args.set.now (hold_at x.holds c.in-Ok.places.1).contract) account ∙ c.held_contract-i.ensures.stands
@@ -52,12 +51,12 @@ pub returns-in-Err-fill_hold-clause-kept : goal.returns-in-Err-fill_hold-clause-
 returns-in-Err-fill_hold-clause-kept c =
     let r = c.self.inside in
     let set' = c.args.set.now in
-    let f = floor r.origins.items r.accounts.items r.rows.items r.closed r.version in
+    let f = book_state r.origins.items r.accounts.items r.rows.items r.closed r.version in
     let at = c.in-Ok.places in
     let a = c.index_mut-owner.result.now in
     let account : a ≡ account_at c.args.self.now.state.accounts c.in-Ok.places.0 =
     c.index_mut-owner.ensures.value ∙ get_or_default c.self.inside.accounts.items c.in-Ok.places.0 a no_account (search rules)
-    ∙ ap (λ (g : Floor). account_at g.state.accounts c.in-Ok.places.0) c.self.view_is
+    ∙ ap (λ (g : BookState). account_at g.state.accounts c.in-Ok.places.0) c.self.view_is
     in
     let stands : contract_of c.args.set.now (hold_at a.holds c.in-Ok.places.1).contract ≡ Ok c.held_contract-i.result =
     ap (λ (x : AccountState). contract_of c.args.set.now (hold_at x.holds c.in-Ok.places.1).contract) account ∙ c.held_contract-i.ensures.stands
@@ -74,7 +73,7 @@ returns-in-Err-fill_hold-clause-kept c =
     } in
     let same : c.fill_hold.new.owner ≡ a = search rules in
     let same_row : c.fill_hold.new.row ≡ row = search rules in
-    subst (IsKept set') (sym (same-floor r.origins.items r.accounts.items r.rows.items r.closed r.version at.0 c.unit.result a c.fill_hold.new.owner row c.fill_hold.new.row c.index_mut-owner.ensures.value c.index_mut-row.ensures.value same same_row))
+    subst (IsKept set') (sym (same-state r.origins.items r.accounts.items r.rows.items r.closed r.version at.0 c.unit.result a c.fill_hold.new.owner row c.fill_hold.new.row c.index_mut-owner.ensures.value c.index_mut-row.ensures.value same same_row))
     reads.kept
 
 pub invariant_of-self-2 : goal.invariant_of-self-2
@@ -88,12 +87,12 @@ pub returns-clause-kept : goal.returns-clause-kept
 returns-clause-kept c =
     let r = c.self.inside in
     let set' = c.args.set.now in
-    let f = floor r.origins.items r.accounts.items r.rows.items r.closed r.version in
+    let f = book_state r.origins.items r.accounts.items r.rows.items r.closed r.version in
     let at = c.in-Ok.places in
     let a = c.index_mut-owner.result.now in
     let account : a ≡ account_at c.args.self.now.state.accounts c.in-Ok.places.0 =
     c.index_mut-owner.ensures.value ∙ get_or_default c.self.inside.accounts.items c.in-Ok.places.0 a no_account (search rules)
-    ∙ ap (λ (g : Floor). account_at g.state.accounts c.in-Ok.places.0) c.self.view_is
+    ∙ ap (λ (g : BookState). account_at g.state.accounts c.in-Ok.places.0) c.self.view_is
     in
     let stands : contract_of c.args.set.now (hold_at a.holds c.in-Ok.places.1).contract ≡ Ok c.held_contract-i.result =
     ap (λ (x : AccountState). contract_of c.args.set.now (hold_at x.holds c.in-Ok.places.1).contract) account ∙ c.held_contract-i.ensures.stands
@@ -121,5 +120,5 @@ returns-clause-kept c =
     let limits : IsLot lot = subst IsLot lot_is c.traded_lot-lot.ensures.limits in
     let few : is_full a.lots ≡ false = ap (λ (y : AccountState). is_full y.lots) account ∙ c.in-Ok.ensures.few in
     let room : IsRoomy change row = fill-roomy set' f at.0 c.held_contract-i.result at.1 c.args.number a row c.args.quantity c.args.premium reads inside c_is in
-    subst (λ (u : _). IsKept set' (floor r.origins.items (set r.accounts.items at.0 c.fill_hold.new.owner) (set r.rows.items u c.fill_hold.new.row) r.closed r.version)) (sym c.unit.ensures)
+    subst (λ (u : _). IsKept set' (book_state r.origins.items (set r.accounts.items at.0 c.fill_hold.new.owner) (set r.rows.items u c.fill_hold.new.row) r.closed r.version)) (sym c.unit.ensures)
     (fill-kept set' r.origins.items r.accounts.items r.rows.items r.closed r.version at.0 c.held_contract-i.result at.1 c.args.number a c.fill_hold.new.owner row c.fill_hold.new.row c.args.quantity c.args.premium said.0 reads inside c_is room prices limits few (changed ∙ ap (λ (y : Change). row_with set' y row) is) (filled ∙ ap (λ (y : Lot). with_fill a at.1 y.quantity y) lot_is))

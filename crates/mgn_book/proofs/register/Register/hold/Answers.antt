@@ -1,25 +1,25 @@
 use Rattle.std.proofs.Common.{◌≡◌, ap, ◌∙◌, sym, subst, rules, get_or, set, false}
 use Rattle.std.specs.Prelude.{Ok, Err}
 use Rattle.mgn_holds.specs.declared.held.Held.{Held}
-use Rattle.mgn_holds.specs.Holds.{IsHeld}
-use Rattle.mgn_holds.specs.Refusals.{is_full as holds_full}
-use Rattle.mgn_machine.specs.declared.change.Change.{Change}
-use Rattle.mgn_machine.specs.declared.row.Priced.{Priced}
-use Rattle.mgn_machine.specs.Rows.{IsRoomy, Prices, row_with}
+use Rattle.mgn_holds.specs.Holds.{IsHeld, is_full as holds_full}
+use Rattle.mgn_unit.specs.declared.change.Change.{Change}
+use Rattle.mgn_unit.specs.declared.row.Priced.{Priced}
+use Rattle.mgn_unit.specs.Rows.{IsRoomy, Prices, row_with}
 use Rattle.mgn_machine.specs.Refusals.{is_over}
-use Rattle.mgn_machine.specs.Holding.{entered, hold_change, hold_places, new_hold, with_hold}
+use Rattle.mgn_machine.specs.Holding.{entered, hold_places, new_hold, with_hold}
+use Rattle.mgn_unit.specs.Changes.{hold_change}
 use Rattle.mgn_machine.specs.State.{AccountState, account_at}
-use Rattle.mgn_book.specs.Floors.{Floor, IsKept, Steps, floor}
-use Rattle.mgn_book.specs.Holding.{AsksRoom}
+use Rattle.mgn_book.specs.BookStates.{BookState, IsKept, Steps, book_state}
+use Rattle.mgn_book.specs.RoomAsked.{AsksRoom}
 use Rattle.mgn_book.proofs.Kept.{names-kept}
-use Rattle.mgn_book.proofs.Holding.{Reads, account-read, hold-roomy, hold-kept, hold-done, hold-refused, same-floor}
+use Rattle.mgn_book.proofs.Holding.{Reads, account-read, hold-roomy, hold-kept, hold-done, hold-refused, same-state}
 use Rattle.mgn_book.proofs.register.Register.hold.Goals as goal
 
 pub enter_hold-requires-clause-roomy : goal.enter_hold-requires-clause-roomy
 enter_hold-requires-clause-roomy c =
     let r = c.self.inside in
     let set' = c.args.set.now in
-    let f = floor r.origins.items r.accounts.items r.rows.items r.closed r.version in
+    let f = book_state r.origins.items r.accounts.items r.rows.items r.closed r.version in
     let at = c.in-Ok.places in
     let a = c.index_mut-owner.result.now in
     let row = c.index_mut-row.result.now in
@@ -31,7 +31,7 @@ enter_hold-requires-clause-roomy c =
       row = c.index_mut-row.ensures.value ∙ ap (λ (u : _). get_or r.rows.items u row) c.unit.ensures;
       stands = search rules;
     } in
-    let over : is_over f.state at.0 c.args.contract c.args.quantity ≡ false = ap (λ (g : Floor). is_over g.state at.0 c.args.contract c.args.quantity) c.self.view_is ∙ c.in-Ok.ensures.room in
+    let over : is_over f.state at.0 c.args.contract c.args.quantity ≡ false = ap (λ (g : BookState). is_over g.state at.0 c.args.contract c.args.quantity) c.self.view_is ∙ c.in-Ok.ensures.room in
     subst (λ (change : Change). IsRoomy change row) (sym c.of_hold-change.ensures.change)
     (hold-roomy set' f at.0 at.1 a row c.args.order c.args.contract c.args.quantity c.args.limit reads over)
 
@@ -39,7 +39,7 @@ pub returns-in-Err-enter_hold-clause-kept : goal.returns-in-Err-enter_hold-claus
 returns-in-Err-enter_hold-clause-kept c =
     let r = c.self.inside in
     let set' = c.args.set.now in
-    let f = floor r.origins.items r.accounts.items r.rows.items r.closed r.version in
+    let f = book_state r.origins.items r.accounts.items r.rows.items r.closed r.version in
     let at = c.in-Ok.places in
     let a = c.index_mut-owner.result.now in
     let row = c.index_mut-row.result.now in
@@ -53,14 +53,14 @@ returns-in-Err-enter_hold-clause-kept c =
     } in
     let same : c.enter_hold.new.owner ≡ a = search rules in
     let same_row : c.enter_hold.new.row ≡ row = search rules in
-    subst (IsKept set') (sym (same-floor r.origins.items r.accounts.items r.rows.items r.closed r.version at.0 c.unit.result a c.enter_hold.new.owner row c.enter_hold.new.row c.index_mut-owner.ensures.value c.index_mut-row.ensures.value same same_row))
+    subst (IsKept set') (sym (same-state r.origins.items r.accounts.items r.rows.items r.closed r.version at.0 c.unit.result a c.enter_hold.new.owner row c.enter_hold.new.row c.index_mut-owner.ensures.value c.index_mut-row.ensures.value same same_row))
     reads.kept
 
 pub returns-in-Err-enter_hold-clause-steps : goal.returns-in-Err-enter_hold-clause-steps
 returns-in-Err-enter_hold-clause-steps c =
     let r = c.self.inside in
     let set' = c.args.set.now in
-    let f = floor r.origins.items r.accounts.items r.rows.items r.closed r.version in
+    let f = book_state r.origins.items r.accounts.items r.rows.items r.closed r.version in
     let at = c.in-Ok.places in
     let a = c.index_mut-owner.result.now in
     let row = c.index_mut-row.result.now in
@@ -76,15 +76,15 @@ returns-in-Err-enter_hold-clause-steps c =
     subst (λ (change : Change). AsksRoom {X = Unit {0}} (row_with set' change row) (Err c.in-Err-enter_hold.why)) c.of_hold-change.ensures.change (search rules)
     in
     let places : hold_places set' f.state c.args.account c.args.order c.args.contract c.args.quantity c.args.limit ≡ Ok at =
-    subst (λ (g : Floor). hold_places set' g.state c.args.account c.args.order c.args.contract c.args.quantity c.args.limit ≡ Ok at) (sym c.self.view_is) (sym c.in-Ok.ensures.places)
+    subst (λ (g : BookState). hold_places set' g.state c.args.account c.args.order c.args.contract c.args.quantity c.args.limit ≡ Ok at) (sym c.self.view_is) (sym c.in-Ok.ensures.places)
     in
     let same : c.enter_hold.new.owner ≡ a = search rules in
     let same_row : c.enter_hold.new.row ≡ row = search rules in
-    let new : Floor = floor r.origins.items (set r.accounts.items at.0 c.enter_hold.new.owner) (set r.rows.items c.unit.result c.enter_hold.new.row) r.closed r.version in
+    let new : BookState = book_state r.origins.items (set r.accounts.items at.0 c.enter_hold.new.owner) (set r.rows.items c.unit.result c.enter_hold.new.row) r.closed r.version in
     let stays : new ≡ f =
-    same-floor r.origins.items r.accounts.items r.rows.items r.closed r.version at.0 c.unit.result a c.enter_hold.new.owner row c.enter_hold.new.row c.index_mut-owner.ensures.value c.index_mut-row.ensures.value same same_row
+    same-state r.origins.items r.accounts.items r.rows.items r.closed r.version at.0 c.unit.result a c.enter_hold.new.owner row c.enter_hold.new.row c.index_mut-owner.ensures.value c.index_mut-row.ensures.value same same_row
     in
-    subst (λ (g : Floor). Steps {X = Unit {0}} (entered set' g.state c.args.account c.args.order c.args.contract c.args.quantity c.args.limit) (Err c.in-Err-enter_hold.why) g new) c.self.view_is
+    subst (λ (g : BookState). Steps {X = Unit {0}} (entered set' g.state c.args.account c.args.order c.args.contract c.args.quantity c.args.limit) (Err c.in-Err-enter_hold.why) g new) c.self.view_is
     (hold-refused set' f new at a row c.args.account c.args.order c.args.contract c.args.quantity c.args.limit c.in-Err-enter_hold.why reads places asks stays)
 
 pub invariant_of-self-2 : goal.invariant_of-self-2
@@ -98,7 +98,7 @@ pub returns-clause-kept : goal.returns-clause-kept
 returns-clause-kept c =
     let r = c.self.inside in
     let set' = c.args.set.now in
-    let f = floor r.origins.items r.accounts.items r.rows.items r.closed r.version in
+    let f = book_state r.origins.items r.accounts.items r.rows.items r.closed r.version in
     let at = c.in-Ok.places in
     let a = c.index_mut-owner.result.now in
     let row = c.index_mut-row.result.now in
@@ -110,7 +110,7 @@ returns-clause-kept c =
       row = c.index_mut-row.ensures.value ∙ ap (λ (u : _). get_or r.rows.items u row) c.unit.ensures;
       stands = search rules;
     } in
-    let over : is_over f.state at.0 c.args.contract c.args.quantity ≡ false = ap (λ (g : Floor). is_over g.state at.0 c.args.contract c.args.quantity) c.self.view_is ∙ c.in-Ok.ensures.room in
+    let over : is_over f.state at.0 c.args.contract c.args.quantity ≡ false = ap (λ (g : BookState). is_over g.state at.0 c.args.contract c.args.quantity) c.self.view_is ∙ c.in-Ok.ensures.room in
     let change = hold_change at.1 c.args.quantity c.args.limit in
     let x = new_hold c.args.order c.args.contract c.args.quantity c.args.limit in
     let said : (priced : Priced) × Prices set' c.of_hold-change.result row priced = search rules in
@@ -120,17 +120,17 @@ returns-clause-kept c =
     let held : IsHeld x = subst IsHeld c.new_hold-held.ensures.held c.new_hold-held.ensures.limits in
     let few : holds_full a.holds ≡ false =
     ap (λ (x : AccountState). holds_full x.holds) (account-read set' f at.0 at.1 a row c.args.contract reads)
-    ∙ ap (λ (g : Floor). holds_full (account_at g.state.accounts at.0).holds) c.self.view_is ∙ c.in-Ok.ensures.few
+    ∙ ap (λ (g : BookState). holds_full (account_at g.state.accounts at.0).holds) c.self.view_is ∙ c.in-Ok.ensures.few
     in
     let room : IsRoomy change row = hold-roomy set' f at.0 at.1 a row c.args.order c.args.contract c.args.quantity c.args.limit reads over in
-    subst (λ (u : _). IsKept set' (floor r.origins.items (set r.accounts.items at.0 c.enter_hold.new.owner) (set r.rows.items u c.enter_hold.new.row) r.closed r.version)) (sym c.unit.ensures)
+    subst (λ (u : _). IsKept set' (book_state r.origins.items (set r.accounts.items at.0 c.enter_hold.new.owner) (set r.rows.items u c.enter_hold.new.row) r.closed r.version)) (sym c.unit.ensures)
     (hold-kept set' r.origins.items r.accounts.items r.rows.items r.closed r.version at.0 at.1 a c.enter_hold.new.owner row c.enter_hold.new.row c.args.order c.args.contract c.args.quantity c.args.limit said.0 reads room prices held few (changed ∙ ap (λ (x : Change). row_with set' x row) c.of_hold-change.ensures.change) (added ∙ ap (λ (y : Held). with_hold a y) c.new_hold-held.ensures.held))
 
 pub returns-clause-steps : goal.returns-clause-steps
 returns-clause-steps c =
     let r = c.self.inside in
     let set' = c.args.set.now in
-    let f = floor r.origins.items r.accounts.items r.rows.items r.closed r.version in
+    let f = book_state r.origins.items r.accounts.items r.rows.items r.closed r.version in
     let at = c.in-Ok.places in
     let a = c.index_mut-owner.result.now in
     let row = c.index_mut-row.result.now in
@@ -146,10 +146,10 @@ returns-clause-steps c =
     subst (λ (change : Change). AsksRoom {X = Unit {0}} (row_with set' change row) (Ok tt)) c.of_hold-change.ensures.change (search rules)
     in
     let places : hold_places set' f.state c.args.account c.args.order c.args.contract c.args.quantity c.args.limit ≡ Ok at =
-    subst (λ (g : Floor). hold_places set' g.state c.args.account c.args.order c.args.contract c.args.quantity c.args.limit ≡ Ok at) (sym c.self.view_is) (sym c.in-Ok.ensures.places)
+    subst (λ (g : BookState). hold_places set' g.state c.args.account c.args.order c.args.contract c.args.quantity c.args.limit ≡ Ok at) (sym c.self.view_is) (sym c.in-Ok.ensures.places)
     in
     let added : c.enter_hold.new.owner ≡ with_hold a c.new_hold-held.result = search rules in
-    let new : Floor = floor r.origins.items (set r.accounts.items at.0 c.enter_hold.new.owner) (set r.rows.items c.unit.result c.enter_hold.new.row) r.closed r.version in
-    subst (λ (g : Floor). entered set' g.state c.args.account c.args.order c.args.contract c.args.quantity c.args.limit ≡ Ok new.state) c.self.view_is
+    let new : BookState = book_state r.origins.items (set r.accounts.items at.0 c.enter_hold.new.owner) (set r.rows.items c.unit.result c.enter_hold.new.row) r.closed r.version in
+    subst (λ (g : BookState). entered set' g.state c.args.account c.args.order c.args.contract c.args.quantity c.args.limit ≡ Ok new.state) c.self.view_is
     (hold-done set' r.origins.items r.accounts.items r.rows.items r.closed r.version at c.unit.result a c.enter_hold.new.owner row c.enter_hold.new.row c.args.account c.args.order c.args.contract c.args.quantity c.args.limit reads places asks
     (added ∙ ap (λ (y : Held). with_hold a y) c.new_hold-held.ensures.held))

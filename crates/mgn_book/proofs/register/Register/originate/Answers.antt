@@ -1,30 +1,30 @@
 use Rattle.std.proofs.Common.{◌≡◌, ◌<◌, ◌++◌, ◌∷◌, [], List, Some, None, sym, subst, length, rules, arith, length-append}
 use Rattle.mgn_machine.specs.declared.origin.Origin.{Origin}
-use Rattle.mgn_machine.specs.declared.row.Row.{Row}
-use Rattle.mgn_machine.specs.Rows.{no_row}
-use Rattle.mgn_book.specs.Floors.{IsKept, floor}
+use Rattle.mgn_unit.specs.declared.row.Row.{Row}
+use Rattle.mgn_unit.specs.Rows.{no_row}
+use Rattle.mgn_book.specs.BookStates.{IsKept, book_state}
 use Rattle.mgn_book.proofs.Opened.{kept-origin, kept-unit}
 use Rattle.mgn_book.proofs.register.Register.originate.Goals as goal
 
 pub returns-in-Gross-clause-kept : goal.returns-in-Gross-clause-kept
 returns-in-Gross-clause-kept c =
     let r = c.self.inside in
-    let kept : IsKept c.args.set.now (floor r.origins.items r.accounts.items r.rows.items r.closed r.version) = search rules in
+    let kept : IsKept c.args.set.now (book_state r.origins.items r.accounts.items r.rows.items r.closed r.version) = search rules in
     let o : Origin = record { name = c.args.name; unit = None } in
     let origins : c.push_reserved.new.self.items ≡ r.origins.items ++ o ∷ [] = search rules in
-    subst (λ (origins : List Origin). IsKept c.args.set.now (floor origins r.accounts.items r.rows.items r.closed r.version)) (sym origins)
+    subst (λ (origins : List Origin). IsKept c.args.set.now (book_state origins r.accounts.items r.rows.items r.closed r.version)) (sym origins)
     (kept-origin c.args.set.now r.origins.items r.accounts.items r.rows.items r.closed r.version o kept tt)
 
 pub returns-in-Ok-push_flat-clause-kept : goal.returns-in-Ok-push_flat-clause-kept
 returns-in-Ok-push_flat-clause-kept c =
     let r = c.self.inside in
     let set = c.args.set.now in
-    let kept : IsKept set (floor r.origins.items r.accounts.items r.rows.items r.closed r.version) = search rules in
+    let kept : IsKept set (book_state r.origins.items r.accounts.items r.rows.items r.closed r.version) = search rules in
     let few : length r.rows.items < 1024 = search rules in
     let unit : c.in-Ok-push_flat.unit ≡ length r.rows.items = search rules in
     let o : Origin = record { name = c.args.name; unit = Some c.in-Ok-push_flat.unit } in
     let origins : c.push_reserved-in-Net.new.self.items ≡ r.origins.items ++ o ∷ [] = search rules in
     let rows : c.push_flat.new.rows.items ≡ r.rows.items ++ no_row set ∷ [] = search rules in
-    subst (λ (x : List Origin × List Row). IsKept set (floor x.0 r.accounts.items x.1 r.closed r.version)) (λ i. (sym origins i, sym rows i))
+    subst (λ (x : List Origin × List Row). IsKept set (book_state x.0 r.accounts.items x.1 r.closed r.version)) (λ i. (sym origins i, sym rows i))
     (kept-origin set r.origins.items r.accounts.items (r.rows.items ++ no_row set ∷ []) r.closed r.version o (kept-unit set r.origins.items r.accounts.items r.rows.items r.closed r.version kept few)
     (omega (arith, unit, length-append r.rows.items (no_row set ∷ []))))

@@ -3,27 +3,28 @@ use Rattle.std.specs.Prelude.{Ok}
 use Rattle.std.proofs.lemmas.List.{get_or_default}
 use Rattle.mgn_holds.specs.declared.held.Held.{Held}
 use Rattle.mgn_holds.specs.Holds.{hold_at}
-use Rattle.mgn_machine.specs.declared.change.Change.{Change}
-use Rattle.mgn_machine.specs.declared.row.Priced.{Priced}
-use Rattle.mgn_machine.specs.Rows.{IsRoomy, Prices, row_with}
+use Rattle.mgn_unit.specs.declared.change.Change.{Change}
+use Rattle.mgn_unit.specs.declared.row.Priced.{Priced}
+use Rattle.mgn_unit.specs.Rows.{IsRoomy, Prices, row_with}
 use Rattle.mgn_machine.specs.Refusals.{contract_of}
-use Rattle.mgn_machine.specs.Holding.{without_hold, release_change}
+use Rattle.mgn_machine.specs.Holding.{without_hold}
+use Rattle.mgn_unit.specs.Changes.{release_change}
 use Rattle.mgn_machine.specs.State.{AccountState, no_account, account_at}
-use Rattle.mgn_book.specs.Floors.{Floor, IsKept, floor}
+use Rattle.mgn_book.specs.BookStates.{BookState, IsKept, book_state}
 use Rattle.mgn_book.proofs.Kept.{names-kept}
-use Rattle.mgn_book.proofs.Holding.{Reads, same-floor, release-roomy, release-kept}
+use Rattle.mgn_book.proofs.Holding.{Reads, same-state, release-roomy, release-kept}
 use Rattle.mgn_book.proofs.register.Register.release.Goals as goal
 
 pub release_hold-requires-clause-roomy : goal.release_hold-requires-clause-roomy
 release_hold-requires-clause-roomy c =
     let r = c.self.inside in
     let set' = c.args.set.now in
-    let f = floor r.origins.items r.accounts.items r.rows.items r.closed r.version in
+    let f = book_state r.origins.items r.accounts.items r.rows.items r.closed r.version in
     let at = c.in-Ok.places in
     let a = c.index_mut-owner.result.now in
     let account : a ≡ account_at c.args.self.now.state.accounts c.in-Ok.places.0 =
     c.index_mut-owner.ensures.value ∙ get_or_default c.self.inside.accounts.items c.in-Ok.places.0 a no_account (search rules)
-    ∙ ap (λ (g : Floor). account_at g.state.accounts c.in-Ok.places.0) c.self.view_is
+    ∙ ap (λ (g : BookState). account_at g.state.accounts c.in-Ok.places.0) c.self.view_is
     in
     let stands : contract_of c.args.set.now (hold_at a.holds c.in-Ok.places.1).contract ≡ Ok c.held_contract-i.result =
     ap (λ (x : AccountState). contract_of c.args.set.now (hold_at x.holds c.in-Ok.places.1).contract) account ∙ c.held_contract-i.ensures.stands
@@ -47,12 +48,12 @@ pub returns-in-Err-release_hold-clause-kept : goal.returns-in-Err-release_hold-c
 returns-in-Err-release_hold-clause-kept c =
     let r = c.self.inside in
     let set' = c.args.set.now in
-    let f = floor r.origins.items r.accounts.items r.rows.items r.closed r.version in
+    let f = book_state r.origins.items r.accounts.items r.rows.items r.closed r.version in
     let at = c.in-Ok.places in
     let a = c.index_mut-owner.result.now in
     let account : a ≡ account_at c.args.self.now.state.accounts c.in-Ok.places.0 =
     c.index_mut-owner.ensures.value ∙ get_or_default c.self.inside.accounts.items c.in-Ok.places.0 a no_account (search rules)
-    ∙ ap (λ (g : Floor). account_at g.state.accounts c.in-Ok.places.0) c.self.view_is
+    ∙ ap (λ (g : BookState). account_at g.state.accounts c.in-Ok.places.0) c.self.view_is
     in
     let stands : contract_of c.args.set.now (hold_at a.holds c.in-Ok.places.1).contract ≡ Ok c.held_contract-i.result =
     ap (λ (x : AccountState). contract_of c.args.set.now (hold_at x.holds c.in-Ok.places.1).contract) account ∙ c.held_contract-i.ensures.stands
@@ -69,7 +70,7 @@ returns-in-Err-release_hold-clause-kept c =
     } in
     let same : c.release_hold.new.owner ≡ a = search rules in
     let same_row : c.release_hold.new.row ≡ row = search rules in
-    subst (IsKept set') (sym (same-floor r.origins.items r.accounts.items r.rows.items r.closed r.version at.0 c.unit.result a c.release_hold.new.owner row c.release_hold.new.row c.index_mut-owner.ensures.value c.index_mut-row.ensures.value same same_row))
+    subst (IsKept set') (sym (same-state r.origins.items r.accounts.items r.rows.items r.closed r.version at.0 c.unit.result a c.release_hold.new.owner row c.release_hold.new.row c.index_mut-owner.ensures.value c.index_mut-row.ensures.value same same_row))
     reads.kept
 
 pub invariant_of-self-2 : goal.invariant_of-self-2
@@ -83,12 +84,12 @@ pub returns-clause-kept : goal.returns-clause-kept
 returns-clause-kept c =
     let r = c.self.inside in
     let set' = c.args.set.now in
-    let f = floor r.origins.items r.accounts.items r.rows.items r.closed r.version in
+    let f = book_state r.origins.items r.accounts.items r.rows.items r.closed r.version in
     let at = c.in-Ok.places in
     let a = c.index_mut-owner.result.now in
     let account : a ≡ account_at c.args.self.now.state.accounts c.in-Ok.places.0 =
     c.index_mut-owner.ensures.value ∙ get_or_default c.self.inside.accounts.items c.in-Ok.places.0 a no_account (search rules)
-    ∙ ap (λ (g : Floor). account_at g.state.accounts c.in-Ok.places.0) c.self.view_is
+    ∙ ap (λ (g : BookState). account_at g.state.accounts c.in-Ok.places.0) c.self.view_is
     in
     let stands : contract_of c.args.set.now (hold_at a.holds c.in-Ok.places.1).contract ≡ Ok c.held_contract-i.result =
     ap (λ (x : AccountState). contract_of c.args.set.now (hold_at x.holds c.in-Ok.places.1).contract) account ∙ c.held_contract-i.ensures.stands
@@ -111,5 +112,5 @@ returns-clause-kept c =
     let changed : c.release_hold.new.row ≡ row_with set' c.of_release-change.result row = search rules in
     let released : c.release_hold.new.owner ≡ without_hold a at.1 = search rules in
     let room : IsRoomy change row = release-roomy set' f at.0 c.held_contract-i.result at.1 a row reads inside in
-    subst (λ (u : _). IsKept set' (floor r.origins.items (set r.accounts.items at.0 c.release_hold.new.owner) (set r.rows.items u c.release_hold.new.row) r.closed r.version)) (sym c.unit.ensures)
+    subst (λ (u : _). IsKept set' (book_state r.origins.items (set r.accounts.items at.0 c.release_hold.new.owner) (set r.rows.items u c.release_hold.new.row) r.closed r.version)) (sym c.unit.ensures)
     (release-kept set' r.origins.items r.accounts.items r.rows.items r.closed r.version at.0 c.held_contract-i.result at.1 a c.release_hold.new.owner row c.release_hold.new.row said.0 reads inside room prices (changed ∙ ap (λ (y : Change). row_with set' y row) is) released)

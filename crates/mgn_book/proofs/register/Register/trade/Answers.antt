@@ -1,12 +1,12 @@
 use Rattle.std.proofs.Common.{◌≡◌, ap, ◌∙◌, sym, subst, rules, get_or, set, false}
 use Rattle.std.proofs.lemmas.List.{get_or_default}
-use Rattle.mgn_lots.specs.Lots.{IsLot}
-use Rattle.mgn_lots.specs.Refusals.{is_full}
-use Rattle.mgn_machine.specs.declared.change.Change.{Change}
-use Rattle.mgn_machine.specs.declared.row.Priced.{Priced}
-use Rattle.mgn_machine.specs.Rows.{IsRoomy, Prices, lot_change, row_with}
+use Rattle.mgn_lots.specs.Lots.{IsLot, is_full}
+use Rattle.mgn_unit.specs.declared.change.Change.{Change}
+use Rattle.mgn_unit.specs.declared.row.Priced.{Priced}
+use Rattle.mgn_unit.specs.Rows.{IsRoomy, Prices, row_with}
+use Rattle.mgn_unit.specs.Changes.{lot_change}
 use Rattle.mgn_machine.specs.State.{AccountState, no_account, account_at, traded_lot, with_lot}
-use Rattle.mgn_book.specs.Floors.{Floor, IsKept, floor}
+use Rattle.mgn_book.specs.BookStates.{BookState, IsKept, book_state}
 use Rattle.mgn_book.proofs.Kept.{names-kept}
 use Rattle.mgn_book.proofs.Trades.{Trading, trade-roomy, trade-kept}
 use Rattle.mgn_book.proofs.register.Register.trade.Goals as goal
@@ -14,7 +14,7 @@ use Rattle.mgn_book.proofs.register.Register.trade.Goals as goal
 pub enter_lot-requires-clause-roomy : goal.enter_lot-requires-clause-roomy
 enter_lot-requires-clause-roomy c =
     let r = c.self.inside in
-    let f = floor r.origins.items r.accounts.items r.rows.items r.closed r.version in
+    let f = book_state r.origins.items r.accounts.items r.rows.items r.closed r.version in
     let a = c.index_mut-owner.result.now in
     let trading : Trading c.args.set.now f c.in-Ok.places.0 c.in-Ok.places.1 a c.index_mut-row.result.now c.args.number c.args.contract c.args.quantity c.args.premium = record {
       within = c.limits.ensures;
@@ -39,7 +39,7 @@ invariant_of-self-2 c =
 pub returns-clause-kept : goal.returns-clause-kept
 returns-clause-kept c =
     let r = c.self.inside in
-    let f = floor r.origins.items r.accounts.items r.rows.items r.closed r.version in
+    let f = book_state r.origins.items r.accounts.items r.rows.items r.closed r.version in
     let a = c.index_mut-owner.result.now in
     let row = c.index_mut-row.result.now in
     let trading : Trading c.args.set.now f c.in-Ok.places.0 c.in-Ok.places.1 a row c.args.number c.args.contract c.args.quantity c.args.premium = record {
@@ -61,8 +61,8 @@ returns-clause-kept c =
     let k = c.in-Ok.places.0 in
     let few : is_full a.lots ≡ false =
     ap (λ (x : AccountState). is_full x.lots) (c.index_mut-owner.ensures.value ∙ get_or_default r.accounts.items k a no_account trading.account)
-    ∙ ap (λ (g : Floor). is_full (account_at g.state.accounts k).lots) c.self.view_is ∙ c.in-Ok.ensures.few
+    ∙ ap (λ (g : BookState). is_full (account_at g.state.accounts k).lots) c.self.view_is ∙ c.in-Ok.ensures.few
     in
     let kept = trade-kept c.args.set.now r.origins.items r.accounts.items r.rows.items r.closed r.version c.in-Ok.places.0 c.in-Ok.places.1 a c.enter_lot.new.owner row c.enter_lot.new.row c.args.number c.args.contract c.args.quantity c.args.premium said.0
     trading prices (changed ∙ ap (λ (x : Change). row_with c.args.set.now x row) c.of_lot-change.ensures.change) (added ∙ ap (λ (x : _). with_lot a x) c.traded_lot-lot.ensures.lot) limits few in
-    subst (λ (u : _). IsKept c.args.set.now (floor r.origins.items (set r.accounts.items c.in-Ok.places.0 c.enter_lot.new.owner) (set r.rows.items u c.enter_lot.new.row) r.closed r.version)) (sym c.unit.ensures) kept
+    subst (λ (u : _). IsKept c.args.set.now (book_state r.origins.items (set r.accounts.items c.in-Ok.places.0 c.enter_lot.new.owner) (set r.rows.items u c.enter_lot.new.row) r.closed r.version)) (sym c.unit.ensures) kept

@@ -1,10 +1,10 @@
 use Rattle.std.proofs.Common.{ap, ◌∙◌, arith}
-use Rattle.mgn_params.specs.Scan.{value_at}
-use Rattle.mgn_machine.specs.declared.row.Row.{Row}
+use Rattle.mgn_span.specs.Scan.{value_at}
+use Rattle.mgn_unit.specs.declared.row.Row.{Row}
 use Rattle.mgn_machine.specs.Portfolios.{account_size}
 use Rattle.mgn_machine.specs.State.{account_at}
-use Rattle.mgn_machine.proofs.Moved.{Stands}
-use Rattle.mgn_machine.proofs.Sums.{row_by-at}
+use Rattle.mgn_unit.proofs.Moved.{Stands}
+use Rattle.mgn_unit.proofs.Sums.{row_by-at}
 use Rattle.mgn_book.proofs.Kept.{contract-stands, stands-inside}
 use Rattle.mgn_book.proofs.register.Register.unit_size.Goals as goal
 

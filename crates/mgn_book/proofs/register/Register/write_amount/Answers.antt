@@ -1,8 +1,8 @@
 use Rattle.std.proofs.Common.{◌≡◌, ◌<◌, ap, ◌∙◌, sym, subst, length, rules, get_or, set}
 use Rattle.mgn_coll.specs.Posted.{IsPosted}
-use Rattle.mgn_machine.specs.Rows.{row_with_worth}
+use Rattle.mgn_unit.specs.Rows.{row_with_worth}
 use Rattle.mgn_machine.specs.State.{AccountState, with_amount}
-use Rattle.mgn_book.specs.Floors.{IsKept, floor}
+use Rattle.mgn_book.specs.BookStates.{IsKept, book_state}
 use Rattle.mgn_book.proofs.Kept.{names-kept}
 use Rattle.mgn_book.proofs.Postings.{gained, post-kept}
 use Rattle.mgn_book.proofs.register.Register.write_amount.Goals as goal
@@ -20,11 +20,11 @@ returns-clause-kept c =
     let a = c.index_mut-owner.result.now in
     let b = c.write_amount.new.owner in
     let row = c.index_mut-row.result.now in
-    let kept : IsKept c.args.set.now (floor r.origins.items r.accounts.items r.rows.items r.closed r.version) = search rules in
+    let kept : IsKept c.args.set.now (book_state r.origins.items r.accounts.items r.rows.items r.closed r.version) = search rules in
     let within : c.args.place < length r.accounts.items = search rules in
     let written : b ≡ with_amount a c.args.class.now c.args.amount = search rules in
     let limits : IsPosted b.collateral.cash b.collateral.units = search rules in
     let worth : c.write_amount.new.row ≡ row_with_worth (gained c.args.set.now a b) row = search rules in
-    subst (λ (u : _). IsKept c.args.set.now (floor r.origins.items (set r.accounts.items c.args.place b) (set r.rows.items u c.write_amount.new.row) r.closed r.version)) (sym c.unit.ensures)
+    subst (λ (u : _). IsKept c.args.set.now (book_state r.origins.items (set r.accounts.items c.args.place b) (set r.rows.items u c.write_amount.new.row) r.closed r.version)) (sym c.unit.ensures)
     (post-kept c.args.set.now r.origins.items r.accounts.items r.rows.items r.closed r.version c.args.place a b row c.write_amount.new.row c.args.class.now c.args.amount
     c.limits.ensures kept within c.index_mut-owner.ensures.value (c.index_mut-row.ensures.value ∙ ap (λ (u : _). get_or r.rows.items u row) c.unit.ensures) written limits worth)

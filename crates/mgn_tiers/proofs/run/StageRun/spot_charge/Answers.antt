@@ -1,7 +1,7 @@
 use Rattle.std.proofs.Common.{◌≡◌, ◌∙◌, ℕ, ap, subst, sym, arith, length, List, take, take_all}
-use Rattle.mgn_params.specs.declared.tables.Stage.{Stage}
-use Rattle.mgn_params.specs.Spot.{spot_charge_of}
-use Rattle.mgn_params.specs.Stages.{left_by}
+use Rattle.mgn_span.specs.declared.stage.Stage.{Stage}
+use Rattle.mgn_span.specs.Spot.{spot_charge_of}
+use Rattle.mgn_span.specs.Stages.{left_by}
 use Rattle.mgn_tiers.specs.Runs.{Run, spot_charge_left}
 use Rattle.mgn_tiers.proofs.SpotLemmas.{spot_charge_left_is}
 use Rattle.mgn_tiers.proofs.StageSteps.{left_by_le}

@@ -2,7 +2,7 @@ use Rattle.std.proofs.Common.{◌≡◌, ◌<◌, ◌∙◌, ap, arith, length, 
 use Rattle.std.specs.Prelude.{◌+ℤ◌, ℤ, List}
 use Rattle.std.proofs.lemmas.List.{get_or_read}
 use Rattle.mgn_params.specs.declared.tables.Month.{Month}
-use Rattle.mgn_params.specs.Scan.{value_at}
+use Rattle.mgn_span.specs.Scan.{value_at}
 use Rattle.mgn_params.specs.Tables.{no_month}
 use Rattle.mgn_tiers.specs.Sizes.{IsDelta}
 use Rattle.mgn_tiers.specs.TierRows.{tiers_of}

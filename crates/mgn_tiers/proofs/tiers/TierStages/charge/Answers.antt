@@ -1,7 +1,7 @@
 use Rattle.std.proofs.Common.{rules, ◌≡◌, ◌<◌, ◌∙◌, ap, arith, length, pos, subst, sym}
 use Rattle.std.proofs.lemmas.List.{get_or_read}
-use Rattle.mgn_params.specs.MonthDeltas.{intra_charge_by}
-use Rattle.mgn_params.specs.Stages.{charges_of}
+use Rattle.mgn_span.specs.MonthDeltas.{intra_charge_by}
+use Rattle.mgn_span.specs.Stages.{charges_of}
 use Rattle.mgn_tiers.specs.Runs.{Run}
 use Rattle.mgn_tiers.specs.Tiers.{AreTiersOf, Tiers, no_run, run_by}
 use Rattle.mgn_tiers.proofs.tiers.TierStages.charge.Goals as goal

@@ -1,2 +1,0 @@
--- The running parts of one list of nets.
-pub mod Parts

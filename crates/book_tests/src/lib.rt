@@ -1,0 +1,17 @@
+//! Tests of accounts, rows, the book, new sets and scripts over worked sets, which they read from their texts.
+#![tactic(auto)]
+
+#[cfg(test)]
+mod account;
+#[cfg(test)]
+mod change;
+#[cfg(test)]
+mod day;
+#[cfg(test)]
+mod holds;
+#[cfg(test)]
+mod row;
+#[cfg(test)]
+mod script;
+#[cfg(test)]
+mod switch;

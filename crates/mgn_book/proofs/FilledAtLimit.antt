@@ -1,0 +1,101 @@
+-- What a FILL at the limit of its hold leaves as it was.
+use Rattle.std.proofs.Common.{◌≡◌, ℕ, ◌<◌, List, [], length, refl, sym, ap, ◌∙◌, arith, Bool, true, false}
+use Rattle.std.specs.Prelude.{ℤ, nat_eq, not, Some, Result, Ok, Err}
+use Rattle.std.specs.Str.{bytes_eq}
+use Rattle.std.proofs.lemmas.Int.{ints}
+use Rattle.std.proofs.lemmas.List.{length-map}
+use Rattle.std.proofs.lemmas.List.Quantifiers.{position-Some}
+use Rattle.mgn_params.specs.Tables.{Tables}
+use Rattle.mgn_holds.specs.declared.held.Held.{Held}
+use Rattle.mgn_holds.specs.Holds.{is_buy, hold_at, place_of_order, covers}
+use Rattle.mgn_machine.specs.declared.reply.Refusal.{Refusal}
+use Rattle.mgn_machine.specs.declared.reply.Refusal.TheVariants.{NoOrder, NoAccount}
+use Rattle.mgn_machine.specs.State.{State, AccountState, account_at, put}
+use Rattle.mgn_machine.specs.Portfolios.{Portfolio}
+use Rattle.mgn_machine.specs.Refusals.{◌>>=◌, refuse_if, found, account_names, place_of}
+use Rattle.mgn_machine.specs.Room.{requirement_of, room_of, worth_of}
+use Rattle.mgn_machine.specs.Holding.{fill_places, fill_of}
+use Rattle.mgn_unit.specs.Laws.{counts}
+use Rattle.mgn_unit.specs.Rows.{portfolio_of, portfolio_room}
+use Rattle.mgn_unit.specs.declared.row.PortfolioRow.{PortfolioRow}
+use Rattle.mgn_unit.proofs.AtLimit.{fill_at_limit-keeps}
+use Rattle.mgn_book.specs.FilledAtLimit.{FillsAtLimit}
+use Rattle.mgn_book.proofs.Kept.{found-Some}
+
+-- Chains of refusals that came to an end.
+
+-- what the first of two gave
+first_done : {A B : Type 0} (r : Result A Refusal) (f : A → Result B Refusal) (y : B) → r >>= f ≡ Ok y → (x : A) × ((r ≡ Ok x) × (f x ≡ Ok y))
+first_done (Ok x) f y e = (x, (refl, e))
+first_done (Err why) f y e = cc
+
+-- what comes after a first that is known
+then_done : {A B : Type 0} (r : Result A Refusal) (f : A → Result B Refusal) (x : A) (y : B) → r ≡ Ok x → r >>= f ≡ Ok y → f x ≡ Ok y
+then_done {A = A} r f x y is e = sym (ap (λ (z : Result A Refusal). z >>= f) is) ∙ e
+
+-- a test that refused nothing
+test_passed : {B : Type 0} (test : Bool) (why : Refusal) (f : Unit {0} → Result B Refusal) (y : B) → refuse_if test why >>= f ≡ Ok y → (test ≡ false) × (f tt ≡ Ok y)
+unfolding refuse_if
+test_passed true why f y e = cc
+test_passed false why f y e = (refl, e)
+
+-- what was done is one thing
+same_done : {A : Type 0} (r : Result A Refusal) (x y : A) → r ≡ Ok x → r ≡ Ok y → x ≡ y
+same_done (Ok z) x y e f = cc
+same_done (Err why) x y e f = cc
+
+not_false : (b : Bool) → not b ≡ false → b ≡ true
+not_false true e = refl
+not_false false e = cc
+
+-- where the fill takes place, and that the hold covers it
+fill_places-done : (set' : Tables) (s : State) (account : List ℕ) (order lot : ℕ) (quantity : ℤ) (premium k j : ℕ) (at : ℕ × ℕ) → place_of s account ≡ Ok k → place_of_order (account_at s.accounts k).holds order ≡ Some j → fill_places set' s account order lot quantity premium ≡ Ok at → (covers (hold_at (account_at s.accounts k).holds j) quantity ≡ true) × ((k, j) ≡ at)
+unfolding fill_places
+fill_places-done set' s account order lot quantity premium k j at place hold done =
+    let not_closed = test_passed _ _ _ at done in
+    let fresh = test_passed _ _ _ at (then_done _ _ k at place not_closed.1) in
+    let met = test_passed _ _ _ at (then_done _ _ j at (ap (λ o. found o NoOrder) hold) fresh.1) in
+    let fits = test_passed _ _ _ at met.1 in
+    let covered = test_passed _ _ _ at fits.1 in
+    let few = test_passed _ _ _ at covered.1 in
+    (not_false _ covered.0, same_done _ (k, j) at refl few.1)
+
+-- a quantity that a hold covers is on its side
+covered-side : (x : Held) (q : ℤ) → covers x q ≡ true → is_buy q ≡ is_buy x.quantity
+covered-side x q = by (is_buy x.quantity) refl
+  where
+    by : (b : Bool) → is_buy x.quantity ≡ b → covers x q ≡ true → is_buy q ≡ is_buy x.quantity
+    by true e c = grind (arith, ints)
+    by false e c = grind (arith, ints)
+
+place-inside : (s : State) (account : List ℕ) (k : ℕ) → place_of s account ≡ Ok k → k < length s.accounts
+unfolding place_of
+place-inside s account k place =
+    omega (arith, (position-Some (bytes_eq account) (account_names s.accounts) k [] (found-Some _ NoAccount k place)).0, length-map s.accounts (λ (a : AccountState). a.name))
+
+-- each portfolio that counts the hold stays as it was
+pub fill_done-keeps : (set' : Tables) (old new : State) (p : Portfolio) (u : ℕ) → FillsAtLimit set' old new p → portfolio_of set' new.accounts u p ≡ portfolio_of set' old.accounts u p
+fill_done-keeps set' old new p u fill =
+    let a = account_at old.accounts fill.place in
+    let x = hold_at a.holds fill.hold in
+    let ends = first_done (fill_places set' old fill.account fill.order fill.lot fill.quantity x.limit) _ new fill.done in
+    let told = fill_places-done set' old fill.account fill.order fill.lot fill.quantity x.limit fill.place fill.hold ends.0 fill.account_stands fill.hold_stands ends.1.0 in
+    let now : put old fill.place (fill_of a fill.hold fill.lot fill.quantity x.limit) ≡ new =
+    ap (λ (at : ℕ × ℕ). put old at.0 (fill_of (account_at old.accounts at.0) at.1 fill.lot fill.quantity x.limit)) told.1 ∙ same_done _ _ new refl ends.1.1
+    in
+    sym (ap (λ (s : State). portfolio_of set' s.accounts u p) now)
+    ∙ fill_at_limit-keeps set' old.accounts fill.place fill.hold fill.lot fill.quantity p u (place-inside old fill.account fill.place fill.account_stands)
+    (position-Some (λ (y : Held). nat_eq y.order fill.order) a.holds fill.hold x fill.hold_stands).0 told.0
+    (ap (counts p) (covered-side x fill.quantity told.0) ∙ fill.counted)
+
+pub requirement-kept : (set' : Tables) (old new : State) (p : Portfolio) (u : ℕ) → FillsAtLimit set' old new p → requirement_of set' new.accounts u p ≡ requirement_of set' old.accounts u p
+unfolding portfolio_of requirement_of
+requirement-kept set' old new p u fill = ap (λ (side : PortfolioRow). side.requirement) (fill_done-keeps set' old new p u fill)
+
+pub worth-kept : (set' : Tables) (old new : State) (p : Portfolio) (u : ℕ) → FillsAtLimit set' old new p → worth_of set' new.accounts u p ≡ worth_of set' old.accounts u p
+unfolding portfolio_of worth_of
+worth-kept set' old new p u fill = ap (λ (side : PortfolioRow). side.worth) (fill_done-keeps set' old new p u fill)
+
+pub room-kept : (set' : Tables) (old new : State) (p : Portfolio) (u : ℕ) → FillsAtLimit set' old new p → room_of set' new.accounts u p ≡ room_of set' old.accounts u p
+unfolding portfolio_of worth_of requirement_of
+room-kept set' old new p u fill = ap portfolio_room (fill_done-keeps set' old new p u fill)

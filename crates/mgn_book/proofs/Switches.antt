@@ -1,0 +1,133 @@
+-- Rows and refusals where another set comes into force.
+use Rattle.std.proofs.Common.{All, IfOk, IfSome, OnOk, Result, Ok, Err, length-append, ◌≡◌, ◌+◌, ◌-◌, ◌<◌, ◌≤◌, ◌∙◌, ℕ, zero, suc, Bool, true, false, List, [], ◌∷◌, ◌++◌, length, get_or, sym, ap, arith, refl, subst, filter, cond, ⊎_elim}
+use Rattle.std.specs.Prelude.{◌&&◌, ℤ}
+use Rattle.std.specs.List.{list_all}
+use Rattle.std.proofs.lemmas.List.Sums.{length-filter}
+use Rattle.std.proofs.lemmas.Bool.{cases_lt}
+use Rattle.std.proofs.lemmas.List.{get_or_append_left, get_or-append_right}
+use Rattle.mgn_coll.specs.Posted.{is_priced_by}
+use Rattle.mgn_params.specs.Limits.{IsWithinLimits}
+use Rattle.mgn_params.specs.Shelves.{set_at}
+use Rattle.mgn_params.specs.Tables.{Tables, no_tables}
+use Rattle.mgn_machine.specs.declared.origin.Origin.{Origin}
+use Rattle.mgn_machine.specs.declared.reply.Refusal.{Refusal}
+use Rattle.mgn_machine.specs.declared.reply.Reply.{Reply}
+use Rattle.mgn_machine.specs.declared.reply.Reply.TheVariants.{NewSet, Refused as Not}
+use Rattle.mgn_machine.specs.declared.request.Request.TheVariants.{Switch}
+use Rattle.mgn_machine.specs.NewSet.{covers, on_call, set_fits}
+use Rattle.mgn_machine.specs.Step.{switched}
+use Rattle.mgn_machine.specs.State.{AccountState}
+use Rattle.mgn_unit.specs.declared.row.Row.{Row}
+use Rattle.mgn_unit.specs.NewSets.{AreWorths, is_covered, row_on_call, row_under, unit_gain}
+use Rattle.mgn_unit.specs.Rows.{IsRow, row_of, row_with_worth}
+use Rattle.mgn_unit.proofs.Carried.{on_call-by_rows, row-under, worths-under}
+use Rattle.mgn_unit.proofs.Covered.{AreRowsOf, covers-by_rows, covers-known}
+use Rattle.mgn_book.specs.BookStates.{BookState, IsKept, IsUnitRow, book_state}
+use Rattle.mgn_book.specs.Switches.{IsSwitched}
+use Rattle.mgn_book.specs.declared.fault.Fault.{Fault}
+
+-- the rows that are kept are those of the accounts' units
+are-rows : (set' : Tables) (f : BookState) → IsKept set' f → AreRowsOf set' f.state.accounts f.rows
+are-rows set' f kept = record {
+  limits = kept.accounts;
+  known = kept.known;
+  within = kept.within;
+  are = λ u d inside. (kept.rows u d inside).is;
+}
+
+pub covered-by_parts : (old new : Tables) (f : BookState) (contracts classes : Bool) → IsKept old f → contracts ≡ list_all (λ (row : Row). is_covered old new row.sizes) f.rows
+    → classes ≡ list_all (λ (a : AccountState). is_priced_by new.classes a.collateral) f.state.accounts → (contracts && classes) ≡ covers new f.state.accounts
+covered-by_parts old new f contracts classes kept has priced =
+    ap (λ (b : Bool). b && classes) has
+    ∙ ap (λ (b : Bool). list_all (λ (row : Row). is_covered old new row.sizes) f.rows && b) priced
+    ∙ sym (covers-by_rows old new f.state.accounts f.rows (are-rows old f kept))
+
+-- what a unit's row may be worth under the new set
+pub worths-kept : (old new : Tables) (f : BookState) (u : ℕ) (gain : ℤ) (row : Row) → IsKept old f → IsWithinLimits new → u < length f.rows → row ≡ get_or f.rows u row → gain ≡ unit_gain old new f.state.accounts u → AreWorths (row_with_worth gain row)
+worths-kept old new f u gain row kept limits inside is gained =
+    worths-under old new f.state.accounts u gain row limits kept.accounts kept.few_accounts (is ∙ (kept.rows u row inside).is) gained
+
+-- the row of a unit under the new set
+pub row-kept : (old new : Tables) (f : BookState) (u : ℕ) (gain : ℤ) (row now : Row) → IsKept old f → u < length f.rows → row ≡ get_or f.rows u row → gain ≡ unit_gain old new f.state.accounts u
+    → now ≡ row_under old new gain row → IsRow new now → IsUnitRow new f.state.accounts u now
+row-kept old new f u gain row now kept inside is gained under limits = record {
+  is = under ∙ row-under old new f.state.accounts u gain row kept.known (is ∙ (kept.rows u row inside).is) gained;
+  limits = limits;
+}
+
+-- rows with one more
+pub rows-pushed : (set' : Tables) (accounts : List AccountState) (rows : List Row) (row : Row) (n : ℕ) → length rows ≡ n → ((u : ℕ) → u < n → (d : Row) → IsUnitRow set' accounts u (get_or rows u d)) → IsUnitRow set' accounts n row
+    → (u : ℕ) → u < n + 1 → (d : Row) → IsUnitRow set' accounts u (get_or (rows ++ row ∷ []) u d)
+rows-pushed set' accounts rows row n long so_far last u inside d = ⊎_elim before after (cases_lt u n)
+  where
+    before : u < n → IsUnitRow set' accounts u (get_or (rows ++ row ∷ []) u d)
+    before less = subst (λ (r : Row). IsUnitRow set' accounts u r) (sym (get_or_append_left rows (row ∷ []) d u (omega (arith, less, long)))) (so_far u less d)
+
+    after : n ≤ u → IsUnitRow set' accounts u (get_or (rows ++ row ∷ []) u d)
+    after more =
+        let same : n ≡ u = omega (arith, more, inside) in
+        let none : u - n ≡ 0 = omega (arith, same) in
+        subst (λ (r : Row). IsUnitRow set' accounts u r) (sym (get_or-append_right rows (row ∷ []) n u d long more ∙ ap (λ (k : ℕ). get_or (row ∷ []) k d) none)) (subst (λ (k : ℕ). IsUnitRow set' accounts k row) same last)
+
+-- how many units are on call
+pub on_call-counted : (set' : Tables) (accounts : List AccountState) (rows : List Row) → ((u : ℕ) (d : Row) → u < length rows → IsUnitRow set' accounts u (get_or rows u d)) → length (filter row_on_call rows) ≡ on_call set' accounts (length rows)
+on_call-counted set' accounts rows are = length-filter row_on_call rows ∙ sym (on_call-by_rows set' accounts rows (λ u d inside. (are u d inside).is))
+
+-- One switch.
+
+-- the set of the version after those that there are
+pub last-set : (sets : List Tables) (t : Tables) (version : ℕ) → length sets ≡ version → set_at (sets ++ t ∷ []) version ≡ t
+last-set sets t version long = get_or-append_right sets (t ∷ []) version version (no_tables []) long (omega arith) ∙ ap (λ (k : ℕ). get_or (t ∷ []) k (no_tables [])) (none version)
+  where
+    none : (n : ℕ) → n - n ≡ 0
+    none n = omega arith
+
+-- the book under a set that came into force
+pub in-force-kept : (old t : Tables) (f : BookState) (rows : List Row) (version : ℕ) → IsKept old f → covers t f.state.accounts ≡ true → length rows ≡ length f.rows
+    → ((u : ℕ) (d : Row) → u < length rows → IsUnitRow t f.state.accounts u (get_or rows u d)) → IsKept t (book_state f.state.origins f.state.accounts rows f.state.closed version)
+in-force-kept old t f rows version kept covered long are = record {
+  units = refl;
+  few_units = omega (arith, long, kept.few_units);
+  few_accounts = kept.few_accounts;
+  accounts = kept.accounts;
+  known = covers-known t f.state.accounts covered;
+  within = subst (λ (n : ℕ). All (λ (a : AccountState). a.unit < n) f.state.accounts) (sym long) kept.within;
+  homes = kept.homes;
+  netted = subst (λ (n : ℕ). All (λ (o : Origin). IfSome o.unit (λ u. u < n)) f.state.origins) (sym long) kept.netted;
+  rows = are;
+}
+
+pub switched-in_force : (sets : List Tables) (t : Tables) (f : BookState) (rows : List Row) → length sets ≡ f.state.version + 1 → IsKept (set_at sets f.state.version) f → set_fits t f.state ≡ Ok tt → covers t f.state.accounts ≡ true
+    → length rows ≡ length f.rows → ((u : ℕ) (d : Row) → u < length rows → IsUnitRow t f.state.accounts u (get_or rows u d))
+    → IsSwitched sets (sets ++ t ∷ []) f (book_state f.state.origins f.state.accounts rows f.state.closed (f.state.version + 1)) t (NewSet record { version = f.state.version + 1; on_call = length (filter row_on_call rows) })
+switched-in_force sets t f rows shown kept fits covered long are =
+    let last : set_at (sets ++ t ∷ []) (f.state.version + 1) ≡ t = last-set sets t (f.state.version + 1) shown in
+    let units : length rows ≡ f.state.units = long ∙ sym kept.units in
+    let calls : length (filter row_on_call rows) ≡ on_call t f.state.accounts f.state.units = on_call-counted t f.state.accounts rows are ∙ ap (on_call t f.state.accounts) units in
+    record {
+      stepped = told units calls ∙ sym (ap (λ (r : Result (Unit {0}) Refusal). switched f.state (on_call t f.state.accounts f.state.units) r) fits);
+      put = refl;
+      asked = ap (λ (x : Tables). Switch x) last;
+      shown = omega (arith, shown, length-append sets (t ∷ []));
+      kept = subst (λ (x : Tables). IsKept x (book_state f.state.origins f.state.accounts rows f.state.closed (f.state.version + 1))) (sym last) (in-force-kept (set_at sets f.state.version) t f rows (f.state.version + 1) kept covered long are);
+    }
+  where
+    told : {m n : ℕ} → length rows ≡ f.state.units → m ≡ n → ((book_state f.state.origins f.state.accounts rows f.state.closed (f.state.version + 1)).state, NewSet record { version = f.state.version + 1; on_call = m }) ≡ switched f.state n (Ok tt)
+    told units same = λ i. (record { origins = f.state.origins; accounts = f.state.accounts; units = units i; closed = f.state.closed; version = f.state.version + 1 }, NewSet record { version = f.state.version + 1; on_call = same i })
+
+pub switched-refused : (sets : List Tables) (t : Tables) (f : BookState) (why : Refusal) → length sets ≡ f.state.version + 1 → IsKept (set_at sets f.state.version) f → set_fits t f.state ≡ Err why → IsSwitched sets sets f f t (Not why)
+switched-refused sets t f why shown kept fits = record {
+  stepped = sym (ap (λ (r : Result (Unit {0}) Refusal). switched f.state (on_call t f.state.accounts f.state.units) r) fits);
+  put = refl;
+  asked = refl;
+  shown = shown;
+  kept = kept;
+}
+
+-- where the set was put and the rows were taken over
+pub switched-entered : (sets now : List Tables) (t : Tables) (f new : BookState) (rows : List Row) (result : Result Reply Fault) → length sets ≡ f.state.version + 1 → IsKept (set_at sets f.state.version) f → set_fits t f.state ≡ Ok tt
+    → covers t f.state.accounts ≡ true → length rows ≡ length f.rows → ((u : ℕ) (d : Row) → u < length rows → IsUnitRow t f.state.accounts u (get_or rows u d)) → OnOk result (now ≡ sets ++ t ∷ [])
+    → OnOk result (new ≡ book_state f.state.origins f.state.accounts rows f.state.closed (f.state.version + 1)) → IfOk result (λ reply. reply ≡ NewSet record { version = f.state.version + 1; on_call = length (filter row_on_call rows) })
+    → IfOk result (λ reply. IsSwitched sets now f new t reply)
+switched-entered sets now t f new rows (Ok reply) shown kept fits covered long are put made told = rw (put, made, told) (switched-in_force sets t f rows shown kept fits covered long are)
+switched-entered sets now t f new rows (Err fault) shown kept fits covered long are put made told = tt

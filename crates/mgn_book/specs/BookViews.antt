@@ -1,0 +1,68 @@
+-- The state of the book with the history that made it. The sets are those of a shelf, by version.
+use Rattle.std.specs.Prelude.{ℕ, ◌≡◌, ◌+◌, ◌<◌, ◌≤◌, false, List, [], ◌∷◌, ◌++◌, length, slice_index_or}
+use Rattle.mgn_params.specs.Shelves.{set_at}
+use Rattle.mgn_params.specs.Tables.{Tables}
+use Rattle.mgn_machine.specs.declared.entry.Entry.{Entry}
+use Rattle.mgn_machine.specs.declared.reply.Reply.TheVariants.{Done as Settled, Figures, NewSet, Refused}
+use Rattle.mgn_machine.specs.declared.reply.Reply.{Reply}
+use Rattle.mgn_machine.specs.declared.request.Request.{Request}
+use Rattle.mgn_machine.specs.declared.request.Request.TheVariants.{Do, Switch}
+use Rattle.mgn_machine.specs.Step.{step}
+use Rattle.mgn_machine.specs.History.{calls, entry, recorded, replay, Legal}
+use Rattle.mgn_book.specs.BookStates.{BookState, book_state, IsKept}
+use Rattle.mgn_book.specs.declared.book.Outcome.{Outcome}
+use Rattle.mgn_book.specs.declared.book.Outcome.TheVariants.{Done, Full, Memory}
+
+-- what a book is seen as
+pub record BookView : Type 0 where
+  pub book : BookState
+  pub history : List Entry
+
+-- before the first command
+abbrev pub opening : BookView
+opening = record { book = book_state [] [] [] false 0; history = [] }
+
+-- the history is legal and has at most 1,000,000 entries, the state is its replay, the version in force is that of the
+-- last set, and the rows are those of the state under that set
+pub record Stands (sets : List Tables) (d : BookView) : Type 0 where
+  pub legal : Legal sets d.history
+  pub state : d.book.state ≡ replay sets d.history
+  pub shown : length sets ≡ d.book.state.version + 1
+  pub kept : IsKept (set_at sets d.book.state.version) d.book
+  pub few : length d.history ≤ 1000000
+
+-- what a commit does under the sets as they are then: one step of the machine and its entry, or nothing
+abbrev pub Committed : List Tables → BookView → ℕ → ℕ → Request → Outcome → BookView → Type 0
+Committed sets old session number request (Done place reply) new =
+    (place ≡ length new.history)
+    × ((new.book.state, reply) ≡ step sets old.book.state request)
+    × (new.history ≡ old.history ++ entry session number (recorded request reply) reply ∷ [])
+Committed sets old session number request Full new = (new ≡ old) × (length old.history ≡ 1000000)
+Committed sets old session number request Memory new = (new ≡ old) × (length old.history < 1000000)
+
+-- the sets after a request that was answered: one that came into force is the last of them
+abbrev pub sets_after : List Tables → Request → Reply → List Tables
+sets_after sets (Do command) reply = sets
+sets_after sets (Switch set) (NewSet told) = sets ++ set ∷ []
+sets_after sets (Switch set) (Refused why) = sets
+sets_after sets (Switch set) Settled = sets
+sets_after sets (Switch set) (Figures figures) = sets
+
+-- what a commit does to the sets of the shelf
+abbrev pub Shelves : List Tables → Request → Outcome → List Tables → Type 0
+Shelves old request (Done place reply) new = new ≡ sets_after old request reply
+Shelves old request Full new = new ≡ old
+Shelves old request Memory new = new ≡ old
+
+-- Inside the book.
+
+-- the counts are those of the sessions' entries
+abbrev pub AreCounts : List ℕ → List Entry → Type 0
+AreCounts counts history = (s : ℕ) → s < 16 → slice_index_or counts s 0 ≡ calls (s + 1) history
+
+-- there are sets under which the day stands, and the counts are those of its history
+pub record IsBook (d : BookView) (counts : List ℕ) : Type 0 where
+  pub sets : List Tables
+  pub stands : Stands sets d
+  pub long : length counts ≡ 16
+  pub counts_are : AreCounts counts d.history

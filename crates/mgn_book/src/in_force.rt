@@ -1,0 +1,112 @@
+ghost use Rattle.std.specs.Prelude.{◌≡◌, ◌+◌, ◌<◌, ◌≤◌, ◌++◌, ◌∷◌, [], ℕ, filter, length, slice_index_or, IfErr, IfOk, OnErr, OnOk, Ok, true};
+ghost use Rattle.mgn_params.specs.Shelves.{set_at};
+ghost use Rattle.mgn_machine.specs.declared.request.Recorded.TheVariants.{InForce, SetRefused};
+ghost use Rattle.mgn_machine.specs.declared.request.Request.TheVariants.{Switch};
+ghost use Rattle.mgn_machine.specs.History.{entry, recorded};
+ghost use Rattle.mgn_unit.specs.NewSets.{row_on_call};
+ghost use Rattle.mgn_book.specs.BookStates.{IsKept, book_state};
+ghost use Rattle.mgn_book.specs.Switches.{IsSwitched};
+
+use crate::fault::Fault;
+use crate::history::History;
+use crate::register::Register;
+use mgn_ids::SessionNo;
+use mgn_machine::{NewSet, Recorded, Refusal, Reply};
+use mgn_params::{ParamSet, PutFault, Shelf};
+use mgn_unit::Row;
+use std::alloc::Global;
+
+// Puts a set on the shelf, which is the last growth, and brings it into force with the rows under it.
+fn enter_set<S: Shelf>(
+    register: &mut Register,
+    history: &mut History,
+    session: SessionNo,
+    number: u64,
+    set: ParamSet,
+    rows: Vec<Row>,
+    shelf: &mut S,
+) -> Result<Reply, Fault>
+    requires reserved { history.old.reserved ≡ true }
+    requires number { number ≤ 1000000 }
+    requires shown { length (S.sets shelf.old) ≡ register.old.state.version + 1 }
+    requires few { register.old.state.version < 64 }
+    requires few_units { length rows.items ≤ 1024 }
+    ensures place { S.place shelf.new ≡ S.place shelf.old }
+    ensures reply { IfOk result (λ reply. reply ≡ Reply.NewSet record { version = register.old.state.version + 1; on_call = length (filter row_on_call rows.items) }) }
+    ensures entry { IfOk result (λ reply. history.new.entries ≡ history.old.entries ++ entry session number (InForce (register.old.state.version + 1)) reply ∷ []) }
+    ensures sets { OnOk result (S.sets shelf.new ≡ S.sets shelf.old ++ set ∷ []) }
+    ensures state { OnOk result (register.new ≡ book_state register.old.state.origins register.old.state.accounts rows.items register.old.state.closed (register.old.state.version + 1)) }
+    ensures fault { IfErr result (λ fault. fault ≡ Fault.Memory) }
+    ensures same_register { OnErr result (register.new ≡ register.old) }
+    ensures same_history { OnErr result (history.new.entries ≡ history.old.entries) }
+    ensures same_sets { OnErr result (S.sets shelf.new ≡ S.sets shelf.old) }
+{
+    let version = match shelf.put(set) {
+        Ok(version) => version,
+        Err((PutFault::Memory, _)) => return Err(Fault::Memory),
+        Err((PutFault::Sets, _)) => unreachable!(),
+    };
+    let reply = Reply::NewSet(NewSet {
+        version: version.number(),
+        on_call: register.put_in_force(rows, version),
+    });
+    match history.push_switch(session, number, Recorded::InForce(version), &reply) {
+        Ok(()) => Ok(reply),
+        Err(_) => unreachable!(),
+    }
+}
+
+// Keeps a set that may not come into force.
+fn refuse_set(
+    history: &mut History,
+    session: SessionNo,
+    number: u64,
+    set: ParamSet,
+    why: Refusal,
+) -> Result<Reply, Fault>
+    requires reserved { history.old.reserved ≡ true }
+    requires number { number ≤ 1000000 }
+    ensures reply { IfOk result (λ reply. reply ≡ Reply.Refused why) }
+    ensures entry { IfOk result (λ reply. history.new.entries ≡ history.old.entries ++ entry session number (SetRefused set) reply ∷ []) }
+    ensures fault { IfErr result (λ fault. fault ≡ Fault.Memory) }
+    ensures same_history { OnErr result (history.new.entries ≡ history.old.entries) }
+{
+    let reply = Reply::Refused(why);
+    match history.push_switch(session, number, Recorded::SetRefused(set), &reply) {
+        Ok(()) => Ok(reply),
+        Err(_) => Err(Fault::Memory),
+    }
+}
+
+/// One switch to a set: it comes into force, or is refused, and the history tells which. Where memory is refused nothing
+/// has changed.
+pub(crate) fn switch_set<S: Shelf>(
+    alloc: Global,
+    register: &mut Register,
+    history: &mut History,
+    session: SessionNo,
+    number: u64,
+    set: ParamSet,
+    shelf: &mut S,
+) -> Result<Reply, Fault>
+    requires reserved { history.old.reserved ≡ true }
+    requires number { number ≤ 1000000 }
+    requires shown { length (S.sets shelf.old) ≡ register.old.state.version + 1 }
+    requires kept { IsKept (set_at (S.sets shelf.old) register.old.state.version) register.old }
+    ensures place { S.place shelf.new ≡ S.place shelf.old }
+    ensures switched { IfOk result (λ reply. IsSwitched (S.sets shelf.old) (S.sets shelf.new) register.old register.new set reply) }
+    ensures entry { IfOk result (λ reply. history.new.entries ≡ history.old.entries ++ entry session number (recorded (Switch set) reply) reply ∷ []) }
+    ensures fault { IfErr result (λ fault. fault ≡ Fault.Memory) }
+    ensures same_register { OnErr result (register.new ≡ register.old) }
+    ensures same_history { OnErr result (history.new.entries ≡ history.old.entries) }
+    ensures same_sets { OnErr result (S.sets shelf.new ≡ S.sets shelf.old) }
+{
+    let Some(old) = shelf.get(register.version()) else {
+        unreachable!();
+    };
+    match register.rows_under(alloc, old, &set) {
+        Ok(rows) => enter_set(register, history, session, number, set, rows, shelf),
+        Err(Fault::Refused(why)) => refuse_set(history, session, number, set, why),
+        Err(Fault::Memory) => Err(Fault::Memory),
+    }
+}

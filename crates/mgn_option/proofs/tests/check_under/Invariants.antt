@@ -1,5 +1,0 @@
-use Rattle.mgn_option.specs.Sums.{AreSums}
-use Rattle.mgn_option.proofs.tests.check_under.Given as goal
-
-abbrev pub invariant-loop-change : goal.invariant-loop-change
-invariant-loop-change g l = AreSums l.set l.sums

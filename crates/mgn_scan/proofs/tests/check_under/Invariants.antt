@@ -1,5 +1,0 @@
-use Rattle.mgn_scan.specs.Totals.{AreTotals}
-use Rattle.mgn_scan.proofs.tests.check_under.Given as goal
-
-abbrev pub invariant-loop-change : goal.invariant-loop-change
-invariant-loop-change g l = AreTotals l.set l.totals

@@ -1,0 +1,3 @@
+-- What the contracts of scripts cite.
+pub mod Plain
+pub mod Script

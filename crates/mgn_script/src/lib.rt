@@ -1,0 +1,8 @@
+//! Scripts: a book of one session that answers lines of commands.
+#![tactic(auto)]
+
+pub mod plain;
+pub mod script;
+
+pub use plain::Plain;
+pub use script::run_script;

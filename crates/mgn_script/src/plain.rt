@@ -1,0 +1,101 @@
+ghost use Rattle.std.specs.Prelude.{◌≡◌, ◌+◌, ◌∷◌, [], length, IfOk};
+ghost use Rattle.mgn_machine.specs.History.{Legal, calls, items_of};
+ghost use Rattle.mgn_book.specs.BookViews.{Committed, Shelves, opening};
+ghost use Rattle.mgn_script.specs.Plain.{answer_of};
+
+use mgn_book::{Book, Outcome};
+use mgn_ids::SessionNo;
+use mgn_machine::{Answer, Refusal, Request};
+use mgn_params::{ParamSet, SetList};
+use mgn_session::Exec;
+use std::alloc::{AllocError, Global};
+use std::marker::Model;
+
+/// A book over a shelf of one thread, all of whose commands come from session 1. Contracts see the sets of the shelf, by
+/// version, and the book's day.
+#[derive(Drop)]
+pub struct Plain {
+    alloc: Global,
+    shelf: SetList,
+    book: Book,
+}
+
+impl Model for Plain {
+    ghost use Rattle.mgn_script.specs.Plain.{IsScriptView, ScriptView};
+
+    ghost Value = { ScriptView };
+
+    ghost view = { λ p. record { sets = p.shelf; day = p.book } };
+
+    ghost invariant = { λ p. IsScriptView p.shelf p.book };
+}
+
+impl Plain {
+    /// A book before its first command, under its first set.
+    pub fn new(alloc: Global, set: ParamSet) -> Result<Plain, AllocError>
+        ensures sets { IfOk result (λ plain. plain.sets ≡ set ∷ []) }
+        ensures day { IfOk result (λ plain. plain.day ≡ opening) }
+    {
+        let shelf = SetList::new(alloc, set)?;
+        let book = Book::new(alloc, &shelf);
+        Ok(Plain { alloc, shelf, book })
+    }
+
+    /// How many commands the history has. It is legal: each has the machine's reply after those before it.
+    pub fn len(&self) -> usize
+        ensures count { result ≡ length self.now.day.history }
+        ensures all { calls 1 self.now.day.history ≡ result }
+        ensures legal { Legal self.now.sets self.now.day.history }
+    {
+        self.book.len()
+    }
+}
+
+fn answer_of(outcome: Outcome) -> Answer
+    ensures { result ≡ answer_of outcome }
+{
+    match outcome {
+        Outcome::Done(place, reply) => Answer {
+            place: Some(place),
+            reply,
+        },
+        Outcome::Full => Answer::refused(Refusal::Full),
+        Outcome::Memory => Answer::refused(Refusal::Memory),
+    }
+}
+
+impl Plain {
+    // One commit in session 1, whose number is the next one.
+    fn commit(&mut self, number: u64, request: Request) -> Outcome
+        requires { number ≡ calls 1 self.old.day.history + 1 }
+        ensures committed { Committed self.new.sets self.old.day 1 number request result self.new.day }
+        ensures sets { Shelves self.old.sets request result self.new.sets }
+    {
+        let session = SessionNo::new(1);
+        match request {
+            Request::Do(command) => {
+                self.book
+                    .commit_plain(self.alloc, session, number, &command, &self.shelf)
+            }
+            Request::Switch(set) => {
+                self.book
+                    .commit_switch(self.alloc, session, number, set, &mut self.shelf)
+            }
+        }
+    }
+}
+
+impl Exec for Plain {
+    ghost use Rattle.mgn_script.specs.Plain.{Commits};
+
+    ghost entries = { λ plain. items_of 1 plain.day.history };
+
+    ghost is_full = { λ plain. length plain.day.history ≡ 1000000 };
+
+    ghost does = { Commits };
+
+    fn exec(&mut self, request: Request) -> Answer {
+        let number = self.book.calls(SessionNo::new(1)) + 1;
+        answer_of(self.commit(number, request))
+    }
+}

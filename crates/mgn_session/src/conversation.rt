@@ -1,0 +1,170 @@
+ghost use Rattle.std.specs.Prelude.{◌≡◌, ◌<◌, ◌≤◌, ◌++◌, [], ℕ, drop, length, take, IfOk, IfErr, OnOk, OnErr, false, ◌==◌};
+ghost use Rattle.std.specs.Io.{ReadsAtMost};
+ghost use Rattle.std.specs.Io.KnownBytes.{Appends};
+ghost use Rattle.mgn_wire.specs.Text.{text_of};
+ghost use Rattle.mgn_session.specs.Device.{device_of, failed_of, has_ended, is_dirty, one_more};
+ghost use Rattle.mgn_session.specs.Conversation.{HasFailedToRead, HasFailedToSend, HasRead, HasReplied, HasSent, IsQuiet, line_ends, seen};
+
+use crate::counted::Counted;
+use crate::fault::SessionFault;
+use mgn_machine::Answer;
+use mgn_wire::{Memory, reply_text};
+use std::alloc::Global;
+use std::io::{Read, Write};
+use std::marker::Model;
+
+// No reply is longer: five numbers of at most 38 bytes and a place of at most 20, with what stands between them.
+const LONGEST_REPLY: usize = 224;
+
+/// A reader of lines and the writer of their replies. It is asked for more only once every line read has its reply, and
+/// every reply is written and flushed: so a client that waits for a reply before it sends its next line gets it.
+#[derive(Drop)]
+pub struct Conversation<R: Read, W: Write> {
+    reader: Counted<R>,
+    writer: Counted<W>,
+    // The replies that wait to be written.
+    waiting: Vec<u8>,
+    // How many lines were read that have no reply.
+    owed: usize,
+}
+
+impl<R: Read, W: Write> Model for Conversation<R, W> {
+    ghost use Rattle.mgn_session.specs.Conversation.{ConversationView, seen};
+
+    ghost Value = { ConversationView };
+
+    ghost view = { λ talk. seen R.remaining W.contents talk.reader talk.writer talk.waiting.items talk.owed };
+}
+
+fn count_ends(text: &[u8]) -> usize
+    ensures { result ≡ line_ends text.now }
+{
+    text.iter().filter(|byte| **byte == b'\n').count()
+}
+
+// Writes the text, and gives how much of it was taken.
+fn put<W: Write>(writer: &mut Counted<W>, text: &[u8]) -> (usize, Result<(), SessionFault>)
+    ensures within { result.0 ≤ length text.now }
+    ensures wrote { Appends (W.contents (device_of writer.old)) (W.contents (device_of writer.new))
+        (take result.0 text.now) }
+    ensures whole { OnOk result.1 (result.0 ≡ length text.now) }
+    ensures fault { IfErr result.1 (λ fault. fault ≡ SessionFault.Write) }
+    ensures ok { OnOk result.1 (failed_of writer.new ≡ failed_of writer.old) }
+    ensures err { OnErr result.1 (failed_of writer.new ≡ one_more (failed_of writer.old)) }
+    ensures clean { OnOk result.1 (is_dirty writer.new ≡ false) }
+{
+    let mut at = 0;
+    while at < text.len() {
+        match writer.write(&text[at..]) {
+            Ok(0) => return (at, Err(SessionFault::Write)),
+            Ok(taken) => at += taken,
+            Err(_) => return (at, Err(SessionFault::Write)),
+        }
+    }
+    if writer.flush().is_err() {
+        return (at, Err(SessionFault::Write));
+    }
+    (at, Ok(()))
+}
+
+fn remove_front(bytes: &mut Vec<u8>, count: usize)
+    requires { count ≤ length bytes.old.items }
+    ensures { bytes.new.items ≡ drop count bytes.old.items }
+{
+    bytes.drain(..count);
+}
+
+impl<R: Read, W: Write> Conversation<R, W> {
+    /// A conversation of which nothing was read yet.
+    pub fn new(alloc: Global, reader: Counted<R>, writer: Counted<W>) -> Conversation<R, W>
+        ensures { result ≡ seen R.remaining W.contents reader writer [] 0 }
+    {
+        Conversation {
+            reader,
+            writer,
+            waiting: Vec::new(alloc),
+            owed: 0,
+        }
+    }
+
+    /// How many lines were read that have no reply.
+    pub fn owed(&self) -> usize
+        ensures { result ≡ self.now.owed }
+    {
+        self.owed
+    }
+
+    /// How many reads failed.
+    pub fn failed_reads(&self) -> u64
+        ensures { result ≡ self.now.failed_reads }
+    {
+        self.reader.failed()
+    }
+
+    /// How many writes and flushes failed.
+    pub fn failed_writes(&self) -> u64
+        ensures { result ≡ self.now.failed_writes }
+    {
+        self.writer.failed()
+    }
+
+    /// The reader and the writer. Replies that wait are lost.
+    pub fn into_parts(self) -> (Counted<R>, Counted<W>)
+        ensures { self ≡ seen R.remaining W.contents result.0 result.1 self.waiting self.owed }
+    {
+        let Conversation {
+            reader,
+            writer,
+            waiting: _,
+            owed: _,
+        } = self;
+        (reader, writer)
+    }
+
+    /// Reads into `buf`, once every line read is answered and every reply written and flushed. Each line that ends in
+    /// the bytes read is then owed a reply. `Read` where the device fails.
+    pub fn read(&mut self, buf: &mut [u8]) -> Result<usize, SessionFault>
+        requires quiet { IsQuiet self.old }
+        ensures bound { ReadsAtMost result buf.new }
+        ensures ok { IfOk result (λ n. HasRead self.old self.new (length buf.new) (take n buf.new)) }
+        ensures err { IfErr result (λ fault. (fault ≡ SessionFault.Read) × HasFailedToRead self.old self.new) }
+    {
+        let Ok(taken) = self.reader.read(buf) else {
+            return Err(SessionFault::Read);
+        };
+        self.owed = count_ends(&buf[..taken]);
+        Ok(taken)
+    }
+
+    /// Makes room for a reply, so that a command whose reply would find no memory need not be carried out.
+    pub fn reserve(&mut self) -> Result<(), Memory>
+        ensures { self.new ≡ self.old }
+    {
+        self.waiting.reserve(LONGEST_REPLY)?;
+        Ok(())
+    }
+
+    /// Replies to a line that is owed a reply. The text waits to be sent.
+    pub fn reply(&mut self, answer: &Answer) -> Result<(), Memory>
+        requires { 0 < self.old.owed }
+        ensures ok { OnOk result (HasReplied self.old self.new (text_of answer.now)) }
+        ensures err { OnErr result (self.new ≡ self.old) }
+    {
+        reply_text(answer, &mut self.waiting)?;
+        self.owed -= 1;
+        Ok(())
+    }
+
+    /// Writes the replies that wait and flushes. `Write` where the device fails: what it did not take waits on.
+    pub fn send(&mut self) -> Result<(), SessionFault>
+        ensures ok { OnOk result (HasSent self.old self.new) }
+        ensures err { IfErr result (λ fault. (fault ≡ SessionFault.Write) × HasFailedToSend self.old self.new) }
+    {
+        let (taken, outcome) = put(&mut self.writer, self.waiting.as_slice());
+        match outcome {
+            Ok(()) => self.waiting.clear(),
+            Err(_) => remove_front(&mut self.waiting, taken),
+        }
+        outcome
+    }
+}

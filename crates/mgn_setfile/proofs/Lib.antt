@@ -1,0 +1,5 @@
+-- Lemmas on records, lines and files.
+pub mod RecordLemmas
+pub mod LineLemmas
+pub mod FileLemmas
+pub mod LegLemmas

@@ -1,0 +1,5 @@
+-- What the files of parameter sets say.
+pub mod Fields
+pub mod Records
+pub mod Lines
+pub mod File

@@ -1,0 +1,15 @@
+//! The files of parameter sets: their records, and the set or the first fault of a file.
+#![tactic(auto)]
+
+mod contracts;
+mod credits;
+mod draft;
+mod fault;
+mod fields;
+mod file;
+mod line;
+mod records;
+mod spreads;
+
+pub use fault::{Cause, SetFault};
+pub use file::read_set;

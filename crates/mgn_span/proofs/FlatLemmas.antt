@@ -1,0 +1,208 @@
+-- Nets of 0 give a requirement of 0.
+use Rattle.std.proofs.Common.{◌≡◌, ℕ, zero, suc, ◌-◌, ◌*◌, Option, Some, None, List, [], ◌∷◌, ◌==◌, length, map, replicate, set, refl, ap, arith}
+use Rattle.std.specs.Prelude.{ℤ, pos, ◌*ℤ◌, slice_index, slice_set, if◌then◌else◌, ◌&&◌, Bool, true, false, nat_lt}
+use Rattle.std.specs.Int.{int_max}
+use Rattle.std.specs.List.{AllByRecursion, range_with_len, sum_by}
+use Rattle.std.proofs.Math.IntN.{zero-*ℤ}
+use Rattle.std.proofs.Math.Nat.{zero-div, zero-mul}
+use Rattle.std.proofs.lemmas.Int.{ints, clamps}
+use Rattle.std.proofs.lemmas.List.Elements.{All-replicate, recursion_from_All}
+use Rattle.std.proofs.lemmas.List.Sums.{sum_by-cons}
+use Rattle.mgn_num.proofs.SignedLemmas.{signed_sum_by-cons}
+use Rattle.mgn_num.specs.Signed.{signed_sum_below, signed_sum_by, sum_below}
+use Rattle.mgn_params.specs.declared.tables.Contract.{Contract}
+use Rattle.mgn_params.specs.declared.tables.Month.{Month}
+use Rattle.mgn_params.specs.declared.tables.SpotCharge.{SpotCharge}
+use Rattle.mgn_span.specs.declared.stage.Stage.{Stage}
+use Rattle.mgn_span.specs.Deltas.{is_in_tier, negative_part, positive_part, long_delta, long_share, month_delta, month_share, short_delta, short_share, start_of, starts_of}
+use Rattle.mgn_span.specs.Options.{net_option_value, short_option_minimum, short_share_of, value_share}
+use Rattle.mgn_span.specs.Positions.{AreFlat, Position, positions}
+use Rattle.mgn_span.specs.Requirement.{intra_charge, requirement, risk, scan_of, spot_charge}
+use Rattle.mgn_span.specs.Scan.{active, scenario_share, scenario_total, value_at}
+use Rattle.mgn_span.specs.Spot.{outright_delta, spot_charge_of, spot_of, spread_delta}
+use Rattle.mgn_span.specs.Stages.{amount_of, charge_of, charges_of, left_after, long_leg, short_leg, stages_of, used, used_by}
+use Rattle.mgn_params.specs.Tables.{Tables, commodity_at, is_option, is_premium}
+
+-- each net is 0
+abbrev AreZero : List ℤ → Type 0
+AreZero nets = AllByRecursion (λ n. n ≡ pos 0) nets
+
+abbrev IsFlat : List Position → Type 0
+IsFlat held = AllByRecursion (λ p. p.1 ≡ pos 0) held
+
+abbrev IsZeroRow : List ℕ → Type 0
+IsZeroRow row = AllByRecursion (λ n. n ≡ 0) row
+
+flat_positions : (cs : List Contract) (ns : List ℤ) → AreZero ns → IsFlat (positions cs ns)
+flat_positions [] ns h = tt
+flat_positions (c ∷ cs) [] h = tt
+flat_positions (c ∷ cs) (n ∷ ns) h = (h.0, flat_positions cs ns h.1)
+
+-- what counts for nothing at a net of 0 sums to 0
+
+flat_sum : (f : Position → ℤ) → ((p : Position) → p.1 ≡ pos 0 → f p ≡ pos 0) → (held : List Position) → IsFlat held → signed_sum_by f held ≡ pos 0
+flat_sum f z [] h = refl
+flat_sum f z (p ∷ held) h =
+    omega (arith, ints, signed_sum_by-cons f p held, z p h.0, flat_sum f z held h.1)
+
+flat_count : (f : Position → ℕ) → ((p : Position) → p.1 ≡ pos 0 → f p ≡ 0) → (held : List Position) → IsFlat held → sum_by f held ≡ 0
+flat_count f z [] h = refl
+flat_count f z (p ∷ held) h = omega (arith, z p h.0, flat_count f z held h.1, sum_by-cons f p held)
+
+zero_below : (f : ℕ → ℕ) → ((k : ℕ) → f k ≡ 0) → (n : ℕ) → sum_below f n ≡ 0
+zero_below f z zero = refl
+zero_below f z (suc n) = omega (arith, zero_below f z n, z n)
+
+zero_signed_below : (f : ℕ → ℤ) → ((k : ℕ) → f k ≡ pos 0) → (n : ℕ) → signed_sum_below f n ≡ pos 0
+zero_signed_below f z zero = refl
+zero_signed_below f z (suc n) = omega (arith, ints, zero_signed_below f z n, z n)
+
+either : {X : Type 0} (b : Bool) (x y z : X) → x ≡ z → y ≡ z → (if b then x else y) ≡ z
+either true x y z p q = p
+either false x y z p q = q
+
+-- scenarios
+
+pub share_flat : (g s : ℕ) (p : Position) → p.1 ≡ pos 0 → scenario_share g s p ≡ pos 0
+share_flat g s p h =
+    either (p.0.commodity == g) (p.1 *ℤ value_at p.0.array s) (pos 0) (pos 0) (rw h (zero-*ℤ (value_at p.0.array s))) refl
+
+total_flat : (held : List Position) → IsFlat held → (g s : ℕ) → scenario_total g held s ≡ pos 0
+total_flat held h g s = flat_sum (scenario_share g s) (share_flat g s) held h
+
+scan_flat : (held : List Position) → IsFlat held → (g : ℕ) → scan_of held g ≡ pos 0
+scan_flat held h g = ap (int_max (pos 0)) (total_flat held h g (active (scenario_total g held)))
+
+-- deltas
+
+pub month_share_flat : (m : ℕ) (p : Position) → p.1 ≡ pos 0 → month_share m p ≡ pos 0
+month_share_flat m p h =
+    either (p.0.month == m) (p.1 *ℤ p.0.delta) (pos 0) (pos 0) (rw h (zero-*ℤ p.0.delta)) refl
+
+month_flat : (held : List Position) → IsFlat held → (m : ℕ) → month_delta held m ≡ pos 0
+month_flat held h m = flat_sum (month_share m) (month_share_flat m) held h
+
+long_flat : (ms : List Month) (held : List Position) → IsFlat held → (g tier m : ℕ) → long_share ms held g tier m ≡ 0
+long_flat ms held h g tier m =
+    either (is_in_tier ms g tier m) (positive_part (month_delta held m)) 0 0 (rw (month_flat held h m) refl) refl
+
+short_flat : (ms : List Month) (held : List Position) → IsFlat held → (g tier m : ℕ) → short_share ms held g tier m ≡ 0
+short_flat ms held h g tier m =
+    either (is_in_tier ms g tier m) (negative_part (month_delta held m)) 0 0 (rw (month_flat held h m) refl) refl
+
+start_flat : (ms : List Month) (held : List Position) → IsFlat held → (g leg : ℕ) → start_of ms held g leg ≡ 0
+start_flat ms held h g leg =
+    either (nat_lt leg 8) (long_delta ms held g leg) (short_delta ms held g (leg - 8)) 0
+    (zero_below (long_share ms held g leg) (long_flat ms held h g leg) (length ms))
+    (zero_below (short_share ms held g (leg - 8)) (short_flat ms held h g (leg - 8)) (length ms))
+
+zero_map : (f : ℕ → ℕ) → ((k : ℕ) → f k ≡ 0) → (xs : List ℕ) → IsZeroRow (map f xs)
+zero_map f z [] = tt
+zero_map f z (x ∷ xs) = (z x, zero_map f z xs)
+
+starts_flat : (ms : List Month) (held : List Position) → IsFlat held → (g : ℕ) → IsZeroRow (starts_of ms held g)
+unfolding starts_of
+starts_flat ms held h g = zero_map (start_of ms held g) (start_flat ms held h g) (range_with_len 0 16)
+
+-- stages of nothing
+
+zero_read : (row : List ℕ) → IsZeroRow row → (k : ℕ) → slice_index row k ≡ 0
+zero_read [] h k = refl
+zero_read (n ∷ row) h zero = h.0
+zero_read (n ∷ row) h (suc k) = zero_read row h.1 k
+
+zero_write : (row : List ℕ) (i x : ℕ) → x ≡ 0 → IsZeroRow row → IsZeroRow (slice_set row i x)
+zero_write [] i x e h = h
+zero_write (n ∷ row) zero x e h = (e, h.1)
+zero_write (n ∷ row) (suc i) x e h = (h.0, zero_write row i x e h.1)
+
+amount_zero : (row : List ℕ) → IsZeroRow row → (s : Stage) → amount_of row s ≡ 0
+amount_zero row h s = rw (zero_read row h s.first_leg, zero_read row h s.second_leg, zero-div s.first_ratio, zero-div s.second_ratio) refl
+
+used_zero : (amount ratio : ℕ) → amount ≡ 0 → used amount ratio ≡ 0
+used_zero amount ratio e = rw e (omega arith)
+
+left_zero : (row : List ℕ) → IsZeroRow row → (s : Stage) → IsZeroRow (left_after row s)
+left_zero row h s =
+    zero_write _ _ _ (omega (arith, zero_read row h s.second_leg)) (zero_write _ _ _ (omega (arith, zero_read row h s.first_leg)) h)
+
+charges_zero : (row : List ℕ) → IsZeroRow row → (stages : List Stage) → charges_of row stages ≡ 0
+charges_zero row h [] = refl
+charges_zero row h (s ∷ stages) =
+    let here : charge_of row s ≡ 0 = rw (amount_zero row h s) (omega arith) in
+    omega (arith, here, charges_zero (left_after row s) (left_zero row h s) stages)
+
+outright_zero : (row : List ℕ) → IsZeroRow row → (stages : List Stage) (tier : ℕ) → outright_delta row stages tier ≡ 0
+outright_zero row h stages tier = omega (arith, zero_read row h (long_leg tier), zero_read row h (short_leg tier))
+
+used_by_zero : (row : List ℕ) → IsZeroRow row → (stages : List Stage) (leg : ℕ) → used_by row stages leg ≡ 0
+used_by_zero row h [] leg = refl
+used_by_zero row h (s ∷ stages) leg =
+    let first = either (s.first_leg == leg) (used (amount_of row s) s.first_ratio) 0 0 (used_zero (amount_of row s) s.first_ratio (amount_zero row h s)) refl in
+    let second = either (s.second_leg == leg) (used (amount_of row s) s.second_ratio) 0 0 (used_zero (amount_of row s) s.second_ratio (amount_zero row h s)) refl in
+    omega (arith, first, second, used_by_zero (left_after row s) (left_zero row h s) stages leg)
+
+spot_zero : (row : List ℕ) → IsZeroRow row → (stages : List Stage) (spot : Option SpotCharge) → spot_charge_of row stages spot ≡ 0
+spot_zero row h stages None = refl
+spot_zero row h stages (Some spot) =
+    let spread : spread_delta row stages spot.tier ≡ 0 = omega (arith, used_by_zero row h stages (long_leg spot.tier), used_by_zero row h stages (short_leg spot.tier)) in
+    rw (outright_zero row h stages spot.tier, spread) (omega arith)
+
+-- the requirement
+
+pub short_share_flat : (g charge : ℕ) (p : Position) → p.1 ≡ pos 0 → short_share_of g charge p ≡ 0
+short_share_flat g charge p e =
+    either ((p.0.commodity == g) && is_option p.0.kind) (negative_part p.1 * charge) 0 0 (rw e (zero-mul charge)) refl
+
+minimum_flat : (held : List Position) → IsFlat held → (g charge : ℕ) → short_option_minimum held g charge ≡ 0
+minimum_flat held h g charge =
+    flat_count (short_share_of g charge) (short_share_flat g charge) held h
+
+pub value_share_flat : (p : Position) → p.1 ≡ pos 0 → value_share p ≡ pos 0
+value_share_flat p e =
+    either (is_premium p.0.style) (p.1 *ℤ pos p.0.option_value) (pos 0) (pos 0) (rw e (zero-*ℤ (pos p.0.option_value))) refl
+
+value_flat : (held : List Position) → IsFlat held → net_option_value held ≡ pos 0
+value_flat held h = flat_sum value_share value_share_flat held h
+
+risk_flat : (set : Tables) (held : List Position) → IsFlat held → (g : ℕ) → risk set held g ≡ pos 0
+unfolding risk intra_charge spot_charge
+risk_flat set held h g =
+    let starts = starts_flat set.months held h g in
+    let stages = stages_of set.spreads g in
+    let intra = charges_zero (starts_of set.months held g) starts stages in
+    let spot = spot_zero (starts_of set.months held g) starts stages (spot_of set.spots g) in
+    let least = minimum_flat held h g (commodity_at set.commodities g).short_option_charge in
+    rw (scan_flat held h g, intra, spot, least) (omega (arith, ints, clamps))
+
+-- a unit without positions owes nothing
+pub requirement_flat : (set : Tables) (nets : List ℤ) → AreFlat nets → requirement set nets ≡ pos 0
+unfolding requirement
+requirement_flat set nets h =
+    let held = flat_positions set.contracts nets (recursion_from_All (λ (n : ℤ). n ≡ pos 0) nets h) in
+    let risks = zero_signed_below (risk set (positions set.contracts nets)) (risk_flat set (positions set.contracts nets) held) (length set.commodities) in
+    rw (risks, value_flat (positions set.contracts nets) held) refl
+
+pub AreFlat-replicate : (n : ℕ) → AreFlat (replicate n (pos 0))
+AreFlat-replicate n = All-replicate (λ (z : ℤ). z ≡ pos 0) n (pos 0) refl
+
+pub requirement_flat_replicate : (set : Tables) (n : ℕ) → requirement set (replicate n (pos 0)) ≡ pos 0
+requirement_flat_replicate set n =
+    requirement_flat set (replicate n (pos 0)) (AreFlat-replicate n)
+
+-- and its totals, minimums and net option value are 0
+
+held_flat : (cs : List Contract) (ns : List ℤ) → AreFlat ns → IsFlat (positions cs ns)
+held_flat cs ns h =
+    flat_positions cs ns (recursion_from_All (λ (n : ℤ). n ≡ pos 0) ns h)
+
+pub scenario_total_flat : (cs : List Contract) (ns : List ℤ) (g s : ℕ) → AreFlat ns → scenario_total g (positions cs ns) s ≡ pos 0
+scenario_total_flat cs ns g s h =
+    total_flat (positions cs ns) (held_flat cs ns h) g s
+
+pub short_option_minimum_flat : (cs : List Contract) (ns : List ℤ) (g charge : ℕ) → AreFlat ns → short_option_minimum (positions cs ns) g charge ≡ 0
+short_option_minimum_flat cs ns g charge h =
+    minimum_flat (positions cs ns) (held_flat cs ns h) g charge
+
+pub net_option_value_flat : (cs : List Contract) (ns : List ℤ) → AreFlat ns → net_option_value (positions cs ns) ≡ pos 0
+net_option_value_flat cs ns h = value_flat (positions cs ns) (held_flat cs ns h)

@@ -1,0 +1,75 @@
+-- Rows of margin units under a set that comes into force during the day.
+use Rattle.std.specs.Prelude.{ℕ, ◌≤◌, ◌^◌, Bool, ◌||◌, ℤ, pos, ◌+ℤ◌, ◌-ℤ◌, int_lt, unsigned_abs, Option, None, Some, position, List, length, map}
+use Rattle.std.specs.List.{list_all, range_with_len}
+use Rattle.std.specs.Ordering.{int_eq}
+use Rattle.std.specs.Str.{bytes_eq}
+use Rattle.mgn_params.specs.declared.tables.Contract.{Contract}
+use Rattle.mgn_params.specs.Limits.{contract_names}
+use Rattle.mgn_params.specs.Tables.{Tables, contract_at}
+use Rattle.mgn_span.specs.Scan.{value_at}
+use Rattle.mgn_coll.specs.Posted.{value}
+use Rattle.mgn_machine.specs.State.{AccountState}
+use Rattle.mgn_machine.specs.Portfolios.{unit_sum}
+use Rattle.mgn_machine.specs.Refusals.{has_contract}
+use Rattle.mgn_unit.specs.declared.row.Row.{Row}
+use Rattle.mgn_unit.specs.declared.row.PortfolioRow.{PortfolioRow}
+use Rattle.mgn_unit.specs.Rows.{priced}
+
+-- the set in force and the one that takes its place
+pub record SetPair : Type 0 where
+  pub old : Tables
+  pub new : Tables
+
+-- where each contract of a set stands in the set before it, by its name
+abbrev pub places_in : Tables → Tables → List (Option ℕ)
+places_in old new = map (λ (c : Contract). position (bytes_eq c.name) (contract_names old.contracts)) new.contracts
+
+-- the number at a place of a row, 0 where there is no place
+abbrev pub number_at : List ℤ → Option ℕ → ℤ
+number_at row None = pos 0
+number_at row (Some i) = value_at row i
+
+-- one number for each contract of the new set: that of its name under the old set, 0 where that had none
+abbrev pub carried : Tables → Tables → List ℤ → List ℤ
+carried old new row = map (number_at row) (places_in old new)
+
+-- a portfolio under the new set, with an amount more in worth
+abbrev pub portfolio_under : Tables → Tables → ℤ → PortfolioRow → PortfolioRow
+portfolio_under old new gain side = priced new (carried old new side.nets) (side.worth +ℤ gain)
+
+-- a row under the new set, with an amount more in worth
+abbrev pub row_under : Tables → Tables → ℤ → Row → Row
+row_under old new gain row = record {
+  sizes = carried old new row.sizes;
+  lots = portfolio_under old new gain row.lots;
+  buys = portfolio_under old new gain row.buys;
+  sales = portfolio_under old new gain row.sales;
+  all = portfolio_under old new gain row.all;
+}
+
+-- the worths of a row as they can be
+pub record AreWorths (row : Row) : Type 0 where
+  pub lots : unsigned_abs row.lots.worth ≤ 10 ^ 24
+  pub buys : unsigned_abs row.buys.worth ≤ 10 ^ 24
+  pub sales : unsigned_abs row.sales.worth ≤ 10 ^ 24
+  pub all : unsigned_abs row.all.worth ≤ 10 ^ 24
+
+-- how much more an account's collateral is worth under the new set
+abbrev pub value_gain : Tables → Tables → AccountState → ℤ
+value_gain old new a = pos (value new.classes a.collateral) -ℤ pos (value old.classes a.collateral)
+
+-- how much more that of a unit's accounts is worth
+abbrev pub unit_gain : Tables → Tables → List AccountState → ℕ → ℤ
+unit_gain old new accounts u = unit_sum u (value_gain old new) accounts
+
+-- nothing is live or held in a contract of the old set, or the new set has it
+abbrev pub is_covered_at : Tables → Tables → List ℤ → ℕ → Bool
+is_covered_at old new sizes i = int_eq (value_at sizes i) (pos 0) || has_contract new (contract_at old.contracts i).name
+
+-- the new set has each contract in which something is live or held
+abbrev pub is_covered : Tables → Tables → List ℤ → Bool
+is_covered old new sizes = list_all (is_covered_at old new sizes) (range_with_len 0 (length old.contracts))
+
+-- the lots require more than is there for them
+abbrev pub row_on_call : Row → Bool
+row_on_call row = int_lt row.lots.worth row.lots.requirement

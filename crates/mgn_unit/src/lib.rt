@@ -1,0 +1,20 @@
+//! Margin units as the book keeps them: accounts, the rows of the four portfolios of a unit, and what a command changes in
+//! them, and rows under another set.
+#![tactic(auto)]
+
+mod account;
+mod change;
+mod holding;
+mod nets;
+mod new_set;
+mod row;
+mod rows;
+#[cfg(test)]
+mod tests;
+
+pub use account::Account;
+pub use change::{Change, Gain};
+pub use holding::filling_at_limit_keeps_room;
+pub use nets::Nets;
+pub use new_set::Switch;
+pub use row::{PortfolioRow, Priced, Row};

@@ -1,0 +1,221 @@
+ghost use Rattle.std.specs.Prelude.{◌≡◌, ◌<◌, ◌≤◌, ◌*◌, ◌^◌, ◌+ℤ◌, All, IfOk, length, unsigned_abs};
+ghost use Rattle.mgn_span.specs.Positions.{IsNet};
+ghost use Rattle.mgn_span.specs.Requirement.{requirement};
+ghost use Rattle.mgn_machine.specs.Portfolios.{in_unit};
+ghost use Rattle.mgn_unit.specs.Rows.{IsRow, IsPortfolioRow, row_with_worth};
+ghost use Rattle.mgn_unit.specs.NewSets.{AreWorths, SetPair, carried, is_covered, is_covered_at, places_in, portfolio_under, row_on_call, row_under, unit_gain, value_gain};
+
+use crate::account::Account;
+use crate::nets::Nets;
+use crate::row::{PortfolioRow, Row};
+use mgn_num::{Cents, Quantity};
+use mgn_params::{ParamSet, Work};
+use mgn_plain::requirement;
+use std::alloc::{AllocError, Global};
+use std::marker::Model;
+
+/// A switch from the set in force to another one: where each contract of the new set stands in the old one, looked up once
+/// for all rows. Contracts see the two sets.
+#[derive(Drop)]
+pub struct Switch<'a> {
+    old: &'a ParamSet,
+    new: &'a ParamSet,
+    places: Vec<Option<usize>>,
+}
+
+impl<'a> Model for Switch<'a> {
+    ghost use Rattle.std.specs.Prelude.{◌≡◌};
+    ghost use Rattle.mgn_unit.specs.NewSets.{SetPair, places_in};
+
+    ghost Value = { SetPair };
+
+    ghost view = { λ s. record { old = s.old.now; new = s.new.now } };
+
+    ghost invariant = { λ s. s.places.items ≡ places_in s.old.now s.new.now };
+}
+
+impl<'a> Switch<'a> {
+    /// A switch between two sets. An error says that memory was refused.
+    pub fn new(
+        alloc: Global,
+        old: &'a ParamSet,
+        new: &'a ParamSet,
+    ) -> Result<Switch<'a>, AllocError>
+        ensures old { IfOk result (λ switch. switch.old ≡ old.now) }
+        ensures new { IfOk result (λ switch. switch.new ≡ new.now) }
+    {
+        let count = new.contract_count();
+        let mut places = Vec::with_capacity(alloc, count)?;
+        for i in 0..count {
+            places.push_reserved(old.contract(new.contract_at(i).name));
+        }
+        Ok(Switch { old, new, places })
+    }
+
+    /// How much more the collateral of a unit's accounts is worth under the new set, in cents; below 0 where it is worth
+    /// less.
+    pub fn gain(&self, accounts: &[Account], unit: usize) -> Cents
+        requires { length accounts.now ≤ 1024 }
+        ensures { result ≡ unit_gain self.now.old self.now.new accounts.now unit }
+    {
+        let mut total = Cents::ZERO;
+        for account in accounts {
+            total = total.plus(self.gain_in(account, unit));
+        }
+        total
+    }
+
+    // What an account adds to it: nothing where it is of another unit.
+    fn gain_in(&self, account: &Account, unit: usize) -> Cents
+        ensures gain { result ≡ in_unit unit (value_gain self.now.old self.now.new) account.now }
+        ensures small { unsigned_abs result ≤ 2 * 10 ^ 18 }
+    {
+        if account.unit() == unit {
+            account.value_gain(self.old, self.new)
+        } else {
+            Cents::ZERO
+        }
+    }
+
+    // The numbers of a row, by the contracts' names, for the contracts of the new set.
+    fn carry(&self, alloc: Global, row: &Nets) -> Result<Nets, AllocError>
+        requires { All IsNet row.now }
+        ensures row { IfOk result (λ nets. nets ≡ carried self.now.old self.now.new row.now) }
+        ensures one_each { IfOk result (λ nets. length nets ≡ length self.now.new.contracts) }
+        ensures limits { IfOk result (λ nets. All IsNet nets) }
+    {
+        row.at_places(alloc, self.places.as_slice())
+    }
+}
+
+impl PortfolioRow {
+    // The portfolio under the new set, with an amount more in worth.
+    fn under(
+        &self,
+        alloc: Global,
+        switch: &Switch,
+        gain: Cents,
+        work: &mut Work,
+    ) -> Result<PortfolioRow, AllocError>
+        requires side { IsPortfolioRow switch.now.old self.now }
+        requires worth { unsigned_abs (self.now.worth +ℤ gain) ≤ 10 ^ 24 }
+        ensures side { IfOk result (λ side. side ≡ portfolio_under switch.now.old switch.now.new gain self.now) }
+        ensures limits { IfOk result (λ side. IsPortfolioRow switch.now.new side) }
+    {
+        let nets = switch.carry(alloc, &self.nets)?;
+        let required = requirement(alloc, switch.new, nets.as_slice(), work)?;
+        Ok(PortfolioRow {
+            nets,
+            worth: self.worth.plus(gain),
+            requirement: required,
+        })
+    }
+
+    // The same beside another portfolio under the new set.
+    fn under_beside(
+        &self,
+        alloc: Global,
+        switch: &Switch,
+        gain: Cents,
+        other: &PortfolioRow,
+        work: &mut Work,
+    ) -> Result<PortfolioRow, AllocError>
+        requires side { IsPortfolioRow switch.now.old self.now }
+        requires worth { unsigned_abs (self.now.worth +ℤ gain) ≤ 10 ^ 24 }
+        requires other { IsPortfolioRow switch.now.new other.now }
+        requires priced { other.now.requirement ≡ requirement switch.now.new other.now.nets }
+        ensures side { IfOk result (λ side. side ≡ portfolio_under switch.now.old switch.now.new gain self.now) }
+        ensures limits { IfOk result (λ side. IsPortfolioRow switch.now.new side) }
+    {
+        let nets = switch.carry(alloc, &self.nets)?;
+        let required = requirement_beside(alloc, switch.new, &nets, other, work)?;
+        Ok(PortfolioRow {
+            nets,
+            worth: self.worth.plus(gain),
+            requirement: required,
+        })
+    }
+}
+
+// What nets require, taken over from another portfolio where that has the same nets.
+fn requirement_beside(
+    alloc: Global,
+    set: &ParamSet,
+    nets: &Nets,
+    other: &PortfolioRow,
+    work: &mut Work,
+) -> Result<Cents, AllocError>
+    requires one_each { length nets.now ≡ length set.now.contracts }
+    requires nets { All IsNet nets.now }
+    requires other { IsPortfolioRow set.now other.now }
+    requires priced { other.now.requirement ≡ requirement set.now other.now.nets }
+    ensures ok { IfOk result (λ r. r ≡ requirement set.now nets.now) }
+    ensures small { IfOk result (λ r. unsigned_abs r ≤ 10 ^ 30) }
+{
+    if nets.is_same(&other.nets) {
+        return Ok(other.requirement);
+    }
+    requirement(alloc, set, nets.as_slice(), work)
+}
+
+impl Row {
+    /// The row under the new set of a switch, `gain` being how much more the unit's collateral is worth there: nets and
+    /// sizes by the contracts' names, and each requirement worked out anew. An error says that memory was refused.
+    pub fn under(
+        &self,
+        alloc: Global,
+        switch: &Switch,
+        gain: Cents,
+        work: &mut Work,
+    ) -> Result<Row, AllocError>
+        requires row { IsRow switch.now.old self.now }
+        requires worths { AreWorths (row_with_worth gain self.now) }
+        ensures row { IfOk result (λ row. row ≡ row_under switch.now.old switch.now.new gain self.now) }
+        ensures limits { IfOk result (λ row. IsRow switch.now.new row) }
+    {
+        let sizes = switch.carry(alloc, &self.sizes)?;
+        let lots = self.lots.under(alloc, switch, gain, work)?;
+        let buys = self.buys.under_beside(alloc, switch, gain, &lots, work)?;
+        let sales = self.sales.under_beside(alloc, switch, gain, &lots, work)?;
+        let all = self.all.under_beside(alloc, switch, gain, &lots, work)?;
+        Ok(Row {
+            sizes,
+            lots,
+            buys,
+            sales,
+            all,
+        })
+    }
+
+    /// Whether the new set has each contract in which the unit has a live lot or a hold.
+    pub fn is_covered_by(&self, old: &ParamSet, new: &ParamSet) -> bool
+        requires { IsRow old.now self.now }
+        ensures { result ≡ is_covered old.now new.now self.now.sizes }
+    {
+        for contract in 0..old.contract_count() {
+            if !self.is_covered_in(contract, old, new) {
+                return false;
+            }
+        }
+        true
+    }
+
+    // Whether nothing is live or held in a contract of the old set, or the new one has it.
+    fn is_covered_in(&self, contract: usize, old: &ParamSet, new: &ParamSet) -> bool
+        requires contract { contract < length old.now.contracts }
+        requires row { IsRow old.now self.now }
+        ensures { result ≡ is_covered_at old.now new.now self.now.sizes contract }
+    {
+        if self.sizes.at(contract) == Quantity::ZERO {
+            return true;
+        }
+        new.contract(old.contract_at(contract).name).is_some()
+    }
+
+    /// Whether the lots require more than is there for them.
+    pub fn is_on_call(&self) -> bool
+        ensures { result ≡ row_on_call self.now }
+    {
+        self.lots.worth < self.lots.requirement
+    }
+}

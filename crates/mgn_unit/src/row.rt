@@ -1,0 +1,37 @@
+use crate::nets::Nets;
+use mgn_num::Cents;
+
+/// One portfolio of a margin unit.
+#[derive(Drop)]
+pub struct PortfolioRow {
+    /// One net for each contract of the set in force.
+    pub nets: Nets,
+    /// What is there for it, its holds counted as filled at their limits.
+    pub worth: Cents,
+    /// What it must have deposited.
+    pub requirement: Cents,
+}
+
+/// The four portfolios of a margin unit, and how much of each contract its live lots and holds come to in size.
+#[derive(Drop)]
+pub struct Row {
+    /// For each contract of the set in force the sum of the sizes of live lots and holds.
+    pub sizes: Nets,
+    /// The lots.
+    pub lots: PortfolioRow,
+    /// The lots and the held buys.
+    pub buys: PortfolioRow,
+    /// The lots and the held sales.
+    pub sales: PortfolioRow,
+    /// The lots and all holds.
+    pub all: PortfolioRow,
+}
+
+/// The requirements of the four portfolios of a unit.
+#[derive(Clone, Copy)]
+pub struct Priced {
+    pub lots: Cents,
+    pub buys: Cents,
+    pub sales: Cents,
+    pub all: Cents,
+}

@@ -1,0 +1,13 @@
+//! Tests of the files of parameter sets, and of a shelf of sets.
+#![tactic(auto)]
+
+#[cfg(test)]
+mod cuts;
+#[cfg(test)]
+mod faults;
+#[cfg(test)]
+mod rows;
+#[cfg(test)]
+mod shelf;
+#[cfg(test)]
+mod texts;

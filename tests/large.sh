@@ -1,0 +1,148 @@
+#!/bin/sh
+# Sessions that are too long to write out: their lines are made here with the reply to each, which is known by rule.
+# Usage: tests/large.sh [PROGRAM], by default the program that `rt run` or `rt ci` leaves.
+here=$(CDPATH= cd -- "$(dirname -- "$0")" && pwd)
+program=${1:-$here/../crates/spand/out/spand}
+work=$(mktemp -d) || exit 1
+trap 'rm -rf "$work"' EXIT
+passed=0
+failed=0
+
+# Makes a session by an awk program that calls say(COMMAND, REPLY) in turn. A reply is given without its place: OK, OK
+# and figures, or the code and the name of a refusal, for which an entry is counted too.
+make_session() {
+    awk -v lines="$work/in" -v replies="$work/want" '
+        function say(command, reply) {
+            place++
+            print command > lines
+            if (reply ~ /^OK/) print "OK " place substr(reply, 3) > replies
+            else print "ERR " place " " reply > replies
+        }
+        function begin(origin, mode, account) {
+            say("ORIGIN " origin " " mode, "OK")
+            if (account != "") say("OPEN " account " " origin, "OK")
+        }
+        BEGIN { '"$1"' }'
+}
+
+# Runs a session over a set of a folder, and looks at its replies, its status and what it says of its end.
+look() {
+    title=$1 dir=$2 set=$3 wanted=$4 end=$5
+    began=$(date +%s)
+    "$program" script --dir "$dir" --set "$set" < "$work/in" > "$work/out" 2> "$work/err"
+    status=$?
+    if [ $status -eq "$wanted" ] && [ "$(cat "$work/err")" = "$end" ] && cmp -s "$work/want" "$work/out"; then
+        passed=$((passed + 1))
+        echo "$title: $(wc -l < "$work/want") replies, $(($(date +%s) - began)) s"
+    else
+        failed=$((failed + 1))
+        echo "FAILED: $title: status $status, $(cat "$work/err")"
+        diff "$work/want" "$work/out" | head -10
+    fi
+}
+
+# Each hold needs 300. There is room for 333 of them, and a number for 256.
+make_session '
+    begin("CUST", "GROSS", "A1")
+    say("POST A1 CASH 100000", "OK")
+    for (n = 1; n <= 255; n++) say("HOLD A1 " n " AAA1 1 0", "OK")
+    say("ASK A1", "OK 0 76500 100000 100000 23500")
+    say("HOLD A1 256 AAA1 1 0", "OK")
+    say("HOLD A1 257 AAA1 1 0", "31 LIMIT")
+    say("ASK A1", "OK 0 76800 100000 100000 23200")
+    say("FILL A1 100 1 1 0", "OK")
+    say("HOLD A1 257 AAA1 1 0", "OK")
+    say("HOLD A1 100 AAA1 1 0", "31 LIMIT")
+    say("RELEASE A1 1", "OK")
+    say("HOLD A1 100 AAA1 1 0", "OK")
+    say("HOLD A1 1 AAA1 1 0", "31 LIMIT")
+    say("ASK A1", "OK 300 77100 100000 100000 22900")
+'
+look "256 holds of an account" "$here/../sets" FUT 0 ""
+
+# Accounts of a GROSS origin are units too; those of a NET one are counted as accounts alone.
+make_session '
+    begin("CUST", "GROSS")
+    for (n = 1; n <= 1023; n++) say("OPEN A" n " CUST", "OK")
+    say("ASK A1023", "OK 0 0 0 0 0")
+    say("OPEN A1024 CUST", "OK")
+    say("OPEN A1025 CUST", "31 LIMIT")
+    say("ASK A1025", "20 NOACCT")
+    say("OPEN A1024 CUST", "22 DUP")
+    say("ORIGIN HOUSE NET", "31 LIMIT")
+    say("ORIGIN MORE GROSS", "OK")
+    say("OPEN A1025 MORE", "31 LIMIT")
+    say("TRADE A1024 1 AAA1 1 0", "OK")
+    say("ASK A1024", "OK 300 300 0 0 -300")
+'
+look "1,024 accounts" "$here/../sets" FUT 0 ""
+
+make_session '
+    begin("HOUSE", "NET", "H1")
+    begin("CUST", "GROSS")
+    for (n = 1; n <= 1022; n++) say("OPEN A" n " CUST", "OK")
+    say("ORIGIN LAST NET", "OK")
+    say("OPEN A1023 CUST", "31 LIMIT")
+    say("OPEN H2 HOUSE", "OK")
+    say("OPEN H3 HOUSE", "31 LIMIT")
+'
+look "1,024 units, and as many accounts" "$here/../sets" FUT 0 ""
+
+# Bought and sold in turn. A busted lot counts in the limit.
+make_session '
+    begin("CUST", "GROSS", "A1")
+    for (n = 1; n <= 65536; n++) say("TRADE A1 " n " AAA1 " (n % 2 ? 1 : -1) " 0", "OK")
+    say("TRADE A1 65537 AAA1 1 0", "31 LIMIT")
+    say("BUST A1 1", "OK")
+    say("TRADE A1 65537 AAA1 1 0", "31 LIMIT")
+    say("ASK A1", "OK 300 300 0 0 -300")
+    say("POST A1 CASH 300", "OK")
+    say("HOLD A1 1 AAA1 1 0", "OK")
+    say("FILL A1 1 65537 1 0", "31 LIMIT")
+'
+look "65,536 lots of an account" "$here/../sets" FUT 0 ""
+
+# 256 commodities of 16 contracts in four months each, all with the array of FUT. A spread of each commodity between its
+# first two months, and one of each of the first 64 pairs of commodities.
+awk '
+    BEGIN {
+        array = "0,0,-100,-100,100,100,-200,-200,200,200,-300,-300,300,300,-210,210"
+        print "H,1,FULL"
+        for (g = 0; g < 256; g++) {
+            print "G,G" g ",25"
+            for (m = 1; m <= 4; m++) print "M,G" g "," m "," m
+            for (k = 0; k < 16; k++) print "K,G" g "X" k ",G" g "," k % 4 + 1 ",F,F,10000,0," array
+            print "S,G" g ",1,10000,2,10000,40"
+        }
+        for (g = 0; g < 64; g++) print "I,5000,G" 2 * g ",A,10000,G" 2 * g + 1 ",B,10000"
+    }' > "$work/FULL.csv"
+
+# One account has 256 holds, one in each commodity, bought and sold in turn: 256 * 300, less 128 credits of 150 with
+# all of them; 128 * 300 with one side. Another has 65,536 lots: each of 16 contracts 4,096 times, the first sold, the
+# second bought, and so on, four of them in a month. Nothing is lost by any price; 16,384 spreads at 40 cost 655,360.
+make_session '
+    begin("CUST", "GROSS")
+    for (n = 1; n <= 1024; n++) say("OPEN A" n " CUST", "OK")
+    say("OPEN A1025 CUST", "31 LIMIT")
+    say("POST A1 CASH 57900", "OK")
+    for (n = 1; n <= 256; n++) say("HOLD A1 " n " G" n - 1 "X0 " (n % 2 ? 1 : -1) " 0", "OK")
+    say("HOLD A1 257 G0X0 1 0", "31 LIMIT")
+    say("ASK A1", "OK 0 57600 57900 57900 300")
+    say("DRAW A1 CASH 301", "30 NOROOM")
+    say("DRAW A1 CASH 300", "OK")
+    for (n = 1; n <= 65536; n++) say("TRADE A2 " n " G255X" n % 16 " " (n % 2 ? 1 : -1) " 0", "OK")
+    say("TRADE A2 65537 G255X0 1 0", "31 LIMIT")
+    say("ASK A2", "OK 655360 655360 0 0 -655360")
+    say("TRADE A1024 1 G255X15 -1 0", "OK")
+    say("ASK A1024", "OK 300 300 0 0 -300")
+    say("END", "OK")
+'
+look "a set and a book of full size" "$work" FULL 0 ""
+
+# A line more than a session answers, and no such line: its first byte ends the session.
+awk 'BEGIN { for (n = 1; n <= 1000000; n++) print ""; printf "A" }' > "$work/in"
+awk 'BEGIN { for (n = 1; n <= 1000000; n++) print "ERR 10 SYNTAX" }' > "$work/want"
+look "1,000,000 lines and a byte" "$here/../sets" FUT 4 "spand: session LINES"
+
+echo "$passed large sessions passed, $failed failed"
+[ $failed -eq 0 ]

@@ -1,0 +1,271 @@
+#!/usr/bin/env python3
+"""Holds the code to a rule that no contract states: a fault of memory is only handed up. Nothing makes an `AllocError`, or a fault,
+refusal or reply named `Memory`, but from one that a call below gave. So no function gives up with want of memory in place of an
+answer, which its contract would let it do.
+
+A word that ends in `Memory`, or `AllocError`, in a function's block is one of
+  a pattern, a type, or a value that is compared;
+  in `impl From<AllocError>`, or in an arm whose pattern or guard has such a word: handed up;
+  in the `Err` arm of a `match`, the block of an `if let Err(..) =` or of `if CALL.is_err()`, the `else` of a `let Ok(..) =`, or
+  the closure of `map_err`, each of a call that can fail only for memory: handed up.
+All else makes it, and fails. A call can fail only for memory where all functions of that name in the repository give an
+`AllocError` or a `Memory`, or where LIBRARY has the name.
+The last line is `N passed, M failed`, of the places that were looked at."""
+import os
+import re
+import sys
+import tempfile
+
+import source
+
+WORD = re.compile(r"\w*Memory|AllocError")
+ONLY_MEMORY = {"AllocError", "Memory"}
+# Calls of the libraries that fail for want of memory alone: growth, and reading a record of text that is in memory.
+LIBRARY = {"push", "reserve", "extend_from_slice", "insert", "read_byte_record"}
+# The last resort: places by (file, function) that are right and look like none of these.
+ALLOWED = set()
+
+
+class Text:
+    """A file's tokens of code, with each bracket's partner and the bracket that each stands in."""
+
+    def __init__(self, rows):
+        self.rows = [it for it in rows if it.kind == "Code"]
+        self.words = [it.text for it in self.rows]
+        self.functions = source.functions(rows)
+        self.partner, self.inside, opened = {}, [], []
+        for at, word in enumerate(self.words):
+            if word in "}])" and opened:
+                self.partner[at] = opened.pop()
+                self.partner[self.partner[at]] = at
+            self.inside.append(opened[-1] if opened else None)
+            if word in "{[(":
+                opened.append(at)
+
+    def back(self, at, stops):
+        """Returns where the words begin that lead up to this place, back to one of these on the same level."""
+        while at > 0 and self.words[at - 1] not in stops:
+            at = self.partner.get(at - 1, at - 1) if self.words[at - 1] in "}])" else at - 1
+        return at
+
+    def error_of(self, it):
+        """Returns the last type parameter of the Result that a function returns, or None."""
+        head = [row.text for row in self.rows if it.start <= row.start < it.body]
+        said = re.search(r"- > Result < (.*) >", " ".join(head).partition(" where ")[0])
+        return said and re.split(r" , (?![^<(]*[>)])", said[1])[-1]
+
+    def callee(self, end):
+        """Returns the name of the call that ends before this place, or None."""
+        if self.words[end - 1] != ")":
+            return None
+        at = self.partner[end - 1] - 1
+        if self.words[at] == ">":
+            while self.words[at] != "<":
+                at -= 1
+            at -= 3
+        return self.words[at] if re.fullmatch(r"\w+", self.words[at]) else None
+
+
+def gives_memory(text, begin, end, names):
+    """Returns whether what stands there is a call that can fail only for memory, or a value of such calls."""
+    if end - begin == 1:
+        word = text.words[begin]
+        for at in range(begin - 1, 0, -1):
+            if text.words[at - 1 : at + 2] == ["let", word, "="]:
+                stop = at
+                while text.words[stop] != ";" or text.inside[stop] != text.inside[at]:
+                    stop += 1
+                calls = [text.words[it] for it in range(at, stop) if text.words[it + 1] == "("]
+                return any(names.get(it) for it in calls) and all(names.get(it, True) for it in calls)
+        return False
+    return bool(names.get(text.callee(end)))
+
+
+def is_in_tuple(text, at):
+    """Returns whether a comma stands there between the parts of a tuple, or of a call's arguments."""
+    return text.words[at] == "," and text.inside[at] is not None and text.words[text.inside[at]] == "("
+
+
+def is_read(text, at):
+    """Returns whether the word there is a type, a pattern, or a value that is compared."""
+    words, begin = text.words, at
+    while words[begin - 2 : begin] == [":", ":"]:
+        begin -= 3
+    before, after = words[begin - 1], words[at + 1]
+    if after == ":" and words[at + 2] == ":" or before == "<" or after in ">" or words[begin - 2 : begin] == ["=", "="]:
+        return True
+    if before == ":" or words[begin - 2 : begin] == ["-", ">"]:
+        return True
+    inside = text.inside[at]
+    while inside is not None and words[inside] == "(":
+        if words[inside - 2 : inside] == ["matches", "!"]:
+            return True
+        inside = text.inside[inside]
+    # A pattern leads to => or, behind `let`, to =, with nothing but patterns and a guard between.
+    to = at + 1
+    while words[to] in (")", "|", "]") or is_in_tuple(text, to) or words[to] not in ("=", ",", ";", "{", "}") and words[to] != "?":
+        to = text.partner[to] + 1 if words[to] in "([" else to + 1
+    if words[to] != "=":
+        return False
+    return words[to + 1] == ">" or "let" in words[text.back(begin, ";{}") : begin] and words[to + 1] != "="
+
+
+def is_handed_up(text, at, function, names):
+    """Returns whether what is made there is made only where a call below gave it."""
+    words, inside = text.words, text.inside[at]
+    while inside is not None and text.rows[inside].start >= function.body:
+        before = inside - 1
+        if words[inside] == "(" and words[before] == "map_err" and gives_memory(text, 0, before - 1, names):
+            return True
+        if words[inside] == "{":
+            begin = text.back(inside, ";{}")
+            head = words[begin:inside]
+            if "match" in head and text.rows[inside].start > function.body:
+                start = len(head) - 1 - head[::-1].index("match") + begin + 1
+                arrow = arrow_before(text, inside, at)
+                pattern = words[text.back(arrow, ("{", ",", "}")) : arrow] if arrow else []
+                if any(map(WORD.fullmatch, pattern)):
+                    return True
+                if pattern[:2] == ["Err", "("] and "if" not in pattern and gives_memory(text, start, inside, names):
+                    return True
+            elif head[-1:] == ["else"] and head[:3] == ["let", "Ok", "("]:
+                equals = begin + head.index("=")
+                if gives_memory(text, equals + 1, before, names):
+                    return True
+            elif "if" in head:
+                start = len(head) - 1 - head[::-1].index("if")
+                if head[start + 1 : start + 4] == ["let", "Err", "("]:
+                    equals = begin + start + head[start:].index("=")
+                    pattern = words[begin + start : equals]
+                    if any(map(WORD.fullmatch, pattern)) or gives_memory(text, equals + 1, inside, names):
+                        return True
+                elif all_failed(text, begin + start + 1, inside, names):
+                    return True
+        inside = text.inside[inside]
+    head = [row.text for row in text.rows if function.start <= row.start < function.body]
+    return function.by == "From" and function.name == "from" and any(it in ONLY_MEMORY for it in head)
+
+
+def arrow_before(text, inside, at):
+    """Returns where the arm's => stands in a match's block."""
+    while text.inside[at] != inside:
+        at = text.inside[at]
+    while at > inside and text.words[at : at + 2] != ["=", ">"]:
+        at = text.partner[at] if text.words[at] in "}])" and at in text.partner else at
+        at -= 1
+    return at if at > inside else None
+
+
+def all_failed(text, begin, end, names):
+    """Returns whether a condition is `CALL.is_err()`, or several joined by ||, of calls that can fail only for memory."""
+    ends = [it for it in range(begin, end) if text.words[it : it + 2] == ["|", "|"] and text.inside[it] == text.inside[end]] + [end]
+    for stop in ends:
+        if text.words[stop - 4 : stop] != [".", "is_err", "(", ")"] or not gives_memory(text, 0, stop - 4, names):
+            return False
+    # (`!` turns the question, and under `&&` more than memory decides)
+    joined = [text.words[it] for it in range(begin, end) if text.inside[it] == text.inside[end]]
+    return not {"!", "&"} & {*joined}
+
+
+def wrong_places(files):
+    """Returns how many places were looked at, and those that make a fault of memory, as (file, line, function, text)."""
+    texts = {file: Text(rows or []) for file, rows in source.tokens(files).items()}
+    errors = {}
+    for text in texts.values():
+        for it in text.functions:
+            error = text.error_of(it)
+            if error is not None:
+                errors.setdefault(it.name, set()).add(error)
+    names = {name: found <= ONLY_MEMORY for name, found in errors.items()}
+    names.update({it: names.get(it, True) for it in LIBRARY})
+    looked, wrong = 0, []
+    for file, text in texts.items():
+        for at, row in enumerate(text.rows):
+            if not WORD.fullmatch(row.text):
+                continue
+            inside = [it for it in text.functions if it.body < row.start < it.end]
+            function = min(inside, key=lambda it: it.end - it.body, default=None)
+            head = text.words[text.back(at, ";{}") : at]
+            if function is None and not ({"const", "static"} & {*head} and "=" in head) or head[:1] == ["use"]:
+                continue
+            looked += 1
+            if function and (is_read(text, at) or is_handed_up(text, at, function, names)):
+                continue
+            wrong.append((file, row.line, function.name if function else "", " ".join(text.words[at - 4 : at + 2])))
+    return looked, wrong
+
+
+BAD = """
+fn cap(n: usize) -> Result<(), Memory> { if n > 300 { return Err(Memory); } Ok(()) }
+fn give_up(x: u8) -> Result<u8, AllocError> { Err(AllocError) }
+fn in_arm(x: Option<u8>) -> Result<u8, Fault> { match x { Some(n) => Ok(n), None => Err(Fault::Memory) } }
+fn other_call(x: &[u8]) -> Result<u8, Fault> { match parse(x) { Ok(n) => Ok(n), Err(_) => Err(Fault::Memory) } }
+fn in_else(x: Option<u8>) -> Result<u8, Fault> { let Some(n) = x else { return Err(Fault::Memory); }; Ok(n) }
+fn of_option(x: Option<u8>) -> Result<u8, AllocError> { x.ok_or(AllocError) }
+fn either(v: &mut Vec<u8>, n: usize) -> Result<(), Memory> { if n > 300 || v.reserve(n).is_err() { return Err(Memory); } Ok(()) }
+fn both(v: &mut Vec<u8>, n: usize) -> Result<(), Memory> { if !v.reserve(n).is_err() { return Err(Memory); } Ok(()) }
+fn mapped(x: &[u8]) -> Result<u8, Fault> { parse(x).map_err(|_| Fault::Memory) }
+fn ok_arm(v: &mut Vec<u8>) -> Result<(), Memory> { match v.reserve(1) { Ok(()) => Err(Memory), Err(_) => Err(Memory) } }
+fn guarded(v: &mut Vec<u8>, n: u8) -> Result<(), Fault> { match v.push(n) { Ok(()) => Ok(()), Err(_) if n == 0 => Err(Fault::Taken), _ => Err(Fault::Memory) } }
+fn if_other(x: &[u8]) -> Result<(), Fault> { if let Err(_) = parse(x) { return Err(Fault::Memory); } Ok(()) }
+fn answered(n: u64) -> Answer { if n == 7 { Answer::refused(Refusal::Memory) } else { Answer::done() } }
+impl From<Other> for Fault { fn from(_e: Other) -> Fault { Fault::Memory } }
+const FAULT: Fault = Fault::Memory;
+"""
+GOOD = """
+use std::alloc::AllocError;
+pub struct Memory;
+pub enum Fault { Memory, Taken }
+fn parse(x: &[u8]) -> Result<u8, Fault> { Err(Fault::Taken) }
+fn grow(v: &mut Vec<u8>) -> Result<(), AllocError> { v.push(1)?; Ok(()) }
+fn in_arm(v: &mut Vec<u8>) -> Result<(), Fault> { match grow(v) { Ok(()) => {} Err(_) => return Err(Fault::Memory), } Ok(()) }
+fn bound(v: &mut Vec<u8>, b: bool) -> Result<(), Fault> { let made = match b { true => grow(v), false => v.push(2) }; match made { Ok(()) => Ok(()), Err(_) => Err(Fault::Memory), } }
+fn in_else(v: &mut Vec<u8>) -> Result<(), Fault> { let Ok(()) = grow(v) else { return Err(Fault::Memory); }; Ok(()) }
+fn failed(v: &mut Vec<u8>, w: &mut Vec<u8>) -> Result<(), Memory> { if v.reserve(1).is_err() || w.reserve(1).is_err() { return Err(Memory); } Ok(()) }
+fn handed(e: Fault) -> Outcome { match e { Fault::Memory => Outcome::Memory, Fault::Taken => Outcome::Taken, } }
+fn either(e: Result<u8, Fault>) -> Result<u8, Cause> { match e { Ok(n) => Ok(n), Err(Fault::Taken) | Err(Fault::Memory) => Err(Cause::Limit), } }
+fn mapped(v: &mut Vec<u8>) -> Result<(), Fault> { grow(v).map_err(|_| Fault::Memory) }
+fn of_kind(e: Error) -> Fault { match e { e if e.kind() == io::ErrorKind::OutOfMemory => Fault::Memory, _ => Fault::Taken, } }
+fn asks(e: &Fault) -> bool { matches!(e, Fault::Memory) || *e == Fault::Memory }
+fn if_let(v: &mut Vec<u8>) -> Result<(), Fault> { if let Err(AllocError) = v.push(3) { return Err(Fault::Memory); } Ok(()) }
+fn typed(v: &mut Vec<u8>) -> Result<(), Memory> { let done: Result<(), AllocError> = grow(v); Ok(done?) }
+impl From<AllocError> for Fault { fn from(_e: AllocError) -> Fault { Fault::Memory } }
+"""
+
+
+def selftest():
+    """Returns how many of the planted lines were judged wrongly, and says which."""
+    with tempfile.TemporaryDirectory(prefix="memory-rule-") as room:
+        for name, text in (("bad.rt", BAD), ("good.rt", GOOD)):
+            with open(f"{room}/{name}", "w", encoding="utf-8") as it:
+                it.write(text)
+        _, wrong = wrong_places([f"{room}/bad.rt", f"{room}/good.rt"])
+    found = {(os.path.basename(file), line) for file, line, _, _ in wrong}
+    wanted = {("bad.rt", at + 1) for at, line in enumerate(BAD.split("\n")) if line}
+    for file, line in sorted(found ^ wanted):
+        text = (BAD if file == "bad.rt" else GOOD).split("\n")[line - 1]
+        print(f"the rule {'passes' if (file, line) in wanted else 'refuses'}: {text}")
+    return len(found ^ wanted)
+
+
+def main():
+    missed = selftest()
+    files = [
+        f"{at}/{it}"
+        for at, _, names in os.walk(f"{source.TOP}/crates")
+        for it in sorted(names)
+        if it.endswith(".rt") and re.search(r"/src(/|$)", at) and not re.search(r"/tests/|[/_]tests\.rt$", f"{at}/{it}")
+    ]
+    looked, wrong = wrong_places(sorted(files))
+    failed = 0
+    for file, line, function, text in wrong:
+        path = os.path.relpath(file, source.TOP)
+        if (path, function) not in ALLOWED:
+            failed += 1
+            print(f"{path}:{line}: {function or 'a constant'} makes a fault of memory: {text}")
+    print(f"{looked - failed} passed, {failed + missed} failed")
+    return 1 if failed or missed else 0
+
+
+if __name__ == "__main__":
+    sys.exit(main())
