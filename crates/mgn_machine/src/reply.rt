@@ -5,12 +5,6 @@ use mgn_num::Cents;
 /// Why a command is refused.
 #[derive(Clone, Copy, PartialEq, Eq, Debug)]
 pub enum Refusal {
-    /// The line is no command.
-    Syntax,
-    /// The line is longer than 256 bytes.
-    Long,
-    /// A name or a number on the line is outside its range.
-    Range,
     /// There is no such account.
     NoAccount,
     /// There is no such origin.

@@ -9,11 +9,11 @@ use Rattle.std.proofs.lemmas.List.Elements.{All-from_get_or, filter-append}
 use Rattle.std.proofs.lemmas.List.Folds.{list_any-append, list_any_none}
 use Rattle.std.proofs.lemmas.List.Quantifiers.{position-Some}
 use Rattle.std.proofs.lemmas.List.Sums.{fails_before_first}
-use Rattle.mgn_machine.specs.declared.reply.Answer.{Answer}
+use Rattle.mgn_wire.specs.declared.reply.LineReply.{LineReply}
 use Rattle.mgn_wire.specs.Line.{line_of}
 use Rattle.mgn_wire.specs.Text.{text_of}
 use Rattle.mgn_session.specs.Conversation.{line_ends}
-use Rattle.mgn_session.specs.Session.{Answers, Call, AnswersAll, ended, has_end}
+use Rattle.mgn_session.specs.Session.{Step, AnswersAll, ended, has_end}
 use Rattle.mgn_session.specs.SessionInside.{IsAt}
 
 -- the fronts of lists that are put together
@@ -128,50 +128,50 @@ splits_at chunk at end within e =
 
 -- answers line by line
 
-pub answers_more : {E : Type 0} (call : Call E) (old mid new : E) (lines : List (List ℕ)) (answers : List Answer) (line : List ℕ) (answer : Answer)
-    → AnswersAll call old lines answers mid → Answers call mid (line_of line) answer new → AnswersAll call old (lines ++ line ∷ []) (answers ++ answer ∷ []) new
-answers_more call old mid new [] [] line answer all one = (new, rw all at one, refl)
-answers_more call old mid new [] (a ∷ answers) line answer all one = absurd all
-answers_more call old mid new (l ∷ lines) [] line answer all one = absurd all
-answers_more call old mid new (l ∷ lines) (a ∷ answers) line answer all one =
-    (all.0, all.1, answers_more call all.0 mid new lines answers line answer all.2 one)
+pub answers_more : {X : Type 0} (step : Step X) (old mid new : X) (lines : List (List ℕ)) (replies : List LineReply) (line : List ℕ) (reply : LineReply)
+    → AnswersAll step old lines replies mid → step mid (line_of line) reply new → AnswersAll step old (lines ++ line ∷ []) (replies ++ reply ∷ []) new
+answers_more step old mid new [] [] line reply all one = (new, rw all at one, refl)
+answers_more step old mid new [] (a ∷ replies) line reply all one = absurd all
+answers_more step old mid new (l ∷ lines) [] line reply all one = absurd all
+answers_more step old mid new (l ∷ lines) (a ∷ replies) line reply all one =
+    (all.0, all.1, answers_more step all.0 mid new lines replies line reply all.2 one)
 
 -- a line that is answered
-abbrev pub ends_line : {E : Type 0} (call : Call E) (old mid new : E) (input text : List ℕ) (n : ℕ) (line last : List ℕ) (answer : Answer)
-    → IsAt call old mid input text n line → has_end last ≡ false → Answers call mid (line_of (line ++ last)) answer new
-    → IsAt call old new (input ++ (last ++ 10 ∷ [])) (text ++ text_of answer) (n + 1) []
-ends_line call old mid new input text n line last answer at whole one =
+abbrev pub ends_line : {X : Type 0} (step : Step X) (old mid new : X) (input text : List ℕ) (n : ℕ) (line last : List ℕ) (reply : LineReply)
+    → IsAt step old mid input text n line → has_end last ≡ false → step mid (line_of (line ++ last)) reply new
+    → IsAt step old new (input ++ (last ++ 10 ∷ [])) (text ++ text_of reply) (n + 1) []
+ends_line step old mid new input text n line last reply at whole one =
     let s = at.session in
-    let read : Answers call mid (line_of (s.rest ++ last)) answer new = rw (same_line (line ++ last) (s.rest ++ last) (fronts 257 line s.rest last at.front)) at one in
+    let read : step mid (line_of (s.rest ++ last)) reply new = rw (same_line (line ++ last) (s.rest ++ last) (fronts 257 line s.rest last at.front)) at one in
     let unbroken : has_end (s.rest ++ last) ≡ false = any_append (λ b. b == 10) s.rest last s.splits.partial whole in
     record {
       session = record {
         lines = s.lines ++ (s.rest ++ last) ∷ [];
         rest = [];
-        answers = s.answers ++ answer ∷ [];
+        replies = s.replies ++ reply ∷ [];
         splits = record {
           whole = rw (s.splits.whole, flat_map-append ended s.lines ((s.rest ++ last) ∷ [])) (simp (append_assoc, append-nil));
           each = any_append has_end s.lines ((s.rest ++ last) ∷ []) s.splits.each (rw unbroken refl);
           partial = refl;
         };
         count_is = omega (arith, s.count_is, length-append s.lines ((s.rest ++ last) ∷ []));
-        answered = answers_more call old mid new s.lines s.answers (s.rest ++ last) answer s.answered read;
-        text_is = rw (s.text_is, flat_map-append text_of s.answers (answer ∷ [])) (simp append-nil);
+        answered = answers_more step old mid new s.lines s.replies (s.rest ++ last) reply s.answered read;
+        text_is = rw (s.text_is, flat_map-append text_of s.replies (reply ∷ [])) (simp append-nil);
       };
       front = refl;
     }
 
 -- a piece of a line that goes on
-pub goes_further : {E : Type 0} (call : Call E) (old new : E) (input text : List ℕ) (n : ℕ) (line piece line2 : List ℕ)
-    → IsAt call old new input text n line → has_end piece ≡ false → take 257 line2 ≡ take 257 (line ++ piece)
-    → IsAt call old new (input ++ piece) text n line2
-goes_further call old new input text n line piece line2 at whole front =
+pub goes_further : {X : Type 0} (step : Step X) (old new : X) (input text : List ℕ) (n : ℕ) (line piece line2 : List ℕ)
+    → IsAt step old new input text n line → has_end piece ≡ false → take 257 line2 ≡ take 257 (line ++ piece)
+    → IsAt step old new (input ++ piece) text n line2
+goes_further step old new input text n line piece line2 at whole front =
     let s = at.session in
     record {
       session = record {
         lines = s.lines;
         rest = s.rest ++ piece;
-        answers = s.answers;
+        replies = s.replies;
         splits = record {
           whole = rw (s.splits.whole, append_assoc) refl;
           each = s.splits.each;

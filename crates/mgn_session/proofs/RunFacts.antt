@@ -5,19 +5,19 @@ use Rattle.std.proofs.Math.Seq.{take-append-add}
 use Rattle.std.specs.Prelude.{◌==◌, ◌&&◌, nat_lt}
 use Rattle.std.proofs.lemmas.Bool.Decides.{nat_tests}
 use Rattle.std.specs.Io.KnownBytes.{Appends}
-use Rattle.mgn_machine.specs.declared.reply.Answer.{Answer}
+use Rattle.mgn_wire.specs.declared.reply.LineReply.{LineReply}
 use Rattle.mgn_wire.specs.Line.{line_of}
 use Rattle.mgn_wire.specs.Text.{text_of}
 use Rattle.mgn_session.specs.Conversation.{ConversationView, HasFailedToRead, HasRead, HasReplied, HasSent, IsQuiet, KeepsDevices}
-use Rattle.mgn_session.specs.Session.{Answers, Call, HasAnswered, HasStopped, HasTooMuch, IsCaughtUp, has_end}
+use Rattle.mgn_session.specs.Session.{Step, HasAnswered, HasStopped, HasTooMuch, IsCaughtUp, has_end}
 use Rattle.mgn_session.specs.SessionInside.{IsCutOff, IsUnderWay}
 use Rattle.mgn_session.proofs.DeviceFacts.{appends_on, kept_none, reads_none, reads_on, writes_none}
 use Rattle.mgn_session.proofs.LineFacts.{ends_line, goes_further}
 
 -- before the first read
-pub begins : {E : Type 0} (call : Call E) (before : ConversationView) (e : E) (line : List ℕ)
-    → IsQuiet before → line ≡ [] → IsUnderWay call before before e e [] 0 0 line
-begins call before e line quiet none =
+pub begins : {X : Type 0} (step : Step X) (before : ConversationView) (e : X) (line : List ℕ)
+    → IsQuiet before → line ≡ [] → IsUnderWay step before before e e [] 0 0 line
+begins step before e line quiet none =
     record {
       input = [];
       written = [];
@@ -27,7 +27,7 @@ begins call before e line quiet none =
         session = record {
           lines = [];
           rest = [];
-          answers = [];
+          replies = [];
           splits = record { whole = refl; each = refl; partial = refl };
           count_is = refl;
           answered = refl;
@@ -39,9 +39,9 @@ begins call before e line quiet none =
     }
 
 -- a read
-abbrev pub reads_more : {E : Type 0} (call : Call E) (before t u : ConversationView) (old new : E) (size count room : ℕ) (line chunk : List ℕ)
-    → IsUnderWay call before t old new [] size count line → HasRead t u room chunk → IsUnderWay call before u old new chunk (size + length chunk) count line
-reads_more call before t u old new size count room line chunk way read =
+abbrev pub reads_more : {X : Type 0} (step : Step X) (before t u : ConversationView) (old new : X) (size count room : ℕ) (line chunk : List ℕ)
+    → IsUnderWay step before t old new [] size count line → HasRead t u room chunk → IsUnderWay step before u old new chunk (size + length chunk) count line
+reads_more step before t u old new size count room line chunk way read =
     record {
       input = way.input;
       written = way.written;
@@ -58,11 +58,11 @@ still_quiet t u room quiet read =
 more_than_none : (room : ℕ) → 0 < room → (0 == 0) && nat_lt 0 room ≡ true
 more_than_none room some = grind (arith, nat_tests)
 
-pub answers_to_end : {E : Type 0} (call : Call E) (before t u : ConversationView) (old new : E) (size count room : ℕ) (line : List ℕ)
-    → IsUnderWay call before t old new [] size count line → IsQuiet t → HasRead t u room [] → 0 < room → count ≤ 1000000 → size ≤ 268435456
-    → HasAnswered call before u old new count
-answers_to_end call before t u old new size count room line way quiet read some lines bytes =
-    let now = reads_more call before t u old new size count room line [] way read in
+pub answers_to_end : {X : Type 0} (step : Step X) (before t u : ConversationView) (old new : X) (size count room : ℕ) (line : List ℕ)
+    → IsUnderWay step before t old new [] size count line → IsQuiet t → HasRead t u room [] → 0 < room → count ≤ 1000000 → size ≤ 268435456
+    → HasAnswered step before u old new count
+answers_to_end step before t u old new size count room line way quiet read some lines bytes =
+    let now = reads_more step before t u old new size count room line [] way read in
     let still = still_quiet t u room quiet read in
     record {
       all = record {
@@ -80,9 +80,9 @@ answers_to_end call before t u old new size count room line way quiet read some 
     }
 
 -- a read that failed
-pub read_failed : {E : Type 0} (call : Call E) (before t u : ConversationView) (old new : E) (size count : ℕ) (line : List ℕ)
-    → IsUnderWay call before t old new [] size count line → IsQuiet t → HasFailedToRead t u → IsCaughtUp call before u old new count
-read_failed call before t u old new size count line way quiet failed =
+pub read_failed : {X : Type 0} (step : Step X) (before t u : ConversationView) (old new : X) (size count : ℕ) (line : List ℕ)
+    → IsUnderWay step before t old new [] size count line → IsQuiet t → HasFailedToRead t u → IsCaughtUp step before u old new count
+read_failed step before t u old new size count line way quiet failed =
     record {
       input = way.input;
       text = way.written;
@@ -92,9 +92,9 @@ read_failed call before t u old new size count line way quiet failed =
       quiet = record { answered = failed.owed ∙ quiet.answered; sent = failed.waiting ∙ quiet.sent; flushed = failed.dirty ∙ quiet.flushed };
     }
 
-pub stops : {E : Type 0} (call : Call E) (before t : ConversationView) (old new : E) (count : ℕ)
-    → IsCaughtUp call before t old new count → HasStopped call before t old new
-stops call before t old new count all =
+pub stops : {X : Type 0} (step : Step X) (before t : ConversationView) (old new : X) (count : ℕ)
+    → IsCaughtUp step before t old new count → HasStopped step before t old new
+stops step before t old new count all =
     record {
       input = all.input;
       more = [];
@@ -106,9 +106,9 @@ stops call before t old new count all =
       session = all.session;
     }
 
-pub stops_at_more : {E : Type 0} (call : Call E) (before t : ConversationView) (old new : E)
-    → HasTooMuch call before t old new → HasStopped call before t old new
-stops_at_more call before t old new much =
+pub stops_at_more : {X : Type 0} (step : Step X) (before t : ConversationView) (old new : X)
+    → HasTooMuch step before t old new → HasStopped step before t old new
+stops_at_more step before t old new much =
     record {
       input = much.input;
       more = much.more;
@@ -122,37 +122,37 @@ stops_at_more call before t old new much =
 
 -- a line that is answered, and one whose reply found no memory
 
-pub replies : {E : Type 0} (call : Call E) (before t u : ConversationView) (old mid new : E) (rest : List ℕ) (size count : ℕ) (line last : List ℕ) (answer : Answer)
-    → IsUnderWay call before t old mid ((last ++ 10 ∷ []) ++ rest) size count line → has_end last ≡ false → Answers call mid (line_of (line ++ last)) answer new
-    → HasReplied t u (text_of answer) → IsUnderWay call before u old new rest size (count + 1) []
-replies call before t u old mid new rest size count line last answer way whole one replied =
+pub replies : {X : Type 0} (step : Step X) (before t u : ConversationView) (old mid new : X) (rest : List ℕ) (size count : ℕ) (line last : List ℕ) (reply : LineReply)
+    → IsUnderWay step before t old mid ((last ++ 10 ∷ []) ++ rest) size count line → has_end last ≡ false → step mid (line_of (line ++ last)) reply new
+    → HasReplied t u (text_of reply) → IsUnderWay step before u old new rest size (count + 1) []
+replies step before t u old mid new rest size count line last reply way whole one replied =
     record {
       input = way.input ++ (last ++ 10 ∷ []);
       written = way.written;
       reads = rw (replied.devices.input, append_assoc way.input (last ++ 10 ∷ []) rest) way.reads;
       writes = rw replied.devices.output way.writes;
-      at = rw (replied.waiting, ← append_assoc way.written t.waiting (text_of answer)) (ends_line call old mid new way.input (way.written ++ t.waiting) count line last answer way.at whole one);
+      at = rw (replied.waiting, ← append_assoc way.written t.waiting (text_of reply)) (ends_line step old mid new way.input (way.written ++ t.waiting) count line last reply way.at whole one);
       size_is = rw (append_assoc way.input (last ++ 10 ∷ []) rest) way.size_is;
     }
 
-pub loses_reply : {E : Type 0} (call : Call E) (before t : ConversationView) (old mid new : E) (rest : List ℕ) (size count : ℕ) (line last : List ℕ) (answer : Answer)
-    → IsUnderWay call before t old mid ((last ++ 10 ∷ []) ++ rest) size count line → has_end last ≡ false → Answers call mid (line_of (line ++ last)) answer new
-    → IsCutOff call before t old new
-loses_reply call before t old mid new rest size count line last answer way whole one =
+pub loses_reply : {X : Type 0} (step : Step X) (before t : ConversationView) (old mid new : X) (rest : List ℕ) (size count : ℕ) (line last : List ℕ) (reply : LineReply)
+    → IsUnderWay step before t old mid ((last ++ 10 ∷ []) ++ rest) size count line → has_end last ≡ false → step mid (line_of (line ++ last)) reply new
+    → IsCutOff step before t old new
+loses_reply step before t old mid new rest size count line last reply way whole one =
     record {
       input = way.input ++ (last ++ 10 ∷ []);
       more = rest;
       written = way.written;
-      lost = text_of answer;
+      lost = text_of reply;
       count = count + 1;
       reads = rw (append_assoc way.input (last ++ 10 ∷ []) rest) way.reads;
       writes = way.writes;
-      session = (ends_line call old mid new way.input (way.written ++ t.waiting) count line last answer way.at whole one).session;
+      session = (ends_line step old mid new way.input (way.written ++ t.waiting) count line last reply way.at whole one).session;
     }
 
-pub cuts_off : {E : Type 0} (call : Call E) (before t : ConversationView) (old new : E) (rest : List ℕ) (size count : ℕ) (line : List ℕ)
-    → IsUnderWay call before t old new rest size count line → IsCutOff call before t old new
-cuts_off call before t old new rest size count line way =
+pub cuts_off : {X : Type 0} (step : Step X) (before t : ConversationView) (old new : X) (rest : List ℕ) (size count : ℕ) (line : List ℕ)
+    → IsUnderWay step before t old new rest size count line → IsCutOff step before t old new
+cuts_off step before t old new rest size count line way =
     record {
       input = way.input;
       more = rest;
@@ -165,24 +165,24 @@ cuts_off call before t old new rest size count line way =
     }
 
 -- a piece of a line
-pub goes_on : {E : Type 0} (call : Call E) (before t : ConversationView) (old new : E) (piece : List ℕ) (size count : ℕ) (line line2 : List ℕ)
-    → IsUnderWay call before t old new piece size count line → has_end piece ≡ false → take 257 line2 ≡ take 257 (line ++ piece)
-    → IsUnderWay call before t old new [] size count line2
-goes_on call before t old new piece size count line line2 way whole front =
+pub goes_on : {X : Type 0} (step : Step X) (before t : ConversationView) (old new : X) (piece : List ℕ) (size count : ℕ) (line line2 : List ℕ)
+    → IsUnderWay step before t old new piece size count line → has_end piece ≡ false → take 257 line2 ≡ take 257 (line ++ piece)
+    → IsUnderWay step before t old new [] size count line2
+goes_on step before t old new piece size count line line2 way whole front =
     record {
       input = way.input ++ piece;
       written = way.written;
       reads = rw (append-nil (way.input ++ piece)) way.reads;
       writes = way.writes;
-      at = goes_further call old new way.input (way.written ++ t.waiting) count line piece line2 way.at whole front;
+      at = goes_further step old new way.input (way.written ++ t.waiting) count line piece line2 way.at whole front;
       size_is = rw (append-nil (way.input ++ piece)) way.size_is;
     }
 
 -- what waited is sent
 
-pub sends : {E : Type 0} (call : Call E) (before t u : ConversationView) (old new : E) (size count : ℕ) (line : List ℕ)
-    → IsUnderWay call before t old new [] size count line → HasSent t u → IsUnderWay call before u old new [] size count line
-sends call before t u old new size count line way sent =
+pub sends : {X : Type 0} (step : Step X) (before t u : ConversationView) (old new : X) (size count : ℕ) (line : List ℕ)
+    → IsUnderWay step before t old new [] size count line → HasSent t u → IsUnderWay step before u old new [] size count line
+sends step before t u old new size count line way sent =
     record {
       input = way.input;
       written = way.written ++ t.waiting;
@@ -192,9 +192,9 @@ sends call before t u old new size count line way sent =
       size_is = way.size_is;
     }
 
-pub sends_cut_off : {E : Type 0} (call : Call E) (before t u : ConversationView) (old new : E) (k : ℕ)
-    → IsCutOff call before t old new → Appends t.output u.output (take k t.waiting) → k ≤ length t.waiting → u.input ≡ t.input → HasStopped call before u old new
-sends_cut_off call before t u old new k cut writes within input =
+pub sends_cut_off : {X : Type 0} (step : Step X) (before t u : ConversationView) (old new : X) (k : ℕ)
+    → IsCutOff step before t old new → Appends t.output u.output (take k t.waiting) → k ≤ length t.waiting → u.input ≡ t.input → HasStopped step before u old new
+sends_cut_off step before t u old new k cut writes within input =
     record {
       input = cut.input;
       more = cut.more;
@@ -207,9 +207,9 @@ sends_cut_off call before t u old new k cut writes within input =
       session = cut.session;
     }
 
-pub sends_much : {E : Type 0} (call : Call E) (before t u : ConversationView) (old new : E) (rest : List ℕ) (size : ℕ) (line : List ℕ)
-    → IsUnderWay call before t old new rest size 1000000 line → 0 < length rest → HasSent t u → HasTooMuch call before u old new
-sends_much call before t u old new rest size line way some sent =
+pub sends_much : {X : Type 0} (step : Step X) (before t u : ConversationView) (old new : X) (rest : List ℕ) (size : ℕ) (line : List ℕ)
+    → IsUnderWay step before t old new rest size 1000000 line → 0 < length rest → HasSent t u → HasTooMuch step before u old new
+sends_much step before t u old new rest size line way some sent =
     record {
       input = way.input;
       more = rest;
@@ -223,10 +223,10 @@ sends_much call before t u old new rest size line way some sent =
     }
 
 -- a byte after the last that may be
-pub one_byte_more : {E : Type 0} (call : Call E) (before t u : ConversationView) (old new : E) (count room : ℕ) (line chunk : List ℕ)
-    → IsUnderWay call before t old new [] 268435456 count line → IsQuiet t → HasRead t u room chunk → 0 < length chunk → HasTooMuch call before u old new
-one_byte_more call before t u old new count room line chunk way quiet read some =
-    let now = reads_more call before t u old new 268435456 count room line chunk way read in
+pub one_byte_more : {X : Type 0} (step : Step X) (before t u : ConversationView) (old new : X) (count room : ℕ) (line chunk : List ℕ)
+    → IsUnderWay step before t old new [] 268435456 count line → IsQuiet t → HasRead t u room chunk → 0 < length chunk → HasTooMuch step before u old new
+one_byte_more step before t u old new count room line chunk way quiet read some =
+    let now = reads_more step before t u old new 268435456 count room line chunk way read in
     record {
       input = way.input;
       more = chunk;

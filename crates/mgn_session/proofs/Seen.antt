@@ -1,44 +1,49 @@
--- A session of an executor is a session of what is seen of it, where each call is.
-use Rattle.std.proofs.Common.{ℕ, List, [], ◌∷◌, Result, Ok, Err, ap}
-use Rattle.mgn_machine.specs.declared.command.Command.{Command}
-use Rattle.mgn_machine.specs.declared.request.Request.TheVariants.{Do}
-use Rattle.mgn_machine.specs.declared.reply.Answer.{Answer}
+-- A session is a session of what is seen of it, where each of its steps is.
+use Rattle.std.proofs.Common.{ℕ, List, [], ◌∷◌, Result, ap}
 use Rattle.mgn_wire.specs.Line.{line_of}
 use Rattle.mgn_wire.specs.declared.fault.LineFault.{LineFault}
+use Rattle.mgn_wire.specs.declared.line.Line.{Line}
+use Rattle.mgn_wire.specs.declared.reply.LineReply.{LineReply}
 use Rattle.mgn_session.specs.Conversation.{ConversationView}
-use Rattle.mgn_session.specs.Session.{Answers, Call, AnswersAll, HasAnswered, HasStopped, HasTooMuch, IsCaughtUp, IsSession}
+use Rattle.mgn_session.specs.Session.{AnswersAll, HasAnswered, HasStopped, HasTooMuch, IsCaughtUp, IsSession, Step}
 
--- a call for a command keeps a fact of the executor, and is one of what is seen
-abbrev pub IsSeen : {E F : Type 0} → (E → F) → (E → Type 0) → Call E → Call F → Type 0
-IsSeen {E = E} see Holds call seen =
-    (old new : E) (command : Command) (answer : Answer) → Holds old → call old (Do command) answer new → seen (see old) (Do command) answer (see new) × Holds new
+-- What is seen may lean on what comes later: a bound that holds after a step held before it, and a step within it keeps a
+-- fact and is one of what is seen.
+pub record IsSeen {X Y : Type 0} (see : X → Y) (Holds Within : X → Type 0) (step : Step X) (seen : Step Y) : Type 0 where
+  pub earlier : (old new : X) (read : Result Line LineFault) (reply : LineReply) → step old read reply new → Within new → Within old
+  pub each : (old new : X) (read : Result Line LineFault) (reply : LineReply)
+      → Holds old → Within new → step old read reply new → seen (see old) read reply (see new) × Holds new
 
-seen_line : {E F : Type 0} (see : E → F) (Holds : E → Type 0) (call : Call E) (seen : Call F)
-    → IsSeen see Holds call seen → (read : Result Command LineFault) (old new : E) (answer : Answer)
-    → Holds old → Answers call old read answer new → Answers seen (see old) read answer (see new) × Holds new
-seen_line see Holds call seen each (Ok command) old new answer holds one = each old new command answer holds one
-seen_line see Holds call seen each (Err fault) old new answer holds one = ((one.0, ap see one.1), rw one.1 holds)
+within_before : {X Y : Type 0} (see : X → Y) (Holds Within : X → Type 0) (step : Step X) (seen : Step Y)
+    → IsSeen see Holds Within step seen → (lines : List (List ℕ)) (replies : List LineReply) (old new : X)
+    → AnswersAll step old lines replies new → Within new → Within old
+within_before see Holds Within step seen is [] [] old new all within = rw all at within
+within_before see Holds Within step seen is [] (reply ∷ replies) old new all within = absurd all
+within_before see Holds Within step seen is (line ∷ lines) [] old new all within = absurd all
+within_before see Holds Within step seen is (line ∷ lines) (reply ∷ replies) old new all within =
+    is.earlier old all.0 (line_of line) reply all.1 (within_before see Holds Within step seen is lines replies all.0 new all.2 within)
 
-pub seen_lines : {E F : Type 0} (see : E → F) (Holds : E → Type 0) (call : Call E) (seen : Call F)
-    → IsSeen see Holds call seen → (lines : List (List ℕ)) (answers : List Answer) (old new : E)
-    → Holds old → AnswersAll call old lines answers new → AnswersAll seen (see old) lines answers (see new) × Holds new
-seen_lines see Holds call seen each [] [] old new holds all = (ap see all, rw all holds)
-seen_lines see Holds call seen each [] (answer ∷ answers) old new holds all = absurd all
-seen_lines see Holds call seen each (line ∷ lines) [] old new holds all = absurd all
-seen_lines see Holds call seen each (line ∷ lines) (answer ∷ answers) old new holds all =
-    let first = seen_line see Holds call seen each (line_of line) old all.0 answer holds all.1 in
-    let rest = seen_lines see Holds call seen each lines answers all.0 new first.1 all.2 in
+seen_lines : {X Y : Type 0} (see : X → Y) (Holds Within : X → Type 0) (step : Step X) (seen : Step Y)
+    → IsSeen see Holds Within step seen → (lines : List (List ℕ)) (replies : List LineReply) (old new : X)
+    → Holds old → Within new → AnswersAll step old lines replies new → AnswersAll seen (see old) lines replies (see new) × Holds new
+seen_lines see Holds Within step seen is [] [] old new holds within all = (ap see all, rw all holds)
+seen_lines see Holds Within step seen is [] (reply ∷ replies) old new holds within all = absurd all
+seen_lines see Holds Within step seen is (line ∷ lines) [] old new holds within all = absurd all
+seen_lines see Holds Within step seen is (line ∷ lines) (reply ∷ replies) old new holds within all =
+    let then = within_before see Holds Within step seen is lines replies all.0 new all.2 within in
+    let first = is.each old all.0 (line_of line) reply holds then all.1 in
+    let rest = seen_lines see Holds Within step seen is lines replies all.0 new first.1 within all.2 in
     ((see all.0, first.0, rest.0), rest.1)
 
-pub seen_session : {E F : Type 0} (see : E → F) (Holds : E → Type 0) (call : Call E) (seen : Call F)
-    → IsSeen see Holds call seen → (old new : E) (input text : List ℕ) (count : ℕ)
-    → Holds old → IsSession call old new input text count → IsSession seen (see old) (see new) input text count × Holds new
-seen_session see Holds call seen each old new input text count holds s =
-    let all = seen_lines see Holds call seen each s.lines s.answers old new holds s.answered in (
+pub seen_session : {X Y : Type 0} (see : X → Y) (Holds Within : X → Type 0) (step : Step X) (seen : Step Y)
+    → IsSeen see Holds Within step seen → (old new : X) (input text : List ℕ) (count : ℕ)
+    → Holds old → Within new → IsSession step old new input text count → IsSession seen (see old) (see new) input text count × Holds new
+seen_session see Holds Within step seen is old new input text count holds within s =
+    let all = seen_lines see Holds Within step seen is s.lines s.replies old new holds within s.answered in (
       record {
         lines = s.lines;
         rest = s.rest;
-        answers = s.answers;
+        replies = s.replies;
         splits = s.splits;
         count_is = s.count_is;
         answered = all.0;
@@ -47,35 +52,41 @@ seen_session see Holds call seen each old new input text count holds s =
       all.1,
     )
 
-abbrev pub seen_caught_up : {E F : Type 0} (see : E → F) (Holds : E → Type 0) (call : Call E) (seen : Call F)
-    → IsSeen see Holds call seen → (before after : ConversationView) (old new : E) (count : ℕ)
-    → Holds old → IsCaughtUp call before after old new count → IsCaughtUp seen before after (see old) (see new) count
-seen_caught_up see Holds call seen each before after old new count holds s =
+pub session_before : {X Y : Type 0} (see : X → Y) (Holds Within : X → Type 0) (step : Step X) (seen : Step Y)
+    → IsSeen see Holds Within step seen → (old new : X) (input text : List ℕ) (count : ℕ)
+    → Within new → IsSession step old new input text count → Within old
+session_before see Holds Within step seen is old new input text count within s =
+    within_before see Holds Within step seen is s.lines s.replies old new s.answered within
+
+abbrev pub seen_caught_up : {X Y : Type 0} (see : X → Y) (Holds Within : X → Type 0) (step : Step X) (seen : Step Y)
+    → IsSeen see Holds Within step seen → (before after : ConversationView) (old new : X) (count : ℕ)
+    → Holds old → Within new → IsCaughtUp step before after old new count → IsCaughtUp seen before after (see old) (see new) count
+seen_caught_up see Holds Within step seen is before after old new count holds within s =
     record {
       input = s.input;
       text = s.text;
       reads = s.reads;
       writes = s.writes;
-      session = (seen_session see Holds call seen each old new s.input s.text count holds s.session).0;
+      session = (seen_session see Holds Within step seen is old new s.input s.text count holds within s.session).0;
       quiet = s.quiet;
     }
 
-pub seen_answered : {E F : Type 0} (see : E → F) (Holds : E → Type 0) (call : Call E) (seen : Call F)
-    → IsSeen see Holds call seen → (before after : ConversationView) (old new : E) (count : ℕ)
-    → Holds old → HasAnswered call before after old new count → HasAnswered seen before after (see old) (see new) count
-seen_answered see Holds call seen each before after old new count holds s =
+pub seen_answered : {X Y : Type 0} (see : X → Y) (Holds Within : X → Type 0) (step : Step X) (seen : Step Y)
+    → IsSeen see Holds Within step seen → (before after : ConversationView) (old new : X) (count : ℕ)
+    → Holds old → Within new → HasAnswered step before after old new count → HasAnswered seen before after (see old) (see new) count
+seen_answered see Holds Within step seen is before after old new count holds within s =
     record {
-      all = seen_caught_up see Holds call seen each before after old new count holds s.all;
+      all = seen_caught_up see Holds Within step seen is before after old new count holds within s.all;
       end = s.end;
       ended = s.ended;
       lines = s.lines;
       bytes = s.bytes;
     }
 
-pub seen_stopped : {E F : Type 0} (see : E → F) (Holds : E → Type 0) (call : Call E) (seen : Call F)
-    → IsSeen see Holds call seen → (before after : ConversationView) (old new : E)
-    → Holds old → HasStopped call before after old new → HasStopped seen before after (see old) (see new)
-seen_stopped see Holds call seen each before after old new holds s =
+pub seen_stopped : {X Y : Type 0} (see : X → Y) (Holds Within : X → Type 0) (step : Step X) (seen : Step Y)
+    → IsSeen see Holds Within step seen → (before after : ConversationView) (old new : X)
+    → Holds old → Within new → HasStopped step before after old new → HasStopped seen before after (see old) (see new)
+seen_stopped see Holds Within step seen is before after old new holds within s =
     record {
       input = s.input;
       more = s.more;
@@ -84,13 +95,13 @@ seen_stopped see Holds call seen each before after old new holds s =
       sent = s.sent;
       reads = s.reads;
       writes = s.writes;
-      session = (seen_session see Holds call seen each old new s.input s.text s.count holds s.session).0;
+      session = (seen_session see Holds Within step seen is old new s.input s.text s.count holds within s.session).0;
     }
 
-pub seen_too_much : {E F : Type 0} (see : E → F) (Holds : E → Type 0) (call : Call E) (seen : Call F)
-    → IsSeen see Holds call seen → (before after : ConversationView) (old new : E)
-    → Holds old → HasTooMuch call before after old new → HasTooMuch seen before after (see old) (see new)
-seen_too_much see Holds call seen each before after old new holds s =
+pub seen_too_much : {X Y : Type 0} (see : X → Y) (Holds Within : X → Type 0) (step : Step X) (seen : Step Y)
+    → IsSeen see Holds Within step seen → (before after : ConversationView) (old new : X)
+    → Holds old → Within new → HasTooMuch step before after old new → HasTooMuch seen before after (see old) (see new)
+seen_too_much see Holds Within step seen is before after old new holds within s =
     record {
       input = s.input;
       more = s.more;
@@ -100,5 +111,5 @@ seen_too_much see Holds call seen each before after old new holds s =
       bound = s.bound;
       reads = s.reads;
       writes = s.writes;
-      session = (seen_session see Holds call seen each old new s.input s.text s.count holds s.session).0;
+      session = (seen_session see Holds Within step seen is old new s.input s.text s.count holds within s.session).0;
     }

@@ -2,26 +2,26 @@
 use Rattle.std.specs.Prelude.{◌≡◌, ℕ, List, ◌++◌, length, take}
 use Rattle.std.specs.Io.KnownBytes.{Appends, Consumes}
 use Rattle.mgn_session.specs.Conversation.{ConversationView}
-use Rattle.mgn_session.specs.Session.{Call, IsSession}
+use Rattle.mgn_session.specs.Session.{IsSession, Step}
 
 -- a session of which `line` tells as much of the line at hand as a line can need
-pub record IsAt {E : Type 0} (call : Call E) (old new : E) (input text : List ℕ) (count : ℕ) (line : List ℕ) : Type 0 where
-  pub session : IsSession call old new input text count
+pub record IsAt {X : Type 0} (step : Step X) (old new : X) (input text : List ℕ) (count : ℕ) (line : List ℕ) : Type 0 where
+  pub session : IsSession step old new input text count
   pub front : take 257 line ≡ take 257 session.rest
 
 -- Since `before` the input was taken line by line, and `pending` was read beyond it, `size` bytes together. The text of
 -- the answers was written or waits.
-pub record IsUnderWay {E : Type 0} (call : Call E) (before now : ConversationView) (old new : E)
+pub record IsUnderWay {X : Type 0} (step : Step X) (before now : ConversationView) (old new : X)
     (pending : List ℕ) (size count : ℕ) (line : List ℕ) : Type 0 where
   pub input : List ℕ
   pub written : List ℕ
   pub reads : Consumes before.input now.input (input ++ pending)
   pub writes : Appends before.output now.output written
-  pub at : IsAt call old new input (written ++ now.waiting) count line
+  pub at : IsAt step old new input (written ++ now.waiting) count line
   pub size_is : size ≡ length (input ++ pending)
 
 -- The session goes no further. Of the text of the answers a prefix was written or waits.
-pub record IsCutOff {E : Type 0} (call : Call E) (before now : ConversationView) (old new : E) : Type 0 where
+pub record IsCutOff {X : Type 0} (step : Step X) (before now : ConversationView) (old new : X) : Type 0 where
   pub input : List ℕ
   pub more : List ℕ
   pub written : List ℕ
@@ -29,4 +29,4 @@ pub record IsCutOff {E : Type 0} (call : Call E) (before now : ConversationView)
   pub count : ℕ
   pub reads : Consumes before.input now.input (input ++ more)
   pub writes : Appends before.output now.output written
-  pub session : IsSession call old new input ((written ++ now.waiting) ++ lost) count
+  pub session : IsSession step old new input ((written ++ now.waiting) ++ lost) count

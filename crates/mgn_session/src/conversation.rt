@@ -7,8 +7,7 @@ ghost use Rattle.mgn_session.specs.Conversation.{HasFailedToRead, HasFailedToSen
 
 use crate::counted::Counted;
 use crate::fault::SessionFault;
-use mgn_machine::Answer;
-use mgn_wire::{Memory, reply_text};
+use mgn_wire::{LineReply, Memory, reply_text};
 use std::alloc::Global;
 use std::io::{Read, Write};
 use std::marker::Model;
@@ -145,12 +144,12 @@ impl<R: Read, W: Write> Conversation<R, W> {
     }
 
     /// Replies to a line that is owed a reply. The text waits to be sent.
-    pub fn reply(&mut self, answer: &Answer) -> Result<(), Memory>
+    pub fn reply(&mut self, reply: &LineReply) -> Result<(), Memory>
         requires { 0 < self.old.owed }
-        ensures ok { OnOk result (HasReplied self.old self.new (text_of answer.now)) }
+        ensures ok { OnOk result (HasReplied self.old self.new (text_of reply.now)) }
         ensures err { OnErr result (self.new ≡ self.old) }
     {
-        reply_text(answer, &mut self.waiting)?;
+        reply_text(reply, &mut self.waiting)?;
         self.owed -= 1;
         Ok(())
     }

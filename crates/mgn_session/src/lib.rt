@@ -7,6 +7,7 @@ pub mod exec;
 pub mod fault;
 mod line_buffer;
 pub mod run;
+pub mod source;
 #[cfg(test)]
 mod tests;
 
@@ -15,3 +16,4 @@ pub use counted::Counted;
 pub use exec::Exec;
 pub use fault::SessionFault;
 pub use run::run_lines;
+pub use source::{NoFiles, SetSource, SourceFault};

@@ -1,14 +1,18 @@
-ghost use Rattle.std.specs.Prelude.{◌≡◌, ◌⊎◌, ◌+◌, ◌<◌, ◌≤◌, ◌∷◌, [], ◌++◌, ℕ, List, take, length, IfOk, IfErr, OnOk, OnErr, position, ◌==◌, false};
+ghost use Rattle.std.specs.Prelude.{◌≡◌, ◌⊎◌, ◌+◌, ◌<◌, ◌≤◌, ◌∷◌, [], ◌++◌, ℕ, List, take, length, None, Ok, IfOk, IfErr, OnOk, OnErr, position, ◌==◌, false};
+ghost use Rattle.mgn_machine.specs.declared.reply.Reply.TheVariants as Reply;
 ghost use Rattle.mgn_wire.specs.Line.{line_of};
 ghost use Rattle.mgn_session.specs.Conversation.{ConversationView, KeepsDevices, line_ends};
-ghost use Rattle.mgn_session.specs.Session.{Answers, Calls, has_end, refusal_of};
+ghost use Rattle.mgn_session.specs.Session.{Answers, Calls, Switches, has_end};
 ghost use Rattle.mgn_session.specs.SessionInside.{IsCutOff, IsUnderWay};
 
 use crate::conversation::Conversation;
 use crate::exec::Exec;
 use crate::fault::SessionFault;
+use crate::source::{SetSource, SourceFault};
+use mgn_ids::SetName;
 use mgn_machine::{Answer, Refusal, Request};
-use mgn_wire::{LineFault, Memory, read_line};
+use mgn_setfile::{Cause, read_set};
+use mgn_wire::{Line, LineFault, LineReply, Memory, read_line};
 use std::alloc::Global;
 use std::io::{Read, Write};
 
@@ -18,22 +22,53 @@ const LONGEST: usize = 257;
 /// The most lines that a session answers.
 pub(crate) const MAX_LINES: u64 = 1_000_000;
 
-fn refusal_of(fault: LineFault) -> Refusal
-    ensures { result ≡ refusal_of fault }
+fn no_memory() -> LineReply
+    ensures { result ≡ LineReply.Answered record { place = None; reply = Reply.Refused Refusal.Memory } }
 {
-    match fault {
-        LineFault::Long => Refusal::Long,
-        LineFault::Syntax => Refusal::Syntax,
-        LineFault::Range => Refusal::Range,
+    LineReply::Answered(Answer::refused(Refusal::Memory))
+}
+
+// Has the executor answer the switch to the set of a file.
+fn switch<E: Exec>(alloc: Global, exec: &mut E, file: &[u8]) -> LineReply
+    ensures { Switches (Calls E.entries E.is_full E.does) exec.old (Ok file.now) result exec.new }
+{
+    match read_set(alloc, file) {
+        Ok(set) => LineReply::Answered(exec.exec(Request::Switch(set))),
+        Err(fault) => match fault.cause {
+            Cause::Memory => no_memory(),
+            _ => LineReply::BadSet(fault.line),
+        },
     }
 }
 
-fn answer_line<E: Exec>(exec: &mut E, line: &[u8]) -> Answer
-    ensures { Answers (Calls E.entries E.is_full E.does) exec.old (line_of line.now) result exec.new }
+// Has the executor answer the switch to a set, if the source gives its file.
+fn answer_switch<E: Exec, S: SetSource>(
+    alloc: Global,
+    exec: &mut E,
+    source: &mut S,
+    name: &SetName,
+) -> LineReply
+    ensures { Answers (Calls E.entries E.is_full E.does) S.gives (exec.old, source.old) (Ok (Line.Switch name.now)) result (exec.new, source.new) }
 {
-    match read_line(line) {
-        Ok(command) => exec.exec(Request::Do(command)),
-        Err(fault) => Answer::refused(refusal_of(fault)),
+    match source.fetch(name) {
+        Ok(file) => switch(alloc, exec, file.as_slice()),
+        Err(SourceFault::Memory) => no_memory(),
+        Err(_) => LineReply::NoSet,
+    }
+}
+
+fn answer_line<E: Exec, S: SetSource>(
+    alloc: Global,
+    exec: &mut E,
+    source: &mut S,
+    read: &Result<Line, LineFault>,
+) -> LineReply
+    ensures { Answers (Calls E.entries E.is_full E.does) S.gives (exec.old, source.old) read.now result (exec.new, source.new) }
+{
+    match read {
+        Ok(Line::Do(command)) => LineReply::Answered(exec.exec(Request::Do(*command))),
+        Ok(Line::Switch(name)) => answer_switch(alloc, exec, source, name),
+        Err(fault) => LineReply::NotRead(*fault),
     }
 }
 
@@ -56,19 +91,26 @@ fn find_end(text: &[u8]) -> Option<usize>
 }
 
 // Answers the line that ends with `last`, of which `line` has what came before.
-fn answer_ended<E: Exec>(line: &mut Vec<u8>, exec: &mut E, last: &[u8]) -> Result<Answer, Memory>
-    ensures ok { IfOk result (λ answer. Answers (Calls E.entries E.is_full E.does) exec.old
-        (line_of (line.old.items ++ last.now)) answer exec.new) }
-    ensures err { OnErr result (exec.new ≡ exec.old) }
+fn answer_ended<E: Exec, S: SetSource>(
+    line: &mut Vec<u8>,
+    exec: &mut E,
+    source: &mut S,
+    last: &[u8],
+) -> Result<LineReply, Memory>
+    ensures ok { IfOk result (λ reply. Answers (Calls E.entries E.is_full E.does) S.gives (exec.old, source.old)
+        (line_of (line.old.items ++ last.now)) reply (exec.new, source.new)) }
+    ensures exec { OnErr result (exec.new ≡ exec.old) }
+    ensures source { OnErr result (source.new ≡ source.old) }
     ensures line { OnOk result (line.new.items ≡ []) }
 {
+    let alloc = *line.allocator();
     if line.is_empty() {
-        return Ok(answer_line(exec, last));
+        return Ok(answer_line(alloc, exec, source, &read_line(last)));
     }
     keep(line, last)?;
-    let answer = answer_line(exec, line.as_slice());
+    let reply = answer_line(alloc, exec, source, &read_line(line.as_slice()));
     line.clear();
-    Ok(answer)
+    Ok(reply)
 }
 
 /// The front of the line at hand, and the number of lines answered.
@@ -90,58 +132,60 @@ impl LineBuffer {
     }
 
     // Answers the line at hand, which ends with `last`. Room for its reply is made before its command changes anything.
-    fn end_line<R: Read, W: Write, E: Exec>(
+    fn end_line<R: Read, W: Write, E: Exec, S: SetSource>(
         &mut self,
         talk: &mut Conversation<R, W>,
         exec: &mut E,
+        source: &mut S,
         last: &[u8],
     ) -> Result<(), Memory>
         requires lines { self.old.lines < MAX_LINES }
         requires owed { 0 < talk.old.owed }
-        ensures ok { (before : ConversationView) (first : E) (rest : List ℕ) (size : ℕ) → has_end last.now ≡ false →
-            IsUnderWay (Calls E.entries E.is_full E.does) before talk.old first exec.old
+        ensures ok { (before : ConversationView) (first : E × S) (rest : List ℕ) (size : ℕ) → has_end last.now ≡ false →
+            IsUnderWay (Answers (Calls E.entries E.is_full E.does) S.gives) before talk.old first (exec.old, source.old)
             ((last.now ++ 10 ∷ []) ++ rest) size self.old.lines self.old.line.items →
-            OnOk result (IsUnderWay (Calls E.entries E.is_full E.does) before talk.new first exec.new
+            OnOk result (IsUnderWay (Answers (Calls E.entries E.is_full E.does) S.gives) before talk.new first (exec.new, source.new)
             rest size self.new.lines self.new.line.items) }
-        ensures err { (before : ConversationView) (first : E) (rest : List ℕ) (size : ℕ) → has_end last.now ≡ false →
-            IsUnderWay (Calls E.entries E.is_full E.does) before talk.old first exec.old
+        ensures err { (before : ConversationView) (first : E × S) (rest : List ℕ) (size : ℕ) → has_end last.now ≡ false →
+            IsUnderWay (Answers (Calls E.entries E.is_full E.does) S.gives) before talk.old first (exec.old, source.old)
             ((last.now ++ 10 ∷ []) ++ rest) size self.old.lines self.old.line.items →
-            OnErr result (IsCutOff (Calls E.entries E.is_full E.does) before talk.new first exec.new) }
+            OnErr result (IsCutOff (Answers (Calls E.entries E.is_full E.does) S.gives) before talk.new first (exec.new, source.new)) }
         ensures count { OnOk result (self.new.lines ≡ self.old.lines + 1) }
         ensures owed { OnOk result (talk.new.owed + 1 ≡ talk.old.owed) }
         ensures devices { KeepsDevices talk.old talk.new }
     {
         talk.reserve()?;
-        let answer = answer_ended(&mut self.line, exec, last)?;
-        talk.reply(&answer)?;
+        let reply = answer_ended(&mut self.line, exec, source, last)?;
+        talk.reply(&reply)?;
         self.lines += 1;
         Ok(())
     }
 
     /// Takes the bytes of a chunk, and answers each line that ends in it. `Lines` where one comes after the last line
     /// that may be, and `Memory`.
-    pub fn take_chunk<R: Read, W: Write, E: Exec>(
+    pub fn take_chunk<R: Read, W: Write, E: Exec, S: SetSource>(
         &mut self,
         talk: &mut Conversation<R, W>,
         exec: &mut E,
+        source: &mut S,
         chunk: &[u8],
     ) -> Result<(), SessionFault>
         requires lines { self.old.lines ≤ MAX_LINES }
         requires owed { talk.old.owed ≡ line_ends chunk.now }
-        ensures ok { (before : ConversationView) (first : E) (size : ℕ) →
-            IsUnderWay (Calls E.entries E.is_full E.does) before talk.old first exec.old
+        ensures ok { (before : ConversationView) (first : E × S) (size : ℕ) →
+            IsUnderWay (Answers (Calls E.entries E.is_full E.does) S.gives) before talk.old first (exec.old, source.old)
             chunk.now size self.old.lines self.old.line.items →
-            OnOk result (IsUnderWay (Calls E.entries E.is_full E.does) before talk.new first exec.new
+            OnOk result (IsUnderWay (Answers (Calls E.entries E.is_full E.does) S.gives) before talk.new first (exec.new, source.new)
             [] size self.new.lines self.new.line.items) }
-        ensures err { (before : ConversationView) (first : E) (size : ℕ) →
-            IsUnderWay (Calls E.entries E.is_full E.does) before talk.old first exec.old
+        ensures err { (before : ConversationView) (first : E × S) (size : ℕ) →
+            IsUnderWay (Answers (Calls E.entries E.is_full E.does) S.gives) before talk.old first (exec.old, source.old)
             chunk.now size self.old.lines self.old.line.items →
-            OnErr result (IsCutOff (Calls E.entries E.is_full E.does) before talk.new first exec.new) }
-        ensures many { (before : ConversationView) (first : E) (size : ℕ) →
-            IsUnderWay (Calls E.entries E.is_full E.does) before talk.old first exec.old
+            OnErr result (IsCutOff (Answers (Calls E.entries E.is_full E.does) S.gives) before talk.new first (exec.new, source.new)) }
+        ensures many { (before : ConversationView) (first : E × S) (size : ℕ) →
+            IsUnderWay (Answers (Calls E.entries E.is_full E.does) S.gives) before talk.old first (exec.old, source.old)
             chunk.now size self.old.lines self.old.line.items →
             IfErr result (λ fault. fault ≡ SessionFault.Lines → (rest : List ℕ) × (0 < length rest)
-            × IsUnderWay (Calls E.entries E.is_full E.does) before talk.new first exec.new
+            × IsUnderWay (Answers (Calls E.entries E.is_full E.does) S.gives) before talk.new first (exec.new, source.new)
             rest size MAX_LINES self.new.line.items) }
         ensures fault { IfErr result (λ fault. (fault ≡ SessionFault.Memory) ⊎ (fault ≡ SessionFault.Lines)) }
         ensures lines { OnOk result (self.new.lines ≤ MAX_LINES) }
@@ -156,7 +200,7 @@ impl LineBuffer {
             let left = &chunk[at..];
             match find_end(left) {
                 Some(end) => {
-                    self.end_line(talk, exec, &left[..end])?;
+                    self.end_line(talk, exec, source, &left[..end])?;
                     at += end + 1;
                 }
                 None => {

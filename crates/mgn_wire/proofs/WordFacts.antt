@@ -11,13 +11,13 @@ use Rattle.std.proofs.lemmas.List.Quantifiers.{position-Some}
 use Rattle.std.proofs.Math.Seq.{take-append_seam}
 use Rattle.std.proofs.lemmas.List.Folds.{list_all-map}
 use Rattle.mgn_wire.specs.Word.{words_of, words_left}
-use Rattle.mgn_wire.specs.Line.{all_filled, command_of, in_line, line_of}
+use Rattle.mgn_wire.specs.Line.{all_filled, line_in, of_words, line_of}
 use Rattle.mgn_ids.specs.declared.fault.IdFault.TheVariants.{Syntax}
 use Rattle.mgn_wire.specs.declared.fault.LineFault.TheVariants as fault
 
 -- no command has seven words, so the first seven say as much as all of them
-first_seven : (words : List (List ℕ)) → command_of (take 7 words) ≡ command_of words
-unfolding command_of
+first_seven : (words : List (List ℕ)) → line_in (take 7 words) ≡ line_in words
+unfolding line_in
 first_seven [] = refl
 first_seven (verb ∷ []) = refl
 first_seven (verb ∷ a ∷ []) = refl
@@ -28,8 +28,8 @@ first_seven (verb ∷ a ∷ b ∷ c ∷ d ∷ e ∷ []) = refl
 first_seven (verb ∷ a ∷ b ∷ c ∷ d ∷ e ∷ f ∷ more) = refl
 
 -- where the first seven are filled and another is empty, there are more than six
-empty_later : (words : List (List ℕ)) → all_filled (take 7 words) ≡ true → all_filled words ≡ false → command_of (take 7 words) ≡ Err Syntax
-unfolding command_of
+empty_later : (words : List (List ℕ)) → all_filled (take 7 words) ≡ true → all_filled words ≡ false → line_in (take 7 words) ≡ Err Syntax
+unfolding line_in
 empty_later [] front all = cc
 empty_later (verb ∷ []) front all = cc
 empty_later (verb ∷ a ∷ []) front all = cc
@@ -99,12 +99,12 @@ line_unfilled line items few e fails =
     rw (short (length line) few, empty_early (λ word. nat_lt 0 (length word)) 7 (words_of line) front) refl
 
 by_filled : (b : Bool) (words : List (List ℕ)) → all_filled words ≡ b → all_filled (take 7 words) ≡ true
-    → cond b (in_line (command_of words)) (Err fault.Syntax) ≡ in_line (command_of (take 7 words))
-by_filled true words all front = ap in_line (sym (first_seven words))
-by_filled false words all front = ap in_line (sym (empty_later words front all))
+    → cond b (of_words (line_in words)) (Err fault.Syntax) ≡ of_words (line_in (take 7 words))
+by_filled true words all front = ap of_words (sym (first_seven words))
+by_filled false words all front = ap of_words (sym (empty_later words front all))
 
 pub line_filled : (line : List ℕ) (items : List (Bor (List ℕ))) → length line ≤ 256 → map (λ s. s.now) items ≡ take 7 (words_of line)
-    → list_all (λ (s : Bor (List ℕ)). nat_lt 0 (length s.now)) items ≡ true → line_of line ≡ in_line (command_of (map (λ s. s.now) items))
+    → list_all (λ (s : Bor (List ℕ)). nat_lt 0 (length s.now)) items ≡ true → line_of line ≡ of_words (line_in (map (λ s. s.now) items))
 line_filled line items few e passes =
     let front : all_filled (take 7 (words_of line)) ≡ true = rw (sym e, list_all-map) passes in
     rw (short (length line) few, e) (by_filled (all_filled (words_of line)) (words_of line) refl front)

@@ -1,4 +1,4 @@
--- The command of a line, or the first fault that applies (own format).
+-- What a line asks for, or the first fault that applies (own format).
 use Rattle.std.specs.Prelude.{ℕ, Bool, nat_lt, if◌then◌else◌, List, [], ◌∷◌, length, Result, Ok, Err, codes}
 use Rattle.std.specs.List.{list_all}
 use Rattle.std.specs.Str.{bytes_eq}
@@ -12,137 +12,79 @@ use Rattle.mgn_machine.specs.declared.command.Command.TheVariants.{NewOrigin, Ne
 use Rattle.mgn_wire.specs.Word.{words_of, mode_in}
 use Rattle.mgn_wire.specs.declared.fault.LineFault.{LineFault}
 use Rattle.mgn_wire.specs.declared.fault.LineFault.TheVariants as line
+use Rattle.mgn_wire.specs.declared.line.Line.{Line}
+use Rattle.mgn_wire.specs.declared.line.Line.TheVariants.{Do, Switch}
 
-infixl 10 ◌>>=◌
-abbrev pub ◌>>=◌ : {A B : Type 0} → Result A IdFault → (A → Result B IdFault) → Result B IdFault
-(Ok x) >>= f = f x
-(Err fault) >>= f = Err fault
+-- one word more of a command: from left to right, so the leftmost that is wrong decides
+infixl 10 ◌<*>◌
+abbrev pub ◌<*>◌ : {A B : Type 0} → Result (A → B) IdFault → Result A IdFault → Result B IdFault
+(Ok f) <*> (Ok x) = Ok (f x)
+(Ok f) <*> (Err fault) = Err fault
+(Err fault) <*> x = Err fault
 
--- Each command by its words: the leftmost that is wrong decides.
+-- a command of two, three and five words
+abbrev pub reads2 : {A B C : Type 0} → (A → B → C) → Result A IdFault → Result B IdFault → Result C IdFault
+reads2 f a b = Ok f <*> a <*> b
 
-unfoldable pub ask_of : List ℕ → Result Command IdFault
-ask_of account = do
-  name ← name_in account
-  Ok (Ask name)
+abbrev pub reads3 : {A B C D : Type 0} → (A → B → C → D) → Result A IdFault → Result B IdFault → Result C IdFault → Result D IdFault
+reads3 f a b c = Ok f <*> a <*> b <*> c
 
-unfoldable pub open_of : List ℕ → List ℕ → Result Command IdFault
-open_of account origin = do
-  name ← name_in account
-  within ← name_in origin
-  Ok (NewAccount name within)
-
-unfoldable pub bust_of : List ℕ → List ℕ → Result Command IdFault
-bust_of account lot = do
-  name ← name_in account
-  number ← number_in lot
-  Ok (Bust name number)
-
-unfoldable pub origin_of : List ℕ → List ℕ → Result Command IdFault
-origin_of origin mode = do
-  name ← name_in origin
-  margined ← mode_in mode
-  Ok (NewOrigin name margined)
-
-unfoldable pub draw_of : List ℕ → List ℕ → List ℕ → Result Command IdFault
-draw_of account class units = do
-  name ← name_in account
-  drawn ← name_in class
-  count ← units_in units
-  Ok (Draw name drawn count)
-
-unfoldable pub post_of : List ℕ → List ℕ → List ℕ → Result Command IdFault
-post_of account class units = do
-  name ← name_in account
-  posted ← name_in class
-  count ← units_in units
-  Ok (Post name posted count)
-
-unfoldable pub trade_of : List ℕ → List ℕ → List ℕ → List ℕ → List ℕ → Result Command IdFault
-trade_of account lot contract quantity premium = do
-  name ← name_in account
-  number ← number_in lot
-  traded ← name_in contract
-  size ← quantity_in quantity
-  price ← premium_in premium
-  Ok (Trade name number traded size price)
-
-unfoldable pub hold_of : List ℕ → List ℕ → List ℕ → List ℕ → List ℕ → Result Command IdFault
-hold_of account order contract quantity limit = do
-  name ← name_in account
-  number ← number_in order
-  held ← name_in contract
-  size ← quantity_in quantity
-  price ← premium_in limit
-  Ok (Hold name number held size price)
-
-unfoldable pub fill_of : List ℕ → List ℕ → List ℕ → List ℕ → List ℕ → Result Command IdFault
-fill_of account order lot quantity premium = do
-  name ← name_in account
-  number ← number_in order
-  entry ← number_in lot
-  size ← quantity_in quantity
-  price ← premium_in premium
-  Ok (Fill name number entry size price)
-
-unfoldable pub release_of : List ℕ → List ℕ → Result Command IdFault
-release_of account order = do
-  name ← name_in account
-  number ← number_in order
-  Ok (Release name number)
+abbrev pub reads5 : {A B C D E F : Type 0} → (A → B → C → D → E → F) → Result A IdFault → Result B IdFault → Result C IdFault → Result D IdFault → Result E IdFault → Result F IdFault
+reads5 f a b c d e = Ok f <*> a <*> b <*> c <*> d <*> e
 
 -- The first word names the command, which has as many words after it.
 
 unfoldable pub with_none : List ℕ → Result Command IdFault
 with_none verb = if bytes_eq verb (codes "END") then Ok EndDay else Err Syntax
 
-unfoldable pub with_one : List ℕ → List ℕ → Result Command IdFault
-with_one verb a = if bytes_eq verb (codes "ASK") then ask_of a else Err Syntax
+unfoldable pub with_one : List ℕ → List ℕ → Result Line IdFault
+with_one verb a =
+    if bytes_eq verb (codes "ASK") then Ok (λ name. Do (Ask name)) <*> name_in a
+    else if bytes_eq verb (codes "SWITCH") then Ok Switch <*> name_in a
+    else Err Syntax
 
 unfoldable pub with_two : List ℕ → List ℕ → List ℕ → Result Command IdFault
 with_two verb a b =
-    if bytes_eq verb (codes "BUST") then bust_of a b
-    else if bytes_eq verb (codes "OPEN") then open_of a b
-    else if bytes_eq verb (codes "ORIGIN") then origin_of a b
-    else if bytes_eq verb (codes "RELEASE") then release_of a b
+    if bytes_eq verb (codes "BUST") then reads2 Bust (name_in a) (number_in b)
+    else if bytes_eq verb (codes "OPEN") then reads2 NewAccount (name_in a) (name_in b)
+    else if bytes_eq verb (codes "ORIGIN") then reads2 NewOrigin (name_in a) (mode_in b)
+    else if bytes_eq verb (codes "RELEASE") then reads2 Release (name_in a) (number_in b)
     else Err Syntax
 
 unfoldable pub with_three : List ℕ → List ℕ → List ℕ → List ℕ → Result Command IdFault
 with_three verb a b c =
-    if bytes_eq verb (codes "POST") then post_of a b c
-    else if bytes_eq verb (codes "DRAW") then draw_of a b c
+    if bytes_eq verb (codes "POST") then reads3 Post (name_in a) (name_in b) (units_in c)
+    else if bytes_eq verb (codes "DRAW") then reads3 Draw (name_in a) (name_in b) (units_in c)
     else Err Syntax
 
 unfoldable pub with_five : List ℕ → List ℕ → List ℕ → List ℕ → List ℕ → List ℕ → Result Command IdFault
 with_five verb a b c d e =
-    if bytes_eq verb (codes "TRADE") then trade_of a b c d e
-    else if bytes_eq verb (codes "HOLD") then hold_of a b c d e
-    else if bytes_eq verb (codes "FILL") then fill_of a b c d e
+    if bytes_eq verb (codes "TRADE") then reads5 Trade (name_in a) (number_in b) (name_in c) (quantity_in d) (premium_in e)
+    else if bytes_eq verb (codes "HOLD") then reads5 Hold (name_in a) (number_in b) (name_in c) (quantity_in d) (premium_in e)
+    else if bytes_eq verb (codes "FILL") then reads5 Fill (name_in a) (number_in b) (number_in c) (quantity_in d) (premium_in e)
     else Err Syntax
 
-unfoldable pub command_of : List (List ℕ) → Result Command IdFault
-command_of (verb ∷ []) = with_none verb
-command_of (verb ∷ a ∷ []) = with_one verb a
-command_of (verb ∷ a ∷ b ∷ []) = with_two verb a b
-command_of (verb ∷ a ∷ b ∷ c ∷ []) = with_three verb a b c
-command_of (verb ∷ a ∷ b ∷ c ∷ d ∷ e ∷ []) = with_five verb a b c d e
-command_of _ = Err Syntax
+unfoldable pub line_in : List (List ℕ) → Result Line IdFault
+line_in (verb ∷ []) = Ok Do <*> with_none verb
+line_in (verb ∷ a ∷ []) = with_one verb a
+line_in (verb ∷ a ∷ b ∷ []) = Ok Do <*> with_two verb a b
+line_in (verb ∷ a ∷ b ∷ c ∷ []) = Ok Do <*> with_three verb a b c
+line_in (verb ∷ a ∷ b ∷ c ∷ d ∷ e ∷ []) = Ok Do <*> with_five verb a b c d e
+line_in _ = Err Syntax
 
 -- no word is empty
 abbrev pub all_filled : List (List ℕ) → Bool
 all_filled words = list_all (λ word. nat_lt 0 (length word)) words
 
 -- what is wrong with a word is wrong with its line
-abbrev pub fault_of : IdFault → LineFault
-fault_of Syntax = line.Syntax
-fault_of Range = line.Range
+abbrev pub of_words : {A : Type 0} → Result A IdFault → Result A LineFault
+of_words (Ok x) = Ok x
+of_words (Err Syntax) = Err line.Syntax
+of_words (Err Range) = Err line.Range
 
-abbrev pub in_line : {A : Type 0} → Result A IdFault → Result A LineFault
-in_line (Ok x) = Ok x
-in_line (Err fault) = Err (fault_of fault)
-
--- the command of a line, or the first fault that applies
-abbrev pub line_of : List ℕ → Result Command LineFault
+-- what a line asks for, or the first fault that applies
+abbrev pub line_of : List ℕ → Result Line LineFault
 line_of bytes =
     if nat_lt 256 (length bytes) then Err line.Long
-    else if all_filled (words_of bytes) then in_line (command_of (words_of bytes))
+    else if all_filled (words_of bytes) then of_words (line_in (words_of bytes))
     else Err line.Syntax

@@ -1,19 +1,20 @@
--- The text of an answer (own format).
+-- The text of what a line is answered (own format).
 use Rattle.std.specs.Prelude.{ℕ, ℤ, List, [], ◌++◌, Option, Some, None, codes}
 use Rattle.std.specs.Fmt.{decimal, signed_decimal}
 use Rattle.mgn_machine.specs.declared.reply.Refusal.{Refusal}
-use Rattle.mgn_machine.specs.declared.reply.Refusal.TheVariants.{Syntax, Long, Range, NoAccount, NoOrigin, Duplicate, NoContract, NoTrade, NoClass, NoRoom, Limit, Premium, Over, Moved, Missing, Sets, Closed, Memory, Full, NoOrder}
+use Rattle.mgn_machine.specs.declared.reply.Refusal.TheVariants.{NoAccount, NoOrigin, Duplicate, NoContract, NoTrade, NoClass, NoRoom, Limit, Premium, Over, Moved, Missing, Sets, Closed, Memory, Full, NoOrder}
 use Rattle.mgn_machine.specs.declared.reply.Figures.{Figures}
 use Rattle.mgn_machine.specs.declared.reply.NewSet.{NewSet}
 use Rattle.mgn_machine.specs.declared.reply.Reply.{Reply}
 use Rattle.mgn_machine.specs.declared.reply.Reply.TheVariants as reply
 use Rattle.mgn_machine.specs.declared.reply.Answer.{Answer}
+use Rattle.mgn_wire.specs.declared.fault.LineFault.{LineFault}
+use Rattle.mgn_wire.specs.declared.fault.LineFault.TheVariants.{Long, Syntax, Range}
+use Rattle.mgn_wire.specs.declared.reply.LineReply.{LineReply}
+use Rattle.mgn_wire.specs.declared.reply.LineReply.TheVariants.{Answered, NotRead, NoSet, BadSet}
 
 -- each refusal with its code and its name
 abbrev pub refusal_text : Refusal → List ℕ
-refusal_text Syntax = codes "10 SYNTAX"
-refusal_text Long = codes "11 LONG"
-refusal_text Range = codes "12 RANGE"
 refusal_text NoAccount = codes "20 NOACCT"
 refusal_text NoOrigin = codes "21 NOORIGIN"
 refusal_text Duplicate = codes "22 DUP"
@@ -58,6 +59,18 @@ reply_of place (reply.Figures figures) = codes "OK" ++ place_text place ++ figur
 reply_of place (reply.NewSet told) = codes "OK" ++ place_text place ++ set_text told
 reply_of place (reply.Refused refusal) = codes "ERR" ++ place_text place ++ codes " " ++ refusal_text refusal
 
--- the text of an answer, a line
-unfoldable pub text_of : Answer → List ℕ
-text_of answer = reply_of answer.place answer.reply ++ codes "\n"
+-- each fault of a line with its code and its name
+abbrev pub fault_text : LineFault → List ℕ
+fault_text Syntax = codes "10 SYNTAX"
+fault_text Long = codes "11 LONG"
+fault_text Range = codes "12 RANGE"
+
+abbrev pub line_reply_of : LineReply → List ℕ
+line_reply_of (Answered answer) = reply_of answer.place answer.reply
+line_reply_of (NotRead fault) = codes "ERR " ++ fault_text fault
+line_reply_of NoSet = codes "ERR 40 NOSET"
+line_reply_of (BadSet record_number) = codes "ERR 41 BADSET" ++ number_text record_number
+
+-- the text of what a line is answered, a line
+unfoldable pub text_of : LineReply → List ℕ
+text_of reply = line_reply_of reply ++ codes "\n"

@@ -1,11 +1,11 @@
 use std::alloc::AllocError;
 
-/// Why a line is no command.
+/// Why a line asks for nothing.
 #[derive(Clone, Copy, PartialEq, Eq, Debug)]
 pub enum LineFault {
     /// It has more than 256 bytes.
     Long,
-    /// It is not spelled as a command.
+    /// It is not spelled as a command, nor as a switch.
     Syntax,
     /// A name on it is too long, or a number outside its range.
     Range,

@@ -2,11 +2,10 @@
 #![tactic(auto)]
 
 pub mod fault;
-mod holding;
 pub mod line;
 pub mod reply;
 mod words;
 
 pub use fault::{LineFault, Memory};
-pub use line::read_line;
-pub use reply::reply_text;
+pub use line::{Line, read_line};
+pub use reply::{LineReply, reply_text};

@@ -1,19 +1,29 @@
 ghost use Rattle.std.specs.Prelude.{◌≡◌, ◌++◌, OnOk, OnErr, codes, length, take};
-ghost use Rattle.mgn_wire.specs.Text.{text_of, refusal_text, field, figures_text, number_text, place_text, reply_of, set_text};
+ghost use Rattle.mgn_wire.specs.Text.{text_of, refusal_text, fault_text, line_reply_of, field, figures_text, number_text, place_text, reply_of, set_text};
 
-use crate::fault::Memory;
+use crate::fault::{LineFault, Memory};
 use itoa::Buffer;
 use mgn_machine::{Answer, Figures, NewSet, Refusal, Reply};
 use mgn_num::Cents;
 use std::alloc::AllocError;
 
+/// What a line is answered.
+#[derive(Clone, Copy, PartialEq, Eq, Debug)]
+pub enum LineReply {
+    /// The answer to the request that it asks for.
+    Answered(Answer),
+    /// It asks for nothing.
+    NotRead(LineFault),
+    /// `SWITCH`: the set has no file, or none that can be read and is no longer than a set's file may be.
+    NoSet,
+    /// `SWITCH`: the record of this number, the first that is wrong, keeps the file from being a set.
+    BadSet(u64),
+}
+
 fn refusal_text(refusal: Refusal) -> &'static str
     ensures { result.now ≡ refusal_text refusal }
 {
     match refusal {
-        Refusal::Syntax => "10 SYNTAX",
-        Refusal::Long => "11 LONG",
-        Refusal::Range => "12 RANGE",
         Refusal::NoAccount => "20 NOACCT",
         Refusal::NoOrigin => "21 NOORIGIN",
         Refusal::Duplicate => "22 DUP",
@@ -31,6 +41,16 @@ fn refusal_text(refusal: Refusal) -> &'static str
         Refusal::Closed => "50 CLOSED",
         Refusal::Memory => "90 MEMORY",
         Refusal::Full => "91 FULL",
+    }
+}
+
+fn fault_text(fault: LineFault) -> &'static str
+    ensures { result.now ≡ fault_text fault }
+{
+    match fault {
+        LineFault::Syntax => "10 SYNTAX",
+        LineFault::Long => "11 LONG",
+        LineFault::Range => "12 RANGE",
     }
 }
 
@@ -115,22 +135,40 @@ fn print_answer(answer: &Answer, out: &mut Vec<u8>) -> Result<(), AllocError>
     }
 }
 
-#[tactic(auto, unfolding(crate::specs::Text::text_of))]
-fn print_line(answer: &Answer, out: &mut Vec<u8>) -> Result<(), AllocError>
-    ensures ok { OnOk result (out.new.items ≡ out.old.items ++ text_of answer.now) }
+fn print_reply(reply: &LineReply, out: &mut Vec<u8>) -> Result<(), AllocError>
+    ensures ok { OnOk result (out.new.items ≡ out.old.items ++ line_reply_of reply.now) }
     ensures kept { take (length out.old.items) out.new.items ≡ out.old.items }
 {
-    print_answer(answer, out)?;
+    match reply {
+        LineReply::Answered(answer) => print_answer(answer, out),
+        LineReply::NotRead(fault) => {
+            print("ERR ", out)?;
+            print(fault_text(*fault), out)
+        }
+        LineReply::NoSet => print("ERR 40 NOSET", out),
+        LineReply::BadSet(record) => {
+            print("ERR 41 BADSET", out)?;
+            print_number(*record, out)
+        }
+    }
+}
+
+#[tactic(auto, unfolding(crate::specs::Text::text_of))]
+fn print_line(reply: &LineReply, out: &mut Vec<u8>) -> Result<(), AllocError>
+    ensures ok { OnOk result (out.new.items ≡ out.old.items ++ text_of reply.now) }
+    ensures kept { take (length out.old.items) out.new.items ≡ out.old.items }
+{
+    print_reply(reply, out)?;
     print("\n", out)
 }
 
-/// Appends the text of an answer, a line with its line feed. On `Memory` the buffer is as it was.
-pub fn reply_text(answer: &Answer, out: &mut Vec<u8>) -> Result<(), Memory>
-    ensures ok { OnOk result (out.new.items ≡ out.old.items ++ text_of answer.now) }
+/// Appends the text of what a line is answered, a line with its line feed. On `Memory` the buffer is as it was.
+pub fn reply_text(reply: &LineReply, out: &mut Vec<u8>) -> Result<(), Memory>
+    ensures ok { OnOk result (out.new.items ≡ out.old.items ++ text_of reply.now) }
     ensures err { OnErr result (out.new.items ≡ out.old.items) }
 {
     let before = out.len();
-    match print_line(answer, out) {
+    match print_line(reply, out) {
         Ok(()) => Ok(()),
         Err(_) => {
             out.truncate(before);
@@ -162,8 +200,7 @@ mod tests {
 
     #[test]
     fn writes_replies(rt: HostRuntime) {
-        let refused = Answer::refused(Refusal::Syntax);
-        let cases = [
+        let answers = [
             (Some(4), Reply::Done, "OK 4\n"),
             (
                 Some(5),
@@ -193,11 +230,28 @@ mod tests {
                 Reply::Refused(Refusal::NoAccount),
                 "ERR 1000000 20 NOACCT\n",
             ),
-            (refused.place, refused.reply, "ERR 10 SYNTAX\n"),
+            (None, Reply::Refused(Refusal::Memory), "ERR 90 MEMORY\n"),
         ];
-        for (place, reply, text) in cases {
+        for (place, reply, text) in answers {
             let mut out = Vec::new(rt.alloc());
-            assert!(rt; reply_text(&Answer { place, reply }, &mut out).is_ok());
+            let reply = LineReply::Answered(Answer { place, reply });
+            assert!(rt; reply_text(&reply, &mut out).is_ok());
+            assert!(rt; out.as_slice() == text.as_bytes(), "for {text}");
+        }
+    }
+
+    #[test]
+    fn writes_what_lines_and_files_lack(rt: HostRuntime) {
+        let replies = [
+            (LineReply::NotRead(LineFault::Syntax), "ERR 10 SYNTAX\n"),
+            (LineReply::NotRead(LineFault::Long), "ERR 11 LONG\n"),
+            (LineReply::NotRead(LineFault::Range), "ERR 12 RANGE\n"),
+            (LineReply::NoSet, "ERR 40 NOSET\n"),
+            (LineReply::BadSet(7), "ERR 41 BADSET 7\n"),
+        ];
+        for (reply, text) in replies {
+            let mut out = Vec::new(rt.alloc());
+            assert!(rt; reply_text(&reply, &mut out).is_ok());
             assert!(rt; out.as_slice() == text.as_bytes(), "for {text}");
         }
     }

@@ -11,4 +11,4 @@ pub returns : goal.returns
 returns c =
     let filled = sym c.are_filled.ensures ∙ c.if-not-are_filled.false in
     let same = line_filled c.args.line.now _ c.if-line-gt-LONGEST_LINE.false c.split_words-words.ensures.words filled in
-    rw (c.in_line.ensures, c.read_words.ensures) (sym same)
+    rw (c.of_words.ensures, c.read_words.ensures) (sym same)
