@@ -1,9 +1,30 @@
 use super::*;
 use mgn_machine::Mode;
 
-fn is_trade(line: &Line) -> bool {
-    match line {
-        Line::Do(Command::Trade(account, lot, contract, quantity, premium)) => {
+fn command_in(line: &[u8]) -> Option<Command> {
+    match &read_line(line) {
+        Ok(Line::Do(command)) => Some(*command),
+        _ => None,
+    }
+}
+
+fn set_in(line: &[u8]) -> Option<SetName> {
+    match &read_line(line) {
+        Ok(Line::Switch(name)) => Some(*name),
+        _ => None,
+    }
+}
+
+fn fault_in(line: &[u8]) -> Option<LineFault> {
+    match &read_line(line) {
+        Ok(_) => None,
+        Err(fault) => Some(*fault),
+    }
+}
+
+fn is_trade(command: &Command) -> bool {
+    match command {
+        Command::Trade(account, lot, contract, quantity, premium) => {
             account.as_bytes() == b"A1".as_slice()
                 && lot.number() == 1
                 && contract.as_bytes() == b"AAA1".as_slice()
@@ -14,44 +35,31 @@ fn is_trade(line: &Line) -> bool {
     }
 }
 
-fn command_of(read: Result<Line, LineFault>) -> Option<Command> {
-    match read {
-        Ok(Line::Do(command)) => Some(command),
-        _ => None,
-    }
-}
-
-fn is_switch(line: &Line) -> bool {
-    match line {
-        Line::Switch(name) => name.as_bytes() == b"TWO".as_slice(),
-        Line::Do(_) => false,
-    }
-}
-
 #[test]
 fn reads_commands(rt: HostRuntime) {
-    let trade = read_line(b"TRADE A1 1 AAA1 -2 0");
-    assert!(rt; trade.is_ok_and(|line| is_trade(&line)));
-    let origin = command_of(read_line(b"ORIGIN CUST GROSS"));
+    let trade = command_in(b"TRADE A1 1 AAA1 -2 0");
+    assert!(rt; trade.is_some_and(|command| is_trade(&command)));
+    let origin = command_in(b"ORIGIN CUST GROSS");
     assert!(rt; matches!(&origin, Some(Command::NewOrigin(_, Mode::Gross))));
-    let account = command_of(read_line(b"OPEN A1 CUST"));
+    let account = command_in(b"OPEN A1 CUST");
     assert!(rt; matches!(&account, Some(Command::NewAccount(_, _))));
-    let post = command_of(read_line(b"POST A1 CASH 1000"));
+    let post = command_in(b"POST A1 CASH 1000");
     assert!(rt; matches!(&post, Some(Command::Post(_, _, _))));
-    let bust = command_of(read_line(b"BUST A1 1"));
+    let bust = command_in(b"BUST A1 1");
     assert!(rt; matches!(&bust, Some(Command::Bust(_, _))));
-    let hold = command_of(read_line(b"HOLD A1 1 AAA1 -2 50"));
+    let hold = command_in(b"HOLD A1 1 AAA1 -2 50");
     assert!(rt; matches!(&hold, Some(Command::Hold(_, _, _, _, _))));
-    let fill = command_of(read_line(b"FILL A1 1 1 -2 50"));
+    let fill = command_in(b"FILL A1 1 1 -2 50");
     assert!(rt; matches!(&fill, Some(Command::Fill(_, _, _, _, _))));
-    let release = command_of(read_line(b"RELEASE A1 1"));
+    let release = command_in(b"RELEASE A1 1");
     assert!(rt; matches!(&release, Some(Command::Release(_, _))));
-    let end = command_of(read_line(b"END"));
+    let end = command_in(b"END");
     assert!(rt; matches!(&end, Some(Command::EndDay)));
-    let ask = command_of(read_line(b"ASK A1"));
+    let ask = command_in(b"ASK A1");
     assert!(rt; matches!(&ask, Some(Command::Ask(_))));
-    let switch = read_line(b"SWITCH TWO");
-    assert!(rt; switch.is_ok_and(|line| is_switch(&line)));
+    let switch = set_in(b"SWITCH TWO");
+    assert!(rt; switch.is_some_and(|name| name.as_bytes() == b"TWO".as_slice()));
+    assert!(rt; set_in(b"ASK A1").is_none() && command_in(b"SWITCH TWO").is_none());
 }
 
 #[test]
@@ -79,12 +87,8 @@ fn tells_faults(rt: HostRuntime) {
         ("ORIGIN AAAAAAAAAAAAAAAAA FOO", LineFault::Range),
     ];
     for (line, fault) in cases {
-        let read = read_line(line.as_bytes());
-        assert!(rt;
-            matches!(&read, Err(found) if *found == fault),
-            "for {line}"
-        );
+        assert!(rt; fault_in(line.as_bytes()) == Some(fault), "for {line}");
     }
-    assert!(rt; matches!(read_line([b'A'; 256].as_slice()), Err(LineFault::Syntax)));
-    assert!(rt; matches!(read_line([b'A'; 257].as_slice()), Err(LineFault::Long)));
+    assert!(rt; fault_in([b'A'; 256].as_slice()) == Some(LineFault::Syntax));
+    assert!(rt; fault_in([b'A'; 257].as_slice()) == Some(LineFault::Long));
 }
