@@ -68,7 +68,7 @@ commits sets old new number request Full next none = (none.0, inr (refl, none.1)
 commits sets old new number request Memory next none = (none.0, inl refl)
 
 -- a refusal puts no set
-refused_sets : (sets : List Tables) (request : Request) (why : Refusal) → sets_after sets request (Refused why) ≡ sets
+pub refused_sets : (sets : List Tables) (request : Request) (why : Refusal) → sets_after sets request (Refused why) ≡ sets
 refused_sets sets (Do command) why = refl
 refused_sets sets (Switch t) why = refl
 

@@ -1,80 +1,197 @@
--- A session over a book of one session is a run of the machine.
-use Rattle.std.proofs.Common.{◌≡◌, ◌+◌, ◌∙◌, ℕ, List, [], ◌∷◌, ◌++◌, length, Option, Some, None, Result, Ok, Err, IfOk, OnErr, refl, sym, ap}
-use Rattle.mgn_params.specs.Tables.{Tables}
-use Rattle.mgn_machine.specs.History.{entry, items_of, replay}
+-- A session over a book of one session is a run of the machine, under the sets that there are in the end.
+use Rattle.std.proofs.Common.{◌≡◌, ◌+◌, ◌-◌, ◌∙◌, ◌<◌, ◌≤◌, ℕ, List, [], ◌∷◌, ◌++◌, length, Option, Some, None, Result, Ok, Err, IfOk, OnErr, refl, sym, ap, subst, arith, append_assoc, length-append, inl, inr}
+use Rattle.std.proofs.lemmas.List.{append-nil, get_or_append_left, get_or-append_right}
+use Rattle.mgn_params.specs.Shelves.{set_at}
+use Rattle.mgn_params.specs.Tables.{Tables, no_tables}
+use Rattle.mgn_machine.specs.History.{entry, items_of, recorded, replay, request_of}
+use Rattle.mgn_machine.specs.NewSet.{on_call, set_fits}
 use Rattle.mgn_machine.specs.State.{State, start}
-use Rattle.mgn_machine.specs.declared.command.Command.{Command}
+use Rattle.mgn_machine.specs.Step.{step, step_under, switched}
 use Rattle.mgn_machine.specs.declared.entry.Entry.{Entry}
-use Rattle.mgn_machine.specs.declared.request.Recorded.TheVariants.{Asked}
-use Rattle.mgn_machine.specs.declared.request.Request.TheVariants.{Do}
+use Rattle.mgn_machine.specs.declared.request.Request.{Request}
+use Rattle.mgn_machine.specs.declared.request.Request.TheVariants.{Do, Switch}
 use Rattle.mgn_machine.proofs.Histories.{replay-push}
+use Rattle.mgn_machine.proofs.Versions.{keeps_version}
 use Rattle.mgn_machine.specs.declared.reply.Answer.{Answer}
+use Rattle.mgn_machine.specs.declared.reply.Refusal.{Refusal}
 use Rattle.mgn_machine.specs.declared.reply.Reply.{Reply}
-use Rattle.mgn_book.specs.BookViews.{BookView, opening}
+use Rattle.mgn_machine.specs.declared.reply.Reply.TheVariants.{Done, Figures, NewSet, Refused}
+use Rattle.mgn_book.specs.BookViews.{BookView, opening, sets_after}
 use Rattle.mgn_session.specs.Conversation.{ConversationView}
-use Rattle.mgn_session.specs.Session.{Call, Calls, HasAnswered, HasStopped, HasTooMuch, IsCaughtUp, IsSession}
+use Rattle.mgn_session.specs.Session.{Answers, Call, Calls, Fetch, HasAnswered, HasStopped, HasTooMuch, IsCaughtUp, IsSession, IsUnplaced, Step}
 use Rattle.mgn_session.specs.declared.fault.SessionFault.{SessionFault}
-use Rattle.mgn_session.proofs.Seen.{IsSeen, seen_answered, seen_caught_up, seen_session, seen_stopped, seen_too_much}
+use Rattle.mgn_session.proofs.Seen.{IsSeen, IsSeenCall, seen_answered, seen_caught_up, seen_session, seen_stopped, seen_too_much, session_before, with_source}
+use Rattle.mgn_script.proofs.PlainFacts.{refused_sets}
 use Rattle.mgn_script.specs.Plain.{Commits, CommitsAt, ScriptView}
-use Rattle.mgn_script.specs.Script.{Steps, StepsAt}
+use Rattle.mgn_script.specs.Script.{Begins, Steps, StepsAt}
 
--- the sets are these, and the state is the replay of the history
+-- the version in force is that of the last set, and the state is the replay of the history
 pub record IsReplay (sets : List Tables) (plain : ScriptView) : Type 0 where
-  pub under : plain.sets ≡ sets
+  pub shown : length plain.sets ≡ plain.day.book.state.version + 1
   pub state : plain.day.book.state ≡ replay sets plain.day.history
 
-step_seen : (sets : List Tables) (old new : BookView) (command : Command) (place : Option ℕ) (reply : Reply)
-    → old.book.state ≡ replay sets old.history → CommitsAt sets old (Do command) place reply new
-    → StepsAt sets old.history (Do command) place reply new.history × (new.book.state ≡ replay sets new.history)
-step_seen sets old new command (Some place) reply state committed =
-    let made = rw state at committed.1 in
-    let next = ap (replay sets) committed.2 ∙ replay-push sets start old.history (entry 1 place (Asked command) reply) in
-    ((committed.0, ap (λ (p : State × Reply). p.1) made, committed.2), ap (λ (p : State × Reply). p.0) made ∙ sym next)
-step_seen sets old new command None reply state committed =
-    ((ap (λ (day : BookView). day.history) committed.0, committed.1), rw committed.0 state)
+-- sets that begin others
+
+pub begins_itself : (sets : List Tables) → Begins sets sets
+begins_itself sets = ([], sym (append-nil sets))
+
+begins_before : (old now sets : List Tables) → Begins old now → Begins now sets → Begins old sets
+begins_before old now sets first second =
+    (first.0 ++ second.0, second.1 ∙ ap (λ (xs : List Tables). xs ++ second.0) first.1 ∙ append_assoc old first.0 second.0)
+
+begins_after : (sets : List Tables) (request : Request) (reply : Reply) → Begins sets (sets_after sets request reply)
+begins_after sets (Do command) reply = begins_itself sets
+begins_after sets (Switch t) (NewSet told) = (t ∷ [], refl)
+begins_after sets (Switch t) (Refused why) = begins_itself sets
+begins_after sets (Switch t) Done = begins_itself sets
+begins_after sets (Switch t) (Figures f) = begins_itself sets
+
+set_begun : (now sets : List Tables) (version : ℕ) → Begins now sets → version < length now → set_at sets version ≡ set_at now version
+set_begun now sets version begins within = ap (λ (xs : List Tables). set_at xs version) begins.1 ∙ get_or_append_left now begins.0 (no_tables []) version within
+
+step_begun : (now sets : List Tables) (s : State) (request : Request) → Begins now sets → s.version < length now → step now s request ≡ step sets s request
+step_begun now sets s (Do command) begins within = ap (λ (t : Tables). step_under t s command) (sym (set_begun now sets s.version begins within))
+step_begun now sets s (Switch t) begins within = refl
+
+-- A step keeps one set more than the version, and its request is found again by how it is kept.
+
+record IsKeptSo (old sets : List Tables) (now : State) (request : Request) (reply : Reply) : Type 0 where
+  shown : length (sets_after old request reply) ≡ now.version + 1
+  kept : Begins (sets_after old request reply) sets → request_of sets (recorded request reply) ≡ request
+
+last_set : (old sets : List Tables) (t : Tables) (version : ℕ) → length old ≡ version → Begins (old ++ t ∷ []) sets → set_at sets version ≡ t
+last_set old sets t version long begins =
+    set_begun (old ++ t ∷ []) sets version begins (omega (arith, length-append old (t ∷ [])))
+    ∙ get_or-append_right old (t ∷ []) version version (no_tables []) long (omega arith)
+    ∙ ap (λ (k : ℕ). set_at (t ∷ []) k) (none version)
+  where
+    none : (n : ℕ) → n - n ≡ 0
+    none n = omega arith
+
+kept_switch : (old sets : List Tables) (s now : State) (t : Tables) (calls : ℕ) (r : Result (Unit {0}) Refusal) (reply : Reply)
+    → length old ≡ s.version + 1 → (now, reply) ≡ switched s calls r → IsKeptSo old sets now (Switch t) reply
+kept_switch old sets s now t calls (Ok done) reply shown made =
+    let is = ap (λ (p : State × Reply). p.1) made in
+    let version = ap (λ (p : State × Reply). p.0.version) made in
+    record {
+      shown = rw is (omega (arith, version, shown, length-append old (t ∷ [])));
+      kept = rw is (λ begins. ap (λ (x : Tables). Switch x) (last_set old sets t (s.version + 1) shown begins));
+    }
+kept_switch old sets s now t calls (Err why) reply shown made =
+    let is = ap (λ (p : State × Reply). p.1) made in
+    let version = ap (λ (p : State × Reply). p.0.version) made in
+    record {
+      shown = rw is (shown ∙ ap (λ (n : ℕ). n + 1) (sym version));
+      kept = rw is (λ begins. refl);
+    }
+
+kept_so : (old sets now_sets : List Tables) (s now : State) (request : Request) (reply : Reply)
+    → length old ≡ s.version + 1 → (now, reply) ≡ step now_sets s request → IsKeptSo old sets now request reply
+kept_so old sets now_sets s now (Do command) reply shown made =
+    let version = ap (λ (p : State × Reply). p.0.version) made ∙ keeps_version (set_at now_sets s.version) s command in
+    record { shown = shown ∙ ap (λ (n : ℕ). n + 1) (sym version); kept = λ begins. refl }
+kept_so old sets now_sets s now (Switch t) reply shown made =
+    kept_switch old sets s now t (on_call t s.accounts s.units) (set_fits t s) reply shown made
+
+-- One call.
 
 -- the calls of a book of one session
 abbrev pub CallsPlain : Call ScriptView
 CallsPlain = Calls (λ (plain : ScriptView). items_of 1 plain.day.history) (λ (plain : ScriptView). length plain.day.history ≡ 1000000) Commits
 
-pub steps_seen : (sets : List Tables)
-    → IsSeen (λ (plain : ScriptView). plain.day.history) (IsReplay sets) CallsPlain (Steps sets)
-steps_seen sets old new command answer replayed call =
-    let same : new.sets ≡ sets = call.1.0 ∙ replayed.under in
-    let commits = rw same at call.1.1 in
-    let seen = step_seen sets old.day new.day command answer.place answer.reply replayed.state commits in
-    (seen.0, record { under = same; state = seen.1 })
+unplaced_sets : (full : Type 0) (sets : List Tables) (request : Request) (reply : Reply) → IsUnplaced full reply → sets_after sets request reply ≡ sets
+unplaced_sets full sets request reply (inl memory) = rw memory (refused_sets sets request _)
+unplaced_sets full sets request reply (inr both) = rw both.0 (refused_sets sets request _)
 
--- from the start
+step_seen : (sets : List Tables) (old new : ScriptView) (request : Request) (place : Option ℕ) (reply : Reply)
+    → IsReplay sets old → Begins new.sets sets → new.sets ≡ sets_after old.sets request reply → CommitsAt new.sets old.day request place reply new.day
+    → StepsAt sets old.day.history request place reply new.day.history × IsReplay sets new
+step_seen sets old new request (Some place) reply is begins put committed =
+    let grown = rw (← put) at (begins_after old.sets request reply) in
+    let within : old.day.book.state.version < length new.sets = omega (arith, is.shown, ap length grown.1, length-append old.sets grown.0) in
+    let made : (new.day.book.state, reply) ≡ step sets old.day.book.state request = committed.1 ∙ step_begun new.sets sets old.day.book.state request begins within in
+    let so = kept_so old.sets sets sets old.day.book.state new.day.book.state request reply is.shown made in
+    let same = so.kept (rw put at begins) in
+    let next : replay sets new.day.history ≡ (step sets (replay sets old.day.history) request).0 =
+    ap (replay sets) committed.2
+    ∙ replay-push sets start old.day.history (entry 1 place (recorded request reply) reply)
+    ∙ ap (λ (r : Request). (step sets (replay sets old.day.history) r).0) same in
+    let now = made ∙ ap (λ (s : State). step sets s request) is.state in
+    (
+      (committed.0, ap (λ (p : State × Reply). p.1) now, committed.2),
+      record { shown = ap length put ∙ so.shown; state = ap (λ (p : State × Reply). p.0) now ∙ sym next },
+    )
+step_seen sets old new request None reply is begins put committed =
+    let same : new.sets ≡ old.sets = put ∙ unplaced_sets _ old.sets request reply committed.1 in
+    (
+      (ap (λ (day : BookView). day.history) committed.0, committed.1),
+      record {
+        shown = ap length same ∙ is.shown ∙ ap (λ (day : BookView). day.book.state.version + 1) (sym committed.0);
+        state = subst (λ (day : BookView). day.book.state ≡ replay sets day.history) (sym committed.0) is.state;
+      },
+    )
 
-opens : (plain : ScriptView) → plain.day ≡ opening → IsReplay plain.sets plain
-opens plain e = record { under = refl; state = rw e refl }
+pub calls_seen : (sets : List Tables)
+    → IsSeenCall (λ (plain : ScriptView). plain.day.history) (IsReplay sets) (λ plain. Begins plain.sets sets) CallsPlain (Steps sets)
+calls_seen sets =
+    record {
+      earlier = λ old new request answer call within.
+          begins_before old.sets new.sets sets (rw (← call.1.0) at (begins_after old.sets request answer.reply)) within;
+      each = λ old new request answer is within call. step_seen sets old new request answer.place answer.reply is within call.1.0 call.1.1;
+    }
 
-pub answers : (before after : ConversationView) (old new : ScriptView) (n : ℕ) → old.day ≡ opening
-    → HasAnswered CallsPlain before after old new n → HasAnswered (Steps old.sets) before after [] new.day.history n
-answers before after old new n fresh a =
-    rw (ap (λ (day : BookView). day.history) fresh) at (seen_answered (λ (plain : ScriptView). plain.day.history) (IsReplay old.sets) CallsPlain (Steps old.sets) (steps_seen old.sets) before after old new n (opens old fresh) a)
+-- From the start.
 
-pub stops : (before after : ConversationView) (old new : ScriptView) → old.day ≡ opening
-    → HasStopped CallsPlain before after old new → HasStopped (Steps old.sets) before after [] new.day.history
-stops before after old new fresh a =
-    rw (ap (λ (day : BookView). day.history) fresh) at (seen_stopped (λ (plain : ScriptView). plain.day.history) (IsReplay old.sets) CallsPlain (Steps old.sets) (steps_seen old.sets) before after old new (opens old fresh) a)
+abbrev seen_by : {S : Type 0} (sets : List Tables) (gives : Fetch S)
+    → IsSeen (λ (x : ScriptView × S). (x.0.day.history, x.1)) (λ x. IsReplay sets x.0) (λ x. Begins x.0.sets sets) (Answers CallsPlain gives) (Answers (Steps sets) gives)
+seen_by sets gives = with_source (λ (plain : ScriptView). plain.day.history) (IsReplay sets) (λ plain. Begins plain.sets sets) CallsPlain (Steps sets) gives (calls_seen sets)
 
-pub catches_up : (before after : ConversationView) (old new : ScriptView) (n : ℕ) → old.day ≡ opening
-    → IsCaughtUp CallsPlain before after old new n → IsCaughtUp (Steps old.sets) before after [] new.day.history n
-catches_up before after old new n fresh a =
-    rw (ap (λ (day : BookView). day.history) fresh) at (seen_caught_up (λ (plain : ScriptView). plain.day.history) (IsReplay old.sets) CallsPlain (Steps old.sets) (steps_seen old.sets) before after old new n (opens old fresh) a)
+-- a book before its first command, as its type says that it stands
+pub record IsFresh (plain : ScriptView) : Type 0 where
+  pub day : plain.day ≡ opening
+  pub shown : length plain.sets ≡ plain.day.book.state.version + 1
 
-pub has_too_much : (before after : ConversationView) (old new : ScriptView) → old.day ≡ opening
-    → HasTooMuch CallsPlain before after old new → HasTooMuch (Steps old.sets) before after [] new.day.history
-has_too_much before after old new fresh a =
-    rw (ap (λ (day : BookView). day.history) fresh) at (seen_too_much (λ (plain : ScriptView). plain.day.history) (IsReplay old.sets) CallsPlain (Steps old.sets) (steps_seen old.sets) before after old new (opens old fresh) a)
+opens : (sets : List Tables) (plain : ScriptView) → IsFresh plain → IsReplay sets plain
+opens sets plain fresh = record { shown = fresh.shown; state = rw fresh.day refl }
 
-ends : (old new : ScriptView) (input text : List ℕ) (n : ℕ) → old.day ≡ opening → IsSession CallsPlain old new input text n → IsReplay old.sets new
-ends old new input text n fresh s =
-    (seen_session (λ (plain : ScriptView). plain.day.history) (IsReplay old.sets) CallsPlain (Steps old.sets) (steps_seen old.sets) old new input text n (opens old fresh) s).1
+pub starts : (plain : ScriptView) → plain.day ≡ opening → length plain.sets ≡ plain.day.book.state.version + 1 → IsFresh plain
+starts plain day shown = record { day = day; shown = shown }
 
-pub replays : (r : Result ℕ SessionFault) (before after : ConversationView) (old new : ScriptView) → old.day ≡ opening
-    → IfOk r (λ n. HasAnswered CallsPlain before after old new n) → OnErr r (HasStopped CallsPlain before after old new) → IsReplay old.sets new
-replays (Ok n) before after old new fresh a s = ends old new a.all.input a.all.text n fresh a.all.session
-replays (Err fault) before after old new fresh a s = ends old new s.input s.text s.count fresh s.session
+pub answers : {S : Type 0} (gives : Fetch S) (before after : ConversationView) (old new : ScriptView) (s t : S) (n : ℕ) → IsFresh old
+    → HasAnswered (Answers CallsPlain gives) before after (old, s) (new, t) n → HasAnswered (Answers (Steps new.sets) gives) before after ([], s) (new.day.history, t) n
+answers gives before after old new s t n fresh a =
+    rw (ap (λ (day : BookView). day.history) fresh.day) at (seen_answered _ _ _ _ _ (seen_by new.sets gives) before after (old, s) (new, t) n (opens new.sets old fresh) (begins_itself new.sets) a)
+
+pub stops : {S : Type 0} (gives : Fetch S) (before after : ConversationView) (old new : ScriptView) (s t : S) → IsFresh old
+    → HasStopped (Answers CallsPlain gives) before after (old, s) (new, t) → HasStopped (Answers (Steps new.sets) gives) before after ([], s) (new.day.history, t)
+stops gives before after old new s t fresh a =
+    rw (ap (λ (day : BookView). day.history) fresh.day) at (seen_stopped _ _ _ _ _ (seen_by new.sets gives) before after (old, s) (new, t) (opens new.sets old fresh) (begins_itself new.sets) a)
+
+pub catches_up : {S : Type 0} (gives : Fetch S) (before after : ConversationView) (old new : ScriptView) (s t : S) (n : ℕ) → IsFresh old
+    → IsCaughtUp (Answers CallsPlain gives) before after (old, s) (new, t) n → IsCaughtUp (Answers (Steps new.sets) gives) before after ([], s) (new.day.history, t) n
+catches_up gives before after old new s t n fresh a =
+    rw (ap (λ (day : BookView). day.history) fresh.day) at (seen_caught_up _ _ _ _ _ (seen_by new.sets gives) before after (old, s) (new, t) n (opens new.sets old fresh) (begins_itself new.sets) a)
+
+pub has_too_much : {S : Type 0} (gives : Fetch S) (before after : ConversationView) (old new : ScriptView) (s t : S) → IsFresh old
+    → HasTooMuch (Answers CallsPlain gives) before after (old, s) (new, t) → HasTooMuch (Answers (Steps new.sets) gives) before after ([], s) (new.day.history, t)
+has_too_much gives before after old new s t fresh a =
+    rw (ap (λ (day : BookView). day.history) fresh.day) at (seen_too_much _ _ _ _ _ (seen_by new.sets gives) before after (old, s) (new, t) (opens new.sets old fresh) (begins_itself new.sets) a)
+
+-- what the book then is
+pub record IsScripted (old new : ScriptView) : Type 0 where
+  pub sets : Begins old.sets new.sets
+  pub state : new.day.book.state ≡ replay new.sets new.day.history
+
+scripted : {S : Type 0} (gives : Fetch S) (old new : ScriptView) (s t : S) (input text : List ℕ) (n : ℕ) → IsFresh old
+    → IsSession (Answers CallsPlain gives) (old, s) (new, t) input text n → IsScripted old new
+scripted gives old new s t input text n fresh a =
+    record {
+      sets = session_before _ _ _ _ _ (seen_by new.sets gives) (old, s) (new, t) input text n (begins_itself new.sets) a;
+      state = (seen_session _ _ _ _ _ (seen_by new.sets gives) (old, s) (new, t) input text n (opens new.sets old fresh) (begins_itself new.sets) a).1.state;
+    }
+
+pub replays : {S : Type 0} (gives : Fetch S) (r : Result ℕ SessionFault) (before after : ConversationView) (old new : ScriptView) (s t : S) → IsFresh old
+    → IfOk r (λ n. HasAnswered (Answers CallsPlain gives) before after (old, s) (new, t) n)
+    → OnErr r (HasStopped (Answers CallsPlain gives) before after (old, s) (new, t)) → IsScripted old new
+replays gives (Ok n) before after old new s t fresh a b = scripted gives old new s t a.all.input a.all.text n fresh a.all.session
+replays gives (Err fault) before after old new s t fresh a b = scripted gives old new s t b.input b.text b.count fresh b.session

@@ -1,4 +1,5 @@
--- What the machine does for the lines of a script, by its history. The sets are those of the book's shelf, by version.
+-- What the machine does for the lines of a script, by its history. The sets are all those of the book's shelf in the end, by
+-- version: those that come later change nothing that was answered before.
 use Rattle.std.specs.Prelude.{◌≡◌, ◌+◌, ℕ, List, [], ◌∷◌, ◌++◌, length, Option, Some, None}
 use Rattle.mgn_params.specs.Tables.{Tables}
 use Rattle.mgn_machine.specs.History.{entry, recorded, replay}
@@ -20,3 +21,7 @@ StepsAt sets old request None reply new = (new ≡ old) × IsUnplaced (length ol
 -- the machine as an executor, which is seen by its history
 abbrev pub Steps : List Tables → Call (List Entry)
 Steps sets old request answer new = StepsAt sets old request answer.place answer.reply new
+
+-- the sets are the first of those
+abbrev pub Begins : List Tables → List Tables → Type 0
+Begins sets all = (more : List Tables) × (all ≡ sets ++ more)

@@ -17,7 +17,7 @@ use std::marker::Model;
 pub struct Plain {
     alloc: Global,
     shelf: SetList,
-    book: Book,
+    pub(crate) book: Book,
 }
 
 impl Model for Plain {
