@@ -122,6 +122,9 @@ wants 'a last line without its end' 0 "$figures" ''
 { printf 'ask A1\n\nASK  A1\nASK A1\r\nASK A\303\204\n'; head -c 257 /dev/zero | tr '\0' A; printf '\nTRADE A1 0 AAA1 2 0\nASK A1\n'; } > faults
 run faults script --dir . --set FUT
 wants 'faulty lines' 0 "$(for _ in 1 2 3 4 5; do echo 'ERR 10 SYNTAX'; done; echo 'ERR 11 LONG'; echo 'ERR 12 RANGE'; echo 'ERR 1 20 NOACCT')$line" ''
+printf 'SWITCH BAD\nSWITCH NONE\nSWITCH LONG\nSWITCH DIR\nSWITCH NOPE\nSWITCH MOST\n' > switches
+run switches script --dir . --set FUT
+wants 'files that are no sets' 0 "ERR 41 BADSET 2${line}ERR 41 BADSET 1${line}ERR 40 NOSET${line}ERR 40 NOSET${line}ERR 40 NOSET${line}OK 1 1 0$line" ''
 run . script --dir . --set FUT
 wants 'an input that cannot be read' 4 '' "spand: session READ$line"
 if [ -e /dev/full ]; then

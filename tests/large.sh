@@ -60,6 +60,18 @@ make_session '
 '
 look "256 holds of an account" "$here/../sets" FUT 0 ""
 
+make_session '
+    for (n = 1; n <= 64; n++) say("SWITCH ONE", "OK " n " 0")
+    say("SWITCH ONE", "43 SETS")
+    begin("CUST", "GROSS", "A1")
+    say("TRADE A1 1 BBB1 1 0", "OK")
+    say("SWITCH FUT", "42 MISSING")
+    say("SWITCH TWO", "43 SETS")
+    say("END", "OK")
+    say("SWITCH TWO", "50 CLOSED")
+'
+look "64 new sets" "$here/../sets" ONE 0 ""
+
 # Accounts of a GROSS origin are units too; those of a NET one are counted as accounts alone.
 make_session '
     begin("CUST", "GROSS")

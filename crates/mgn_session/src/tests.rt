@@ -5,8 +5,9 @@ ghost use Rattle.mgn_machine.specs.History.{item};
 ghost use Rattle.mgn_session.specs.Device.{is_dirty};
 
 use crate::line_buffer::LineBuffer;
-use crate::{Conversation, Counted, Exec, SessionFault, run_lines};
+use crate::{Conversation, Counted, Exec, NoFiles, SessionFault, run_lines};
 use mgn_machine::{Answer, Command, Item, Recorded, Refusal, Reply, Request};
+use mgn_wire::LineReply;
 use std::alloc::Global;
 use std::cell::Cell;
 use std::io;
@@ -131,7 +132,7 @@ fn run(
     });
     let mut talk = Conversation::new(alloc, reader, writer);
     let mut exec = Listed::new(alloc);
-    let ended = run_lines(alloc, &mut talk, &mut exec);
+    let ended = run_lines(alloc, &mut talk, &mut exec, &mut NoFiles);
     let read_failed = talk.failed_reads();
     let write_failed = talk.failed_writes();
     let (_, writer) = talk.into_parts();
@@ -222,7 +223,7 @@ fn replies_before_it_asks_for_more(rt: HostRuntime) {
     });
     let mut talk = Conversation::new(rt.alloc(), reader, writer);
     let mut exec = Listed::new(rt.alloc());
-    let ended = run_lines(rt.alloc(), &mut talk, &mut exec);
+    let ended = run_lines(rt.alloc(), &mut talk, &mut exec, &mut NoFiles);
     let (_, writer) = talk.into_parts();
     // The last line has no end, and so no reply: the reader refuses to go on after it.
     assert!(rt; matches!(&ended, Err(SessionFault::Read)));
@@ -242,7 +243,7 @@ fn a_conversation_is_read_and_answered(rt: HostRuntime) {
     assert!(rt; talk.read(&mut buf) == Ok(3));
     assert!(rt; talk.reserve().is_ok());
     assert!(rt; talk.owed() == 1);
-    assert!(rt; talk.reply(&Answer::refused(Refusal::Syntax)).is_ok());
+    assert!(rt; talk.reply(&LineReply::NoSet).is_ok());
     assert!(rt; replies.get() == 0);
     let sent = talk.send();
     assert!(rt; sent.is_ok() && replies.get() == 1 && talk.owed() == 0);
@@ -313,7 +314,7 @@ fn run_faltering(
 ) -> (Result<u64, SessionFault>, [u64; 2], [usize; 2], Vec<u8>) {
     let mut talk = Conversation::new(alloc, falter(alloc, read), falter(alloc, write));
     let mut exec = Listed::new(alloc);
-    let ended = run_lines(alloc, &mut talk, &mut exec);
+    let ended = run_lines(alloc, &mut talk, &mut exec, &mut NoFiles);
     let failed = [talk.failed_reads(), talk.failed_writes()];
     let (reader, writer) = talk.into_parts();
     let reader = reader.into_inner();
@@ -353,7 +354,7 @@ fn a_chunk_is_taken_line_by_line(rt: HostRuntime) {
     let Ok(taken) = taken else {
         return;
     };
-    assert!(rt; lines.take_chunk(&mut talk, &mut exec, &buf[..taken]) == Ok(()));
+    assert!(rt; lines.take_chunk(&mut talk, &mut exec, &mut NoFiles, &buf[..taken]) == Ok(()));
     assert!(rt; lines.lines == 1 && lines.line.as_slice() == b"ASK".as_slice());
     assert!(rt; talk.send() == Ok(()));
     let (_, writer) = talk.into_parts();

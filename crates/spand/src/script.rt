@@ -1,5 +1,6 @@
 use crate::fault::Fault;
 use crate::set;
+use crate::set::Folder;
 use command_line::Script;
 use mgn_script::{Plain, run_script};
 use mgn_session::{Conversation, Counted};
@@ -8,12 +9,13 @@ use std::rt::Files;
 
 /// Answers standard input on standard output, to the end of the input.
 pub fn run<R: Files + Input + Print + AllocGlobal>(rt: &R, script: &Script) -> Result<(), Fault> {
-    let set = set::read(rt, script.dir.as_str(), script.set.as_str())?;
+    let mut folder = Folder::new(rt, script.dir.as_str());
+    let set = set::read(rt.alloc(), &mut folder, script.set.as_str())?;
     let mut plain = Plain::new(rt.alloc(), set)?;
     let reader = Counted::new(rt.reader());
     let writer = Counted::new(io::writer(rt));
     let mut talk = Conversation::new(rt.alloc(), reader, writer);
-    match run_script(rt.alloc(), &mut talk, &mut plain) {
+    match run_script(rt.alloc(), &mut talk, &mut plain, &mut folder) {
         Ok(_) => Ok(()),
         Err(fault) => Err(Fault::Session(fault)),
     }

@@ -3,43 +3,79 @@ ghost use Rattle.std.specs.Prelude.{◌≤◌, vec_len, IfOk};
 use crate::fault::Fault;
 use mgn_ids::SetName;
 use mgn_params::ParamSet;
+use mgn_session::{SetSource, SourceFault};
 use mgn_setfile::{Cause, read_set};
 use std::alloc::Global;
-use std::io::Read;
+use std::io::{ErrorKind, Read};
 use std::rt::Files;
-use std::{fs, io};
+use std::{fs, str};
 
 const MOST_BYTES: u64 = 8_388_608;
 
+/// The files of a folder: that of the set NAME is `DIR/NAME.csv`.
+#[derive(Drop)]
+pub struct Folder<'a, R> {
+    rt: &'a R,
+    dir: &'a str,
+}
+
 // All that a file holds, unless it cannot be read or holds more than a set's file may.
-fn read_whole<F: Read + Drop>(alloc: Global, file: F) -> Result<Vec<u8>, Fault>
+fn read_whole<F: Read + Drop>(alloc: Global, file: F) -> Result<Vec<u8>, SourceFault>
     ensures { IfOk result (λ bytes. vec_len bytes ≤ MOST_BYTES) }
 {
     let mut bytes = Vec::new(alloc);
     match file.take(MOST_BYTES + 1).read_to_end(&mut bytes) {
         Ok(_) if bytes.len() as u64 <= MOST_BYTES => Ok(bytes),
-        Err(error) if error.kind() == io::ErrorKind::OutOfMemory => Err(Fault::Memory),
-        _ => Err(Fault::NoSet),
+        Ok(_) => Err(SourceFault::Long),
+        Err(error) => Err(fault_of(error.kind())),
     }
 }
 
-// The bytes of the set's file in a folder.
-fn read_file<R: Files + AllocGlobal>(rt: &R, dir: &str, name: &str) -> Result<Vec<u8>, Fault> {
-    let path = format!(in rt.alloc(); "{dir}/{name}.csv")?;
-    match fs::open(rt, path.as_str()) {
-        Ok(file) => read_whole(rt.alloc(), file),
-        Err(error) if error.kind() == io::ErrorKind::OutOfMemory => Err(Fault::Memory),
-        Err(_) => Err(Fault::NoSet),
+fn fault_of(kind: ErrorKind) -> SourceFault {
+    match kind {
+        ErrorKind::OutOfMemory => SourceFault::Memory,
+        ErrorKind::NotFound => SourceFault::Missing,
+        _ => SourceFault::Failed,
     }
 }
 
-/// The set of a name in a folder: of the file `DIR/NAME.csv`.
-pub fn read<R: Files + AllocGlobal>(rt: &R, dir: &str, name: &str) -> Result<ParamSet, Fault> {
-    if SetName::read(name.as_bytes()).is_err() {
+impl<'a, R: Files + AllocGlobal> Folder<'a, R> {
+    /// The folder of a path.
+    pub fn new(rt: &'a R, dir: &'a str) -> Folder<'a, R> {
+        Folder { rt, dir }
+    }
+}
+
+impl<R: Files + AllocGlobal> SetSource for Folder<'_, R> {
+    // Nothing is known of what a folder holds.
+    ghost gives = { λ _ _ _ _. Unit {0} };
+
+    fn fetch(&mut self, name: &SetName) -> Result<Vec<u8>, SourceFault> {
+        let alloc = self.rt.alloc();
+        let Ok(name) = str::from_utf8(name.as_bytes()) else {
+            return Err(SourceFault::Missing);
+        };
+        let Ok(path) = format!(in alloc; "{}/{name}.csv", self.dir) else {
+            return Err(SourceFault::Memory);
+        };
+        match fs::open(self.rt, path.as_str()) {
+            Ok(file) => read_whole(alloc, file),
+            Err(error) => Err(fault_of(error.kind())),
+        }
+    }
+}
+
+/// The set of a name, by its file in a folder.
+pub fn read<S: SetSource>(alloc: Global, folder: &mut S, name: &str) -> Result<ParamSet, Fault> {
+    let Ok(name) = SetName::read(name.as_bytes()) else {
         return Err(Fault::NoSet);
-    }
-    let file = read_file(rt, dir, name)?;
-    match read_set(rt.alloc(), file.as_slice()) {
+    };
+    let file = match folder.fetch(&name) {
+        Ok(file) => file,
+        Err(SourceFault::Memory) => return Err(Fault::Memory),
+        Err(_) => return Err(Fault::NoSet),
+    };
+    match read_set(alloc, file.as_slice()) {
         Ok(set) => Ok(set),
         Err(fault) => match fault.cause {
             Cause::Memory => Err(Fault::Memory),
