@@ -6,11 +6,11 @@ ghost use Rattle.mgn_inter.specs.Sizes.{IsRisk};
 ghost use Rattle.mgn_span.specs.MonthDeltas.{net_delta_by};
 ghost use Rattle.mgn_span.specs.Scan.{value_at};
 ghost use Rattle.mgn_params.specs.Tables.{month_at};
-ghost use Rattle.mgn_tiers.specs.Sizes.{IsDelta};
 ghost use Rattle.mgn_tiers.specs.Tiers.{AreTiersOf};
+ghost use Rattle.mgn_span.specs.Sizes.{IsDelta};
 
 use mgn_inter::InterCredits;
-use mgn_num::{Cents, Quantity, Tenk};
+use mgn_num::{Cents, Quantity, TenThousandths};
 use mgn_params::ParamSet;
 use mgn_tiers::TierStages;
 
@@ -18,7 +18,12 @@ use mgn_tiers::TierStages;
 const LARGEST_DELTA: u128 = 256_000_000_000_000;
 
 /// Whether the delta of a month and the net delta of its commodity stay within their limit by a change.
-pub fn is_within_limits(set: &ParamSet, tiers: &TierStages, month: usize, delta: Tenk) -> bool
+pub fn is_within_limits(
+    set: &ParamSet,
+    tiers: &TierStages,
+    month: usize,
+    delta: TenThousandths,
+) -> bool
     requires of_set { AreTiersOf set.now tiers.now }
     requires month { month < length set.now.months }
     requires delta { unsigned_abs delta ≤ 10 ^ 30 }
@@ -32,16 +37,16 @@ pub fn is_within_limits(set: &ParamSet, tiers: &TierStages, month: usize, delta:
 }
 
 // A quantity of contracts at a scaled delta for each.
-fn scaled(quantity: Quantity, delta: &i64) -> Tenk
+fn scaled(quantity: Quantity, delta: &i64) -> TenThousandths
     requires quantity { unsigned_abs quantity ≤ 2 * 10 ^ 7 }
     requires delta { unsigned_abs delta.now ≤ 10 ^ 5 }
     ensures { unsigned_abs result ≤ 2 * 10 ^ 12 }
 {
-    Tenk::product(quantity, *delta)
+    TenThousandths::product(quantity, *delta)
 }
 
 /// What the month delta of a contract changes by with its net.
-pub fn delta_of(set: &ParamSet, contract: usize, quantity: Quantity) -> Tenk
+pub fn delta_of(set: &ParamSet, contract: usize, quantity: Quantity) -> TenThousandths
     requires contract { contract < length set.now.contracts }
     requires quantity { unsigned_abs quantity ≤ 2 * 10 ^ 7 }
     ensures { unsigned_abs result ≤ 2 * 10 ^ 12 }
@@ -51,7 +56,7 @@ pub fn delta_of(set: &ParamSet, contract: usize, quantity: Quantity) -> Tenk
 }
 
 /// Adds to the delta of a month. A change that would take a delta past its limit is not made.
-pub fn change(set: &ParamSet, tiers: &mut TierStages, month: usize, delta: Tenk)
+pub fn change(set: &ParamSet, tiers: &mut TierStages, month: usize, delta: TenThousandths)
     requires of_set { AreTiersOf set.now tiers.old }
     requires month { month < length set.now.months }
     requires delta { unsigned_abs delta ≤ 10 ^ 30 }

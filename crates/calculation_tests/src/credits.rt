@@ -5,7 +5,7 @@ ghost use Rattle.mgn_inter.specs.Credited.{AreCreditsOf};
 
 use crate::sets::Worked;
 use mgn_inter::InterCredits;
-use mgn_num::{Cents, Tenk};
+use mgn_num::{Cents, TenThousandths};
 use mgn_params::ParamSet;
 use std::alloc::Global;
 use std::process::Abort;
@@ -23,7 +23,7 @@ fn change(rt: &impl Abort, credits: &mut InterCredits, set: &ParamSet, case: &Ca
     assert!(rt; commodity < set.commodity_count());
     assert!(rt; -1_000_000 < delta && delta < 1_000_000);
     assert!(rt; 0 <= risk && risk < 1_000_000);
-    let delta = Tenk::new(i128::from(delta));
+    let delta = TenThousandths::new(i128::from(delta));
     credits.refresh(set, commodity, delta, Cents::new(i128::from(risk)));
 }
 

@@ -4,7 +4,7 @@ ghost use Rattle.std.specs.Prelude.{◌<◌, length};
 ghost use Rattle.mgn_tiers.specs.Tiers.{AreTiersOf};
 
 use crate::sets::Worked;
-use mgn_num::Tenk;
+use mgn_num::TenThousandths;
 use mgn_params::ParamSet;
 use mgn_tiers::TierStages;
 use std::alloc::Global;
@@ -22,7 +22,7 @@ fn change(rt: &impl Abort, tiers: &mut TierStages, set: &ParamSet, month: usize,
 {
     set.limits();
     assert!(rt; -1_000_000 < delta && delta < 1_000_000);
-    let delta = Tenk::new(i128::from(delta));
+    let delta = TenThousandths::new(i128::from(delta));
     let own = tiers.month_delta(month).plus(delta);
     let net = tiers.net_delta(set.month_at(month).commodity).plus(delta);
     assert!(rt; own.size() < 1_000_000_000);

@@ -18,24 +18,15 @@ abbrev pub is_on : Side → ℤ → Bool
 is_on Buys quantity = is_buy quantity
 is_on Sales quantity = not (is_buy quantity)
 
--- what a hold may cost, in cents: quantity times limit, less than 0 where it sells
-abbrev pub cost_on : Side → ℤ → ℕ → ℤ
-cost_on side quantity limit = if is_on side quantity then quantity *ℤ pos limit else pos 0
-
-abbrev pub held_cost : Side → Held → ℤ
-held_cost side x = cost_on side x.quantity x.limit
-
--- what the holds of a side may cost
+-- what the holds of a side may cost, in cents: the sum of quantity times limit, less than 0 where they sell
 abbrev pub premium : Side → List Held → ℤ
-premium side holds = signed_sum_by (held_cost side) holds
-
--- what a hold holds of a contract on one side
-abbrev pub held_share : Side → List ℕ → Held → ℤ
-held_share side contract x = if bytes_eq x.contract contract then (if is_on side x.quantity then x.quantity else pos 0) else pos 0
+premium side holds = signed_sum_by (λ x. if is_on side x.quantity then x.quantity *ℤ pos x.limit else pos 0) holds
 
 -- what the holds of a side hold of a contract
 abbrev pub held_net : Side → List ℕ → List Held → ℤ
-held_net side contract holds = signed_sum_by (held_share side contract) holds
+held_net side contract holds =
+    signed_sum_by (λ x. if bytes_eq x.contract contract then (if is_on side x.quantity then x.quantity else pos 0) else pos 0)
+    holds
 
 -- the limits of a hold
 pub record IsHeld (x : Held) : Type 0 where
@@ -70,14 +61,13 @@ abbrev pub covers : Held → ℤ → Bool
 covers x quantity =
     if is_buy x.quantity then int_lt (pos 0) quantity && int_le quantity x.quantity else int_lt quantity (pos 0) && int_le x.quantity quantity
 
--- a hold of which a part is filled
-abbrev pub lessened : Held → ℤ → Held
-lessened x quantity = record x { quantity = x.quantity -ℤ quantity }
-
 -- the holds after a fill: a part lessens the hold, all takes it away
 abbrev pub filled_at : List Held → ℕ → ℤ → List Held
 filled_at holds i quantity =
-    if int_eq quantity (hold_at holds i).quantity then remove holds i else slice_set holds i (lessened (hold_at holds i) quantity)
+    let x = hold_at holds i in
+    if int_eq quantity x.quantity
+    then remove holds i
+    else slice_set holds i (record x { quantity = x.quantity -ℤ quantity })
 
 abbrev pub orders_of : List Held → List ℕ
 orders_of holds = map (λ (x : Held). x.order) holds
@@ -87,3 +77,17 @@ pub record IsHolds (holds : List Held) : Type 0 where
   pub limits : All IsHeld holds
   pub few : length holds ≤ 256
   pub distinct : IsDistinct nat_eq (orders_of holds)
+
+-- What one hold counts for in a sum, and a hold of which a part is filled: words for proofs.
+
+abbrev pub cost_on : Side → ℤ → ℕ → ℤ
+cost_on side quantity limit = if is_on side quantity then quantity *ℤ pos limit else pos 0
+
+abbrev pub held_cost : Side → Held → ℤ
+held_cost side x = cost_on side x.quantity x.limit
+
+abbrev pub held_share : Side → List ℕ → Held → ℤ
+held_share side contract x = if bytes_eq x.contract contract then (if is_on side x.quantity then x.quantity else pos 0) else pos 0
+
+abbrev pub lessened : Held → ℤ → Held
+lessened x quantity = record x { quantity = x.quantity -ℤ quantity }

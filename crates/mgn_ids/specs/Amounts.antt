@@ -1,10 +1,8 @@
 -- Quantities, premiums and units as commands give them (own format and limits).
 use Rattle.std.specs.Prelude.{ℕ, ℤ, ◌^◌, ◌≤◌, ◌==◌, if◌then◌else◌, unsigned_abs, List, Result, Ok, Err}
 use Rattle.mgn_num.specs.Reading.{signed_in, unsigned_in}
-use Rattle.mgn_num.specs.declared.reading.NumFault.{NumFault}
-use Rattle.mgn_num.specs.declared.reading.NumFault.TheVariants.{Syntax as NoNumber, Range as OutOfRange}
 use Rattle.mgn_ids.specs.declared.fault.IdFault.{IdFault}
-use Rattle.mgn_ids.specs.declared.fault.IdFault.TheVariants.{Syntax, Range}
+use Rattle.mgn_ids.specs.declared.fault.IdFault.TheVariants.{Range}
 use Rattle.mgn_ids.specs.Number.{id_of}
 
 -- 1 to 1,000,000 contracts in size
@@ -17,15 +15,10 @@ pub record IsUnits (n : ℕ) : Type 0 where
   pub some : 1 ≤ n
   pub most : n ≤ 10 ^ 15
 
--- a quantity is not 0
-abbrev pub quantity_of : Result ℤ NumFault → Result ℤ IdFault
-quantity_of (Ok z) = if unsigned_abs z == 0 then Err Range else Ok z
-quantity_of (Err NoNumber) = Err Syntax
-quantity_of (Err OutOfRange) = Err Range
-
--- the quantity that a word spells
+-- the quantity that a word spells, which is not 0
 unfoldable pub quantity_in : List ℕ → Result ℤ IdFault
-quantity_in word = quantity_of (signed_in (10 ^ 6) word)
+quantity_in word =
+    elim (id_of (signed_in (10 ^ 6) word)) [ Ok z ↦ (if unsigned_abs z == 0 then Err Range else Ok z) | Err fault ↦ Err fault ]
 
 -- the premium or limit that a word spells
 unfoldable pub premium_in : List ℕ → Result ℕ IdFault

@@ -8,13 +8,10 @@ abbrev pub is_name_byte : ℕ → Bool
 is_name_byte b = (nat_le 65 b && nat_le b 90) || (nat_le 48 b && nat_le b 57)
 
 -- the name that a word spells: the right bytes first, then their number
-abbrev pub name_of : List ℕ → Result (List ℕ) IdFault
-name_of [] = Err Syntax
-name_of (b ∷ bs) =
-    if list_all is_name_byte (b ∷ bs) then (if nat_le (length (b ∷ bs)) 16 then Ok (b ∷ bs) else Err Range) else Err Syntax
-
 unfoldable pub name_in : List ℕ → Result (List ℕ) IdFault
-name_in word = name_of word
+name_in [] = Err Syntax
+name_in (b ∷ bs) =
+    if list_all is_name_byte (b ∷ bs) then (if nat_le (length (b ∷ bs)) 16 then Ok (b ∷ bs) else Err Range) else Err Syntax
 
 -- a name's bytes stand first in the row, and zeros after them
 pub record IsNameRow (bytes : List ℕ) (len : ℕ) : Type 0 where

@@ -21,8 +21,8 @@ pub record IsSessionNumber (n : ℕ) : Type 0 where
   pub low : 1 ≤ n
   pub high : n ≤ 16
 
--- what reading a number of a lot or an order answers, where reading the number answers this
-abbrev pub id_of : Result ℕ NumFault → Result ℕ IdFault
+-- a number that was read, or the same fault
+abbrev pub id_of : {A : Type 0} → Result A NumFault → Result A IdFault
 id_of (Ok n) = Ok n
 id_of (Err NoNumber) = Err Syntax
 id_of (Err OutOfRange) = Err Range

@@ -14,8 +14,9 @@ use Rattle.mgn_params.specs.Limits.{IsCreditSpread}
 use Rattle.mgn_params.specs.Tables.{credit_spread_at, legs_of, no_credit_spread, no_leg}
 use Rattle.mgn_inter.specs.declared.kept.Kept.{Kept}
 use Rattle.mgn_inter.specs.Rows.{AreFormed, AreNumbers, AreRests, Credited, IsKept, MissesBelow, kept_at, leg_at, names, nothing_kept, state_of, written}
-use Rattle.mgn_inter.specs.Sizes.{IsDelta, IsRisk}
+use Rattle.mgn_inter.specs.Sizes.{IsRisk}
 use Rattle.mgn_inter.proofs.SpreadLemmas.{formed_long, formed_near, formed_out, formed_set, formed_small}
+use Rattle.mgn_span.specs.Sizes.{IsDelta}
 
 -- one spread more
 pub state_suc : (deltas : List ℤ) (risks : List ℕ) (spreads : List CreditSpread) (n : ℕ) → n < length spreads → state_of deltas risks (take (suc n) spreads) ≡ formed deltas risks (state_of deltas risks (take n spreads)) (credit_spread_at spreads n)

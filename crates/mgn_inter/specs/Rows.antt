@@ -8,7 +8,8 @@ use Rattle.mgn_span.specs.Scan.{value_at}
 use Rattle.mgn_span.specs.Stages.{used}
 use Rattle.mgn_params.specs.Tables.{credit_spread_at, legs_of, no_leg}
 use Rattle.mgn_inter.specs.declared.kept.Kept.{Kept}
-use Rattle.mgn_inter.specs.Sizes.{IsDelta, IsRisk}
+use Rattle.mgn_inter.specs.Sizes.{IsRisk}
+use Rattle.mgn_span.specs.Sizes.{IsDelta}
 
 -- whether a leg is of a commodity
 abbrev pub names : ℕ → List Leg → Bool

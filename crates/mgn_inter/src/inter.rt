@@ -1,15 +1,16 @@
 ghost use Rattle.std.specs.Prelude.{◌≡◌, ℕ, ◌+◌, ◌*◌, ◌^◌, ◌<◌, ◌≤◌, ◌≤ℤ◌, pos, unsigned_abs, length, replicate, slice_index, slice_set, IfOk, min};
 ghost use Rattle.mgn_inter.specs.Credited.{AreCreditsOf};
 ghost use Rattle.mgn_inter.specs.Rows.{AreFormed, KeepsNumbers};
-ghost use Rattle.mgn_inter.specs.Sizes.{IsDelta, IsRisk};
+ghost use Rattle.mgn_inter.specs.Sizes.{IsRisk};
 ghost use Rattle.mgn_span.specs.Credits.{credits_of};
 ghost use Rattle.mgn_params.specs.Tables.{Tables};
+ghost use Rattle.mgn_span.specs.Sizes.{IsDelta};
 
 use crate::firsts::{first_places, spread_at};
 use crate::kept::Kept;
 use crate::rest::Rest;
 use crate::rows::{filled, form_spread, keep_legs, restore_credits, restore_rests};
-use mgn_num::{Cents, Tenk};
+use mgn_num::{Cents, TenThousandths};
 use mgn_params::ParamSet;
 use std::alloc::{AllocError, Global};
 use std::marker::Model;
@@ -154,7 +155,13 @@ impl InterCredits {
     /// Gives the commodity at a place a net delta, in ten-thousandths, and twice a price risk, in cents. The spreads are
     /// formed again from the first one that names it. The net delta is at most 2.56 * 10^14 in size, the doubled price
     /// risk 0 to 1.1 * 10^18.
-    pub fn refresh(&mut self, set: &ParamSet, g: usize, net_delta: Tenk, price_risk2: Cents)
+    pub fn refresh(
+        &mut self,
+        set: &ParamSet,
+        g: usize,
+        net_delta: TenThousandths,
+        price_risk2: Cents,
+    )
         requires of_set { AreCreditsOf set.now self.old }
         requires commodity { g < length set.now.commodities }
         requires net_delta { IsDelta net_delta }

@@ -3,13 +3,13 @@
 ghost use Rattle.std.specs.Prelude.{◌≡◌, ℕ, ◌+◌, ◌*◌, ◌<◌, ◌≤◌, ◌^◌, length, All, unsigned_abs, slice_index, IsTrue};
 ghost use Rattle.std.specs.List.{list_all};
 ghost use Rattle.mgn_inter.specs.Rows.{AreNumbers, AreRests, IsCreditable};
-ghost use Rattle.mgn_inter.specs.Sizes.{IsDelta};
 ghost use Rattle.mgn_span.specs.Credits.{credits_after, fits, forms, is_long, leg_amount, leg_credit, rests_after, spread_amount};
 ghost use Rattle.mgn_span.specs.Scan.{value_at};
 ghost use Rattle.mgn_span.specs.Stages.{used};
+ghost use Rattle.mgn_span.specs.Sizes.{IsDelta};
 
 use crate::rest::Rest;
-use mgn_params::{Leg, Side};
+use mgn_params::{Leg, LegSide};
 
 // Below these 64 bits hold their product, which saves the long division of 128 bits. Nearly all numbers are.
 const SHORT_PART: u64 = 10_000_000_000;
@@ -24,12 +24,12 @@ fn rest_at(rests: &[Rest], commodity: usize) -> Rest
     rests[commodity]
 }
 
-fn is_long_leg(a_long: bool, side: Side) -> bool
+fn is_long_leg(a_long: bool, side: LegSide) -> bool
     ensures { result ≡ is_long a_long side }
 {
     match side {
-        Side::A => a_long,
-        Side::B => !a_long,
+        LegSide::A => a_long,
+        LegSide::B => !a_long,
     }
 }
 

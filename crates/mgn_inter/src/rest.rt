@@ -1,6 +1,6 @@
 ghost use Rattle.std.specs.Prelude.{◌≡◌, ◌≤◌, ◌*◌, ◌^◌, ◌<ℤ◌, pos, unsigned_abs, IsTrue, ◌↔◌};
 
-use mgn_num::Tenk;
+use mgn_num::TenThousandths;
 use std::marker::Model;
 
 /// A net delta, or what spreads leave of it, in ten-thousandths, at most 2.56 * 10^14 in size. Contracts see the number.
@@ -11,7 +11,7 @@ pub(crate) struct Rest {
 
 impl Model for Rest {
     ghost use Rattle.std.specs.Prelude.{ℤ};
-    ghost use Rattle.mgn_inter.specs.Sizes.{IsDelta};
+    ghost use Rattle.mgn_span.specs.Sizes.{IsDelta};
 
     ghost Value = { ℤ };
 
@@ -23,12 +23,12 @@ impl Model for Rest {
 }
 
 impl Rest {
-    ghost use Rattle.mgn_inter.specs.Sizes.{IsDelta};
+    ghost use Rattle.mgn_span.specs.Sizes.{IsDelta};
     ghost use Rattle.mgn_num.specs.Amount.{nearer_zero};
 
     pub const ZERO: Rest = Rest { parts: 0 };
 
-    pub fn new(delta: Tenk) -> Rest
+    pub fn new(delta: TenThousandths) -> Rest
         requires { IsDelta delta }
         ensures { result ≡ delta }
     {

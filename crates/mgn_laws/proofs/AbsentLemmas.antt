@@ -1,5 +1,5 @@
 -- What a commodity adds in which nothing is held.
-use Rattle.std.proofs.Common.{◌≡◌, ◌≢◌, ℕ, ◌-◌, ◌*◌, ◌<◌, ◌≤◌, ◌==◌, Bool, true, false, Option, Some, None, List, [], ◌∷◌, length, get_or, ⊎_elim, ap, ◌∙◌, refl, arith, eq-eqb, ne_eqb, sym}
+use Rattle.std.proofs.Common.{◌≡◌, ◌≢◌, ℕ, ◌-◌, ◌*◌, ◌<◌, ◌≤◌, ◌==◌, Bool, true, false, Option, Some, None, List, [], ◌∷◌, length, get_or, ⊎_elim, ap, ◌∙◌, refl, arith, eq-eqb, ne_eqb, sym, take_all}
 use Rattle.std.specs.Prelude.{ℤ, pos, ◌*ℤ◌, ◌&&◌, nat_lt, if◌then◌else◌, slice_index}
 use Rattle.std.specs.Int.{div_ceil, int_max}
 use Rattle.std.specs.List.{AllByRecursion, sum_by}
@@ -13,7 +13,7 @@ use Rattle.std.proofs.lemmas.List.FromFn.{get_or-map-range_with_len, length-map-
 use Rattle.std.proofs.lemmas.List.Sums.{sum_by-cons}
 use Rattle.mgn_laws.proofs.AbsentCredits.{nothing_credited}
 use Rattle.mgn_laws.proofs.CreditLemmas.{delta_of}
-use Rattle.mgn_laws.proofs.StageLemmas.{charges_by_turns, left_and_used, stages_in_limits, start_length, used_by_le}
+use Rattle.mgn_laws.proofs.StageLemmas.{charges_by_turns, left_and_used, stages_in_limits, start_length}
 use Rattle.mgn_laws.proofs.SumLemmas.{signed_sum_below_none, sum_below_none}
 use Rattle.mgn_laws.specs.Absent.{HoldsNone}
 use Rattle.mgn_laws.specs.Turns.{charge_at, left_at, stage_at, stages_in, starts_in}
@@ -24,14 +24,14 @@ use Rattle.mgn_params.specs.declared.tables.Contract.{Contract}
 use Rattle.mgn_params.specs.declared.tables.Month.{Month}
 use Rattle.mgn_params.specs.declared.tables.SpotCharge.{SpotCharge}
 use Rattle.mgn_span.specs.declared.stage.Stage.{Stage}
-use Rattle.mgn_span.specs.Deltas.{is_in_tier, long_delta, long_share, month_delta, month_share, negative_part, net_delta, net_share, positive_part, short_delta, short_share, start_of, starts_of}
+use Rattle.mgn_span.specs.Deltas.{is_in_tier, month_delta, negative_part, positive_part, starts_from}
 use Rattle.mgn_params.specs.Limits.{IsContract, IsWithinLimits}
-use Rattle.mgn_span.specs.Options.{short_share_of}
+use Rattle.mgn_span.specs.Words.{long_delta, long_share, month_share, net_delta, net_share, scenario_share, short_delta, short_share, short_share_of, start_of}
 use Rattle.mgn_span.specs.Positions.{Position, positions}
 use Rattle.mgn_span.specs.Requirement.{credit, credits, intra_charge, minimum, risk, scan_of, spot_charge}
-use Rattle.mgn_span.specs.Scan.{active, scenario_share, scenario_total, value_at}
-use Rattle.mgn_span.specs.Spot.{outright_delta, spot_charge_of, spot_of, spread_delta}
-use Rattle.mgn_span.specs.Stages.{long_leg, short_leg, used_by}
+use Rattle.mgn_span.specs.Scan.{active, scenario_total, value_at}
+use Rattle.mgn_span.specs.Spot.{spot_of, spot_charge_from}
+use Rattle.mgn_span.specs.Stages.{long_leg, short_leg, left_by}
 use Rattle.mgn_params.specs.Tables.{Tables, commodity_at, is_option, month_at}
 
 -- sums of nothing
@@ -106,7 +106,7 @@ tier_none set nets g tier m part empty limits none =
     (cases_eq (month_at set.months m).commodity g)
 
 start_none : (set : Tables) (nets : List ℤ) (g leg : ℕ) → IsWithinLimits set → HoldsNone (positions set.contracts nets) g → slice_index (starts_in set nets g) leg ≡ 0
-unfolding starts_of
+unfolding starts_from
 start_none set nets g leg limits none =
     let held : List Position = positions set.contracts nets in
     let long = sum_below_none (long_share set.months held g leg) (λ m. tier_none set nets g leg m positive_part refl limits none) (length set.months) in
@@ -130,14 +130,10 @@ intra_none set nets g limits none =
     rw (left s.first_leg j, left s.second_leg j, zero-div s.first_ratio, zero-div s.second_ratio) (omega arith) in
     charges_by_turns starts stages ∙ sum_below_none (charge_at starts stages) charge (length stages)
 
-spot_nothing : (starts : List ℕ) (stages : List Stage) (spot : Option SpotCharge) → ((leg : ℕ) → slice_index starts leg ≡ 0) → ((leg : ℕ) → used_by starts stages leg ≡ 0) → spot_charge_of starts stages spot ≡ 0
-spot_nothing starts stages None start uses = refl
-spot_nothing starts stages (Some spot) start uses =
-    let spread : spread_delta starts stages spot.tier ≡ 0 = omega (arith, uses (long_leg spot.tier), uses (short_leg spot.tier)) in
-    let outright : outright_delta starts stages spot.tier ≡ 0 = omega (arith, start (long_leg spot.tier), start (short_leg spot.tier)) in
-    let one = ap (λ (n : ℕ). div_ceil (n * spot.spread_rate) 10000) spread in
-    let two = ap (λ (n : ℕ). div_ceil (n * spot.outright_rate) 10000) outright in
-    omega (arith, one, two)
+spot_nothing : (starts left : List ℕ) (spot : Option SpotCharge) → ((leg : ℕ) → slice_index starts leg ≡ 0) → ((leg : ℕ) → slice_index left leg ≡ 0) → spot_charge_from starts left spot ≡ 0
+spot_nothing starts left None start rest = refl
+spot_nothing starts left (Some spot) start rest =
+    rw (start (long_leg spot.tier), start (short_leg spot.tier), rest (long_leg spot.tier), rest (short_leg spot.tier)) (omega arith)
 
 pub spot_none : (set : Tables) (nets : List ℤ) (g : ℕ) → IsWithinLimits set → HoldsNone (positions set.contracts nets) g → spot_charge set (positions set.contracts nets) g ≡ 0
 unfolding spot_charge
@@ -146,8 +142,9 @@ spot_none set nets g limits none =
     let stages = stages_in set g in
     let are = stages_in_limits set g limits in
     let start : (leg : ℕ) → slice_index starts leg ≡ 0 = λ leg. start_none set nets g leg limits none in
-    let uses : (leg : ℕ) → used_by starts stages leg ≡ 0 = λ leg. omega (arith, used_by_le starts stages leg (start_length set nets g) are, start leg) in
-    spot_nothing starts stages (spot_of set.spots g) start uses
+    let whole : left_at starts stages (length stages) ≡ left_by starts stages = ap (left_by starts) (take_all (length stages) stages (omega arith)) in
+    let rest : (leg : ℕ) → slice_index (left_by starts stages) leg ≡ 0 = λ leg. omega (arith, left_and_used starts stages leg (length stages) (start_length set nets g) are, start leg, ap (λ (row : List ℕ). slice_index row leg) whole) in
+    spot_nothing starts (left_by starts stages) (spot_of set.spots g) start rest
 
 -- the whole risk
 

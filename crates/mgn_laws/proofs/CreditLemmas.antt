@@ -16,7 +16,7 @@ use Rattle.mgn_span.proofs.StageLemmas.{used_le_left}
 use Rattle.mgn_params.specs.declared.tables.CreditSpread.{CreditSpread}
 use Rattle.mgn_params.specs.declared.tables.Leg.{Leg}
 use Rattle.mgn_span.specs.Credits.{credits_after, formed, forms, leg_amount, rests_after, spread_amount}
-use Rattle.mgn_span.specs.Deltas.{net_delta}
+use Rattle.mgn_span.specs.Words.{net_delta}
 use Rattle.mgn_params.specs.Limits.{IsCreditSpread, IsLeg, IsWithinLimits}
 use Rattle.mgn_span.specs.Positions.{Position}
 use Rattle.mgn_span.specs.Scan.{value_at}

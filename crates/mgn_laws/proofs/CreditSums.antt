@@ -13,7 +13,7 @@ use Rattle.mgn_num.specs.Signed.{sum_below}
 use Rattle.mgn_params.specs.declared.tables.CreditSpread.{CreditSpread}
 use Rattle.mgn_params.specs.declared.tables.Leg.{Leg}
 use Rattle.mgn_span.specs.Credits.{credits_after, formed, forms, leg_credit, rests_after, spread_amount}
-use Rattle.mgn_span.specs.Deltas.{net_delta}
+use Rattle.mgn_span.specs.Words.{net_delta}
 use Rattle.mgn_span.specs.Positions.{Position}
 use Rattle.mgn_span.specs.Requirement.{credit, credits}
 use Rattle.mgn_params.specs.Tables.{Tables, credit_spread_at, legs_of, no_credit_spread}

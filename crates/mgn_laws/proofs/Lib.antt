@@ -8,5 +8,5 @@ pub mod PassingLemmas
 pub mod RequirementLemmas
 pub mod StageLemmas
 pub mod SumLemmas
-pub mod TurnedLemmas
+pub mod NegatedLemmas
 pub mod WithoutLemmas

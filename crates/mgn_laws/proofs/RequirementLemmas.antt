@@ -6,7 +6,8 @@ use Rattle.mgn_num.proofs.SignedLemmas.{signed_sum_by-cons}
 use Rattle.mgn_laws.specs.Worst.{own_worst, worst_cases}
 use Rattle.mgn_span.specs.Positions.{Position}
 use Rattle.mgn_span.specs.Requirement.{requirement, scan_of}
-use Rattle.mgn_span.specs.Scan.{active, scan_risk, scenario_share, scenario_total}
+use Rattle.mgn_span.specs.Scan.{active, scan_risk, scenario_total}
+use Rattle.mgn_span.specs.Words.{scenario_share}
 use Rattle.mgn_params.specs.Tables.{Tables}
 use Rattle.mgn_span.proofs.ActiveLemmas.{active_is}
 

@@ -11,12 +11,13 @@ use Rattle.std.proofs.lemmas.List.Sums.{fold_more}
 use Rattle.mgn_laws.specs.Turns.{charge_at, left_at, no_stage, stage_at, stages_in, starts_in, use_at}
 use Rattle.mgn_num.specs.Signed.{sum_below}
 use Rattle.mgn_span.proofs.StageLemmas.{first_used_le, second_used_le}
+use Rattle.mgn_span.specs.Deltas.{starts_from}
 use Rattle.mgn_span.specs.declared.stage.Stage.{Stage}
 use Rattle.mgn_params.specs.declared.tables.Spread.{Spread}
-use Rattle.mgn_span.specs.Deltas.{long_delta, short_delta, start_of, starts_of}
+use Rattle.mgn_span.specs.Words.{long_delta, short_delta, start_of, used_by, used_of}
 use Rattle.mgn_params.specs.Limits.{IsSpread, IsWithinLimits}
 use Rattle.mgn_span.specs.Positions.{positions}
-use Rattle.mgn_span.specs.Stages.{IsStage, charges_of, left_after, left_by, long_leg, short_leg, stages_of_spread, used_by, used_of}
+use Rattle.mgn_span.specs.Stages.{IsStage, charges_of, left_after, left_by, long_leg, short_leg, stages_of_spread}
 use Rattle.mgn_params.specs.Tables.{Tables}
 
 -- sums from their first number on
@@ -108,17 +109,17 @@ stages_in_limits set commodity limits =
 -- what the legs of a commodity start with
 
 pub start_length : (set : Tables) (nets : List ℤ) (commodity : ℕ) → length (starts_in set nets commodity) ≡ 16
-unfolding starts_of
+unfolding starts_from
 start_length set nets commodity = length-map-range_with_len (start_of set.months (positions set.contracts nets) commodity) 0 16
 
 pub start_long : (set : Tables) (nets : List ℤ) (commodity tier : ℕ) → tier < 8 → slice_index (starts_in set nets commodity) (long_leg tier) ≡ long_delta set.months (positions set.contracts nets) commodity tier
-unfolding starts_of
+unfolding starts_from
 start_long set nets commodity tier small =
     let read = get_or-map-range_with_len (start_of set.months (positions set.contracts nets) commodity) 0 16 tier tier 0 (omega arith) (omega arith) in
     read ∙ rw (lt-ltb tier 8 small) refl
 
 pub start_short : (set : Tables) (nets : List ℤ) (commodity tier : ℕ) → tier < 8 → slice_index (starts_in set nets commodity) (short_leg tier) ≡ short_delta set.months (positions set.contracts nets) commodity tier
-unfolding starts_of
+unfolding starts_from
 start_short set nets commodity tier small =
     let read = get_or-map-range_with_len (start_of set.months (positions set.contracts nets) commodity) 0 16 (8 + tier) (8 + tier) 0 (omega arith) (omega arith) in
     let tier_again : 8 + tier - 8 ≡ tier = omega arith in

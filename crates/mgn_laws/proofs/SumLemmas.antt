@@ -12,9 +12,9 @@ pub signed_sum_below_along : (f g : ℕ → ℤ) → ((m : ℕ) → f m ≡ g m)
 signed_sum_below_along f g same zero = refl
 signed_sum_below_along f g same (suc n) = omega (arith, ints, signed_sum_below_along f g same n, same n)
 
-pub signed_sum_below_turned : (f g : ℕ → ℤ) → ((m : ℕ) → f m ≡ neg_ℤ (g m)) → (n : ℕ) → signed_sum_below f n ≡ neg_ℤ (signed_sum_below g n)
-signed_sum_below_turned f g turn zero = refl
-signed_sum_below_turned f g turn (suc n) = omega (arith, ints, signed_sum_below_turned f g turn n, turn n)
+pub signed_sum_below_negated : (f g : ℕ → ℤ) → ((m : ℕ) → f m ≡ neg_ℤ (g m)) → (n : ℕ) → signed_sum_below f n ≡ neg_ℤ (signed_sum_below g n)
+signed_sum_below_negated f g turn zero = refl
+signed_sum_below_negated f g turn (suc n) = omega (arith, ints, signed_sum_below_negated f g turn n, turn n)
 
 pub sum_below_none : (f : ℕ → ℕ) → ((m : ℕ) → f m ≡ 0) → (n : ℕ) → sum_below f n ≡ 0
 sum_below_none f none zero = refl

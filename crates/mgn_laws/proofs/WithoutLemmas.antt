@@ -23,14 +23,15 @@ use Rattle.mgn_params.specs.declared.tables.SpotCharge.{SpotCharge}
 use Rattle.mgn_params.specs.declared.tables.Spread.{Spread}
 use Rattle.mgn_span.specs.declared.stage.Stage.{Stage}
 use Rattle.mgn_span.specs.Credits.{formed, forms}
-use Rattle.mgn_span.specs.Deltas.{is_in_tier, month_delta, month_share, negative_part, net_delta, positive_part, starts_of}
+use Rattle.mgn_span.specs.Deltas.{is_in_tier, month_delta, negative_part, positive_part, starts_from}
 use Rattle.mgn_params.specs.Limits.{IsWithinLimits}
-use Rattle.mgn_span.specs.Options.{net_option_value, short_share_of, value_share}
+use Rattle.mgn_span.specs.Options.{net_option_value}
 use Rattle.mgn_span.specs.Positions.{Position, positions}
-use Rattle.mgn_span.specs.Requirement.{commodities_of, credit, credits, intra_charge, minimum, price_risk2_of, requirement, risk, scan_of, spot_charge}
-use Rattle.mgn_span.specs.Scan.{price_risk2, scan_risk, scenario_share, scenario_total, value_at}
-use Rattle.mgn_span.specs.Spot.{spot_charge_of, spot_of}
-use Rattle.mgn_span.specs.Stages.{charges_of, stages_of, stages_of_spread}
+use Rattle.mgn_span.specs.Requirement.{credit, credits, intra_charge, minimum, requirement, risk, scan_of, spot_charge}
+use Rattle.mgn_span.specs.Scan.{price_risk2, scan_risk, scenario_total, value_at}
+use Rattle.mgn_span.specs.Spot.{spot_of, spot_charge_from}
+use Rattle.mgn_span.specs.Stages.{charges_of, stages_of, stages_of_spread, left_by}
+use Rattle.mgn_span.specs.Words.{commodities_of, month_share, net_delta, price_risk2_of, scenario_share, short_share_of, starts_of, value_share}
 use Rattle.mgn_params.specs.Tables.{Tables, commodity_at, legs_of, month_at}
 
 -- filters by a number that each row has, as its commodity
@@ -121,13 +122,8 @@ deltas_left g held none = fun_ext (λ m. sum_left (month_share m) (month_share_f
 
 -- what hangs on the month deltas
 
-abbrev starts_by : List Month → ℕ → (ℕ → ℤ) → List ℕ
-starts_by months g delta =
-    map (λ leg. if nat_lt leg 8 then sum_below (λ m. if is_in_tier months g leg m then positive_part (delta m) else 0) (length months) else sum_below (λ m. if is_in_tier months g (leg - 8) m then negative_part (delta m) else 0) (length months)) (range_with_len 0 16)
-
 starts_left : (months : List Month) (h g : ℕ) (held : List Position) → HoldsNoneByRecursion held g → starts_of months (left g held) h ≡ starts_of months held h
-unfolding starts_of
-starts_left months h g held none = ap (starts_by months h) (deltas_left g held none)
+starts_left months h g held none = ap (λ (delta : ℕ → ℤ). starts_from months delta h) (deltas_left g held none)
 
 net_left : (months : List Month) (h g : ℕ) (held : List Position) → HoldsNoneByRecursion held g → net_delta months (left g held) h ≡ net_delta months held h
 net_left months h g held none =
@@ -201,11 +197,11 @@ spot_left set nets h g limits none =
     (λ (own : h ≡ g).
     let missing : spot_of (others_of (λ (s : SpotCharge). s.commodity) g set.spots) h ≡ None = ap (spot_of (others_of (λ (s : SpotCharge). s.commodity) g set.spots)) own ∙ find_own (λ (s : SpotCharge). s.commodity) g set.spots in
     let nothing = ap (λ (k : ℕ). spot_charge set held k) own ∙ spot_none set nets g limits none in
-    ap (spot_charge_of (starts_of set.months (left g held) h) (stages_of fewer h)) missing ∙ sym nothing)
+    ap (spot_charge_from (starts_of set.months (left g held) h) (left_by (starts_of set.months (left g held) h) (stages_of fewer h))) missing ∙ sym nothing)
     (λ (other : h ≢ g).
     let stages = ap (flat_map stages_of_spread) (filter_other (λ (s : Spread). s.commodity) g h other set.spreads) in
     let spot = find_other (λ (s : SpotCharge). s.commodity) g h other set.spots in
-    rw (starts, spot) (ap (λ (ss : List Stage). spot_charge_of (starts_of set.months held h) ss (spot_of set.spots h)) stages))
+    rw (starts, spot) (ap (λ (ss : List Stage). spot_charge_from (starts_of set.months held h) (left_by (starts_of set.months held h) ss) (spot_of set.spots h)) stages))
     (cases_eq h g)
 
 credit_left : (set : Tables) (nets : List ℤ) (h g : ℕ) → IsWithinLimits set → HoldsNone (positions set.contracts nets) g → credit (without g set) (left g (positions set.contracts nets)) h ≡ credit set (positions set.contracts nets) h

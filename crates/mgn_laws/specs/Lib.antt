@@ -1,7 +1,7 @@
 -- Words of the laws.
 pub mod Worst
 pub mod Turns
-pub mod Turned
+pub mod Negated
 pub mod Uses
 pub mod Absent
 pub mod Passing

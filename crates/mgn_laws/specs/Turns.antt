@@ -1,9 +1,9 @@
 -- The stages of intracommodity spreads in their turns.
 use Rattle.std.specs.Prelude.{ℕ, ℤ, List, slice_index_or, take}
 use Rattle.mgn_span.specs.declared.stage.Stage.{Stage}
-use Rattle.mgn_span.specs.Deltas.{starts_of}
+use Rattle.mgn_span.specs.Words.{charge_of, starts_of, used_of}
 use Rattle.mgn_span.specs.Positions.{positions}
-use Rattle.mgn_span.specs.Stages.{charge_of, left_by, stages_of, used_of}
+use Rattle.mgn_span.specs.Stages.{left_by, stages_of}
 use Rattle.mgn_params.specs.Tables.{Tables}
 
 -- what the legs of a commodity start with, and its stages

@@ -4,9 +4,8 @@ use Rattle.std.specs.List.{fold, sum_by}
 use Rattle.mgn_params.specs.declared.tables.CreditSpread.{CreditSpread}
 use Rattle.mgn_params.specs.declared.tables.Leg.{Leg}
 use Rattle.mgn_span.specs.Credits.{formed, forms, leg_credit, spread_amount}
-use Rattle.mgn_span.specs.Deltas.{net_delta}
+use Rattle.mgn_span.specs.Words.{commodities_of, net_delta, price_risk2_of}
 use Rattle.mgn_span.specs.Positions.{Position}
-use Rattle.mgn_span.specs.Requirement.{commodities_of, price_risk2_of}
 use Rattle.mgn_span.specs.Stages.{used}
 use Rattle.mgn_params.specs.Tables.{Tables, credit_spread_at, legs_of}
 

@@ -2,7 +2,8 @@
 use Rattle.std.specs.Prelude.{ℕ, ℤ, List}
 use Rattle.mgn_num.specs.Signed.{signed_sum_by}
 use Rattle.mgn_span.specs.Positions.{Position}
-use Rattle.mgn_span.specs.Scan.{scan_risk, scenario_share}
+use Rattle.mgn_span.specs.Scan.{scan_risk}
+use Rattle.mgn_span.specs.Words.{scenario_share}
 
 -- the worst that one position alone may come to in a commodity
 abbrev pub own_worst : ℕ → Position → ℤ

@@ -3,7 +3,7 @@
 ghost use Rattle.std.specs.Prelude.{◌≡◌, ◌+◌, ◌<◌, ◌≤◌, length, unsigned_abs};
 ghost use Rattle.mgn_laws.specs.Uses.{credit_at, credit_use_at, rests_at};
 ghost use Rattle.mgn_num.specs.Signed.{sum_below};
-ghost use Rattle.mgn_span.specs.Deltas.{net_delta};
+ghost use Rattle.mgn_span.specs.Words.{net_delta};
 ghost use Rattle.mgn_span.specs.Positions.{positions};
 ghost use Rattle.mgn_span.specs.Requirement.{credit};
 ghost use Rattle.mgn_span.specs.Scan.{value_at};

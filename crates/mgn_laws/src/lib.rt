@@ -12,7 +12,7 @@ mod stages;
 pub use credits::{
     credit_uses_within_net_delta, credits_spread_by_spread, rests_leave_net_delta_less_earlier_uses,
 };
-pub use deltas::{turning_round_swaps_deltas, turning_round_turns_net_delta};
+pub use deltas::{negated_positions_negate_net_delta, negated_positions_swap_deltas};
 pub use files::{
     accepts_where_each_record_passes, adds_one_row_at_the_end, refuses_first_faulty_record,
     sets_what_records_give,
@@ -22,7 +22,7 @@ pub use requirements::{
     requires_same_without_what_is_not_held,
 };
 pub use scenarios::{
-    activates_lowest_largest, scans_within_worst_cases, turning_round_turns_totals,
+    activates_lowest_largest, negated_positions_negate_totals, scans_within_worst_cases,
 };
 pub use stages::{
     charges_stage_by_stage, leaves_start_less_earlier_uses, uses_stage_by_stage, uses_within_deltas,

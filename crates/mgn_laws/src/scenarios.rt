@@ -1,7 +1,7 @@
 //! Scenario totals, scan risk and the active scenario.
 
 ghost use Rattle.std.specs.Prelude.{◌≡◌, ◌≤ℤ◌, neg_ℤ};
-ghost use Rattle.mgn_laws.specs.Turned.{turned};
+ghost use Rattle.mgn_laws.specs.Negated.{negated};
 ghost use Rattle.mgn_laws.specs.Worst.{worst_cases};
 ghost use Rattle.mgn_span.specs.Positions.{positions};
 ghost use Rattle.mgn_span.specs.Requirement.{scan_of};
@@ -21,7 +21,12 @@ pub fn activates_lowest_largest(totals: &[i64; 16])
 
 /// Where every position is negated, long for short, the total of each scenario changes its sign: a loss is the
 /// same gain.
-pub fn turning_round_turns_totals(set: &ParamSet, nets: &[i64], commodity: usize, scenario: usize)
-    ensures { scenario_total commodity (positions set.now.contracts (turned nets.now)) scenario
+pub fn negated_positions_negate_totals(
+    set: &ParamSet,
+    nets: &[i64],
+    commodity: usize,
+    scenario: usize,
+)
+    ensures { scenario_total commodity (positions set.now.contracts (negated nets.now)) scenario
         ≡ neg_ℤ (scenario_total commodity (positions set.now.contracts nets.now) scenario) }
 {}

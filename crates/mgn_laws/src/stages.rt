@@ -3,10 +3,10 @@
 ghost use Rattle.std.specs.Prelude.{◌≡◌, ◌+◌, ◌<◌, ◌≤◌, length, slice_index};
 ghost use Rattle.mgn_laws.specs.Turns.{charge_at, left_at, stages_in, starts_in, use_at};
 ghost use Rattle.mgn_num.specs.Signed.{sum_below};
-ghost use Rattle.mgn_span.specs.Deltas.{long_delta, short_delta};
+ghost use Rattle.mgn_span.specs.Words.{long_delta, short_delta, used_by};
 ghost use Rattle.mgn_span.specs.Positions.{positions};
 ghost use Rattle.mgn_span.specs.Requirement.{intra_charge};
-ghost use Rattle.mgn_span.specs.Stages.{long_leg, short_leg, used_by};
+ghost use Rattle.mgn_span.specs.Stages.{long_leg, short_leg};
 
 use mgn_params::ParamSet;
 

@@ -4,24 +4,21 @@ use Rattle.std.specs.Str.{bytes_eq}
 use Rattle.std.specs.List.{list_any, sum_by}
 use Rattle.mgn_num.specs.Signed.{signed_sum_by}
 use Rattle.mgn_lots.specs.declared.lot.Mark.{Mark}
-use Rattle.mgn_lots.specs.declared.lot.Mark.TheVariants.{Traded, Moved, Busted}
+use Rattle.mgn_lots.specs.declared.lot.Mark.TheVariants.{Moved, Busted}
 use Rattle.mgn_lots.specs.declared.lot.Lot.{Lot}
 
 -- traded and moved lots are live
 abbrev pub is_live : Mark → Bool
-is_live Traded = true
-is_live Moved = true
 is_live Busted = false
+is_live _ = true
 
 abbrev pub is_moved : Mark → Bool
-is_moved Traded = false
 is_moved Moved = true
-is_moved Busted = false
+is_moved _ = false
 
 abbrev pub is_busted : Mark → Bool
-is_busted Traded = false
-is_busted Moved = false
 is_busted Busted = true
+is_busted _ = false
 
 -- the quantity for which a lot counts
 abbrev pub live_quantity : Lot → ℤ
@@ -39,13 +36,9 @@ net contract lots = signed_sum_by (lot_share contract) lots
 abbrev pub gross : List ℕ → List Lot → ℕ
 gross contract lots = sum_by (λ (x : Lot). unsigned_abs (lot_share contract x)) lots
 
--- what a lot cost, in cents: quantity times premium, less than 0 where it was sold
-abbrev pub lot_cost : Lot → ℤ
-lot_cost x = live_quantity x *ℤ pos x.premium
-
--- what the live lots cost
+-- what the live lots cost, in cents: the sum of quantity times premium, less than 0 where a lot was sold
 abbrev pub cost : List Lot → ℤ
-cost lots = signed_sum_by lot_cost lots
+cost lots = signed_sum_by (λ x. live_quantity x *ℤ pos x.premium) lots
 
 -- the limits of a lot
 pub record IsLot (x : Lot) : Type 0 where
@@ -78,3 +71,7 @@ lot_at lots i = slice_index_or lots i no_lot
 -- a lot that is busted
 abbrev pub busted : Lot → Lot
 busted x = record x { mark = Busted }
+
+-- What one lot counts for in the cost, a word for proofs.
+abbrev pub lot_cost : Lot → ℤ
+lot_cost x = live_quantity x *ℤ pos x.premium

@@ -6,7 +6,7 @@ pub mod cents;
 pub mod fraction;
 pub mod quantity;
 pub mod reading;
-pub mod tenk;
+pub mod ten_thousandths;
 #[cfg(test)]
 mod tests;
 
@@ -14,4 +14,4 @@ pub use cents::Cents;
 pub use fraction::{mul_div_ceil, mul_div_floor, quotient};
 pub use quantity::Quantity;
 pub use reading::{NumFault, read_signed, read_unsigned};
-pub use tenk::Tenk;
+pub use ten_thousandths::TenThousandths;

@@ -1,7 +1,7 @@
 //! Each public function on plain numbers.
 
 use crate::{
-    Cents, NumFault, Quantity, Tenk, mul_div_ceil, mul_div_floor, quotient, read_signed,
+    Cents, NumFault, Quantity, TenThousandths, mul_div_ceil, mul_div_floor, quotient, read_signed,
     read_unsigned,
 };
 use std::test::Fail;
@@ -20,7 +20,7 @@ const MISSPELLED: [&str; 9] = ["", "-", "-0", "00", "01", "+1", "1 ", "1a", "- 1
 fn numbers_are_read_and_printed(rt: HostRuntime) -> Result<(), Fail> {
     for (text, number) in &SPELLED {
         let cents = Cents::parse(text.as_bytes())?;
-        let parts = Tenk::parse(text.as_bytes())?;
+        let parts = TenThousandths::parse(text.as_bytes())?;
         assert_eq!(rt;
             (cents.amount(), parts.parts()),
             (*number, *number),
@@ -40,7 +40,11 @@ fn misspelled_numbers_are_refused(rt: HostRuntime) {
     for text in &MISSPELLED {
         let word = text.as_bytes();
         assert_eq!(rt; Cents::parse(word), Err(NumFault::Syntax), "for {text}");
-        assert_eq!(rt; Tenk::parse(word), Err(NumFault::Syntax), "for {text}");
+        assert_eq!(rt;
+            TenThousandths::parse(word),
+            Err(NumFault::Syntax),
+            "for {text}"
+        );
         assert_eq!(rt; read_signed(word, 10), Err(NumFault::Syntax), "for {text}");
         assert_eq!(rt;
             read_unsigned(word, 0, 10),
@@ -64,7 +68,7 @@ fn ranges_hold_at_their_ends(rt: HostRuntime) {
     let ten_to_36 = 1_000_000_000_000_000_000_000_000_000_000_000_000;
     assert_eq!(rt; Cents::parse(most), Ok(Cents::new(ten_to_36)));
     assert_eq!(rt; Cents::parse(more), Err(NumFault::Range));
-    assert_eq!(rt; Tenk::parse(more), Err(NumFault::Range));
+    assert_eq!(rt; TenThousandths::parse(more), Err(NumFault::Range));
 }
 
 #[test]
@@ -103,21 +107,29 @@ fn amounts_are_reckoned_with(rt: HostRuntime) {
 
 #[test]
 fn deltas_are_reckoned_with(rt: HostRuntime) {
-    let long = Tenk::product(Quantity::new(2), 10_000);
-    let short = Tenk::product(Quantity::new(-3), 5_000);
+    let long = TenThousandths::product(Quantity::new(2), 10_000);
+    let short = TenThousandths::product(Quantity::new(-3), 5_000);
     assert_eq!(rt;
         (long.parts(), short.parts(), short.size()),
         (20_000, -15_000, 15_000)
     );
-    assert_eq!(rt; Tenk::new(20_000).plus(Tenk::new(-15_000)).parts(), 5_000);
+    assert_eq!(rt;
+        TenThousandths::new(20_000)
+            .plus(TenThousandths::new(-15_000))
+            .parts(),
+        5_000
+    );
     assert_eq!(rt;
         (short.nearer_zero(5_000).parts(), short.nearer_zero(20_000)),
-        (-10_000, Tenk::ZERO)
+        (-10_000, TenThousandths::ZERO)
     );
     assert_eq!(rt; (long.is_positive(), long.is_negative()), (true, false));
     assert_eq!(rt; (short.is_positive(), short.is_negative()), (false, true));
     assert_eq!(rt;
-        (Tenk::ZERO.is_positive(), Tenk::ZERO.is_negative()),
+        (
+            TenThousandths::ZERO.is_positive(),
+            TenThousandths::ZERO.is_negative()
+        ),
         (false, false)
     );
 }

@@ -8,9 +8,10 @@ use Rattle.std.proofs.lemmas.List.Elements.{All-replicate, All-set}
 use Rattle.mgn_num.proofs.SignedLemmas.{sum-*ℤ}
 use Rattle.mgn_params.specs.declared.tables.Contract.{Contract}
 use Rattle.mgn_params.specs.Limits.{IsWithinLimits}
-use Rattle.mgn_span.specs.Options.{net_option_value, short_option_minimum, short_share_of, value_share}
+use Rattle.mgn_span.specs.Options.{net_option_value, short_option_minimum}
 use Rattle.mgn_span.specs.Positions.{IsNet, positions}
 use Rattle.mgn_span.specs.Scan.{value_at}
+use Rattle.mgn_span.specs.Words.{short_share_of, value_share}
 use Rattle.mgn_params.specs.Tables.{Tables, commodity_at, contract_at, no_commodity}
 use Rattle.mgn_span.proofs.FlatLemmas.{AreFlat-replicate, net_option_value_flat, short_option_minimum_flat}
 use Rattle.mgn_span.proofs.PositionLemmas.{position_count-le, position_count-set, position_sum-set}

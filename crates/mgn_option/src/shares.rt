@@ -1,5 +1,5 @@
 ghost use Rattle.std.specs.Prelude.{◌≡◌, ◌≤◌, ◌^◌};
-ghost use Rattle.mgn_span.specs.Options.{short_share_of, value_share};
+ghost use Rattle.mgn_span.specs.Words.{short_share_of, value_share};
 ghost use Rattle.mgn_span.specs.Positions.{IsNet};
 ghost use Rattle.mgn_params.specs.Tables.{is_option, is_premium};
 

@@ -1,3 +1,4 @@
 -- Lemmas on limits and names.
 pub mod LimitsLemmas
 pub mod NameLemmas
+pub mod RowEquality

@@ -5,11 +5,11 @@ use Rattle.mgn_params.specs.declared.tables.Commodity.{Commodity}
 use Rattle.mgn_params.specs.declared.tables.Contract.{Contract}
 use Rattle.mgn_params.specs.declared.tables.CreditSpread.{CreditSpread}
 use Rattle.mgn_params.specs.declared.tables.Kind.{Kind}
-use Rattle.mgn_params.specs.declared.tables.Kind.TheVariants.{Future, Call, Put}
+use Rattle.mgn_params.specs.declared.tables.Kind.TheVariants.{Future}
 use Rattle.mgn_params.specs.declared.tables.Leg.{Leg}
 use Rattle.mgn_params.specs.declared.tables.Month.{Month}
-use Rattle.mgn_params.specs.declared.tables.Side.{Side}
-use Rattle.mgn_params.specs.declared.tables.Side.TheVariants.{A, B}
+use Rattle.mgn_params.specs.declared.tables.LegSide.{LegSide}
+use Rattle.mgn_params.specs.declared.tables.LegSide.TheVariants.{A, B}
 use Rattle.mgn_params.specs.declared.tables.SpotCharge.{SpotCharge}
 use Rattle.mgn_params.specs.declared.tables.Spread.{Spread}
 use Rattle.mgn_params.specs.declared.tables.Style.{Style}
@@ -88,17 +88,16 @@ is_month commodity number m = (m.commodity == commodity) && (m.number == number)
 
 abbrev pub is_option : Kind → Bool
 is_option Future = false
-is_option Call = true
-is_option Put = true
+is_option _ = true
 
 abbrev pub is_premium : Style → Bool
 is_premium Premium = true
 is_premium Other = false
 
-abbrev pub is_side_a : Side → Bool
+abbrev pub is_side_a : LegSide → Bool
 is_side_a A = true
 is_side_a B = false
 
-abbrev pub is_side_b : Side → Bool
+abbrev pub is_side_b : LegSide → Bool
 is_side_b A = false
 is_side_b B = true

@@ -11,6 +11,7 @@ use std::marker::Model;
 
 mod copies;
 mod growth;
+mod sameness;
 
 /// A parameter set. Contracts see its tables, each in file order.
 ///
@@ -257,13 +258,13 @@ impl ParamSet {
         self.spots.as_slice()
     }
 
-    /// The risk array of the contract at a place. Each read is counted.
+    /// The risk array of the contract at a place, which no other call hands out. Each read is counted.
     pub fn array(&self, i: usize, work: &mut Work) -> &[i64; 16]
         requires { i < length self.now.contracts }
         ensures array { result.now ≡ (contract_at self.now.contracts i).array }
         ensures counted { work.new ≡ min (work.old + 1) (2 ^ 64 - 1) }
     {
         work.count_array();
-        &self.contracts[i].array
+        self.contracts[i].array.losses()
     }
 }

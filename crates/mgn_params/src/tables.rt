@@ -1,5 +1,6 @@
 //! The rows of a set's tables. A row names rows of other tables by their place in file order, from 0.
 
+use crate::array::RiskArray;
 use mgn_ids::{ClassName, CommodityName, ContractName};
 
 /// What a contract is.
@@ -35,7 +36,7 @@ pub struct Month {
 /// A contract of a commodity, in one of that commodity's months.
 ///
 /// `delta` is the scaled delta in ten-thousandths, at most 10^5 in size; `option_value` the market value, 0 to 10^8
-/// cents; `array` the loss in cents of one long contract in each of the 16 scenarios, at most 10^8 in size.
+/// cents; no value of `array` is more than 10^8 in size.
 #[derive(Clone, Copy, PartialEq, Eq, Debug)]
 pub struct Contract {
     pub name: ContractName,
@@ -45,7 +46,7 @@ pub struct Contract {
     pub style: Style,
     pub delta: i64,
     pub option_value: u64,
-    pub array: [i64; 16],
+    pub array: RiskArray,
 }
 
 /// A spread between two tiers of a commodity.
@@ -63,7 +64,7 @@ pub struct Spread {
 
 /// A side of an intercommodity spread. Legs of one side have one direction, and those of the other the other.
 #[derive(Clone, Copy, PartialEq, Eq, Debug)]
-pub enum Side {
+pub enum LegSide {
     A,
     B,
 }
@@ -72,7 +73,7 @@ pub enum Side {
 #[derive(Clone, Copy, PartialEq, Eq, Debug)]
 pub struct Leg {
     pub commodity: usize,
-    pub side: Side,
+    pub side: LegSide,
     pub ratio: u64,
 }
 

@@ -9,38 +9,40 @@ use Rattle.mgn_num.specs.Signed.{signed_sum_by, signed_sum_below, sum_below}
 use Rattle.mgn_num.proofs.SignedLemmas.{size-*ℤ-le}
 use Rattle.mgn_params.specs.declared.tables.Contract.{Contract}
 use Rattle.mgn_params.specs.declared.tables.Month.{Month}
-use Rattle.mgn_span.specs.Deltas.{month_share, month_delta, net_share, net_delta, long_share, short_share, start_of, starts_of}
+use Rattle.mgn_span.specs.Deltas.{month_delta, starts_from}
 use Rattle.mgn_params.specs.Limits.{IsContract, IsWithinLimits}
 use Rattle.mgn_span.specs.Positions.{Position, positions, IsNet}
 use Rattle.mgn_span.specs.Scan.{value_at}
+use Rattle.mgn_span.specs.Words.{long_share, month_share, net_delta, net_share, short_share, start_of, starts_of}
 use Rattle.mgn_params.specs.Tables.{Tables, contract_at, no_contract, month_at}
-use Rattle.mgn_plain.specs.Kept.{start_share, month_start, month_net, month_net_share, leg_of, legs_row}
+use Rattle.mgn_plain.specs.Kept.{leg_of, legs_row}
 use Rattle.mgn_plain.specs.Parts.{AreDeltas, AreNets}
 use Rattle.mgn_span.proofs.PositionLemmas.{position_sum_more}
 use Rattle.mgn_span.proofs.ShareLemmas.{share_sum_by_count, month_share_small}
 use Rattle.mgn_plain.proofs.SumLemmas.{sum_below_same, signed_sum_below_same, sum_below_le, sum_below_none, signed_sum_below_none, sum_below_grown, signed_sum_below_grown, sum_below_one, signed_sum_below_one, sum_below_if}
+use Rattle.mgn_span.specs.MonthDeltas.{leg_share, month_net, net_share_by, start_share}
 
 -- a month counts for at most its delta's size
 pub start_share_small : (month : Month) (delta : ℤ) (g leg : ℕ) → start_share month delta g leg ≤ unsigned_abs delta
 start_share_small month delta g leg = grind (arith, ints)
 
 -- what a leg starts with, summed over the months with their deltas
-pub start_is : (t : Tables) (nets deltas : List ℤ) (g leg : ℕ) → AreDeltas t nets deltas → sum_below (month_start t.months deltas g leg) (length t.months) ≡ start_of t.months (positions t.contracts nets) g leg
+pub start_is : (t : Tables) (nets deltas : List ℤ) (g leg : ℕ) → AreDeltas t nets deltas → sum_below (leg_share t.months deltas g leg) (length t.months) ≡ start_of t.months (positions t.contracts nets) g leg
 start_is t nets deltas g leg are =
     let held : List Position = positions t.contracts nets in
-    sum_below_same (month_start t.months deltas g leg) (λ m. start_share (month_at t.months m) (month_delta held m) g leg) (length t.months) (λ m h. ap (λ (d : ℤ). start_share (month_at t.months m) d g leg) (are.each m h))
+    sum_below_same (leg_share t.months deltas g leg) (λ m. start_share (month_at t.months m) (month_delta held m) g leg) (length t.months) (λ m h. ap (λ (d : ℤ). start_share (month_at t.months m) d g leg) (are.each m h))
     ∙ sum_below_if (nat_lt leg 8) (long_share t.months held g leg) (short_share t.months held g (leg - 8)) (length t.months)
 
 -- the row of what the 16 legs start with
-pub starts_are : (t : Tables) (nets deltas : List ℤ) (starts : List (List ℕ)) (g : ℕ) → AreDeltas t nets deltas → length (legs_row starts g) ≡ 16 → ((leg : ℕ) → leg < 16 → leg_of starts g leg ≡ sum_below (month_start t.months deltas g leg) (length t.months)) → legs_row starts g ≡ starts_of t.months (positions t.contracts nets) g
-unfolding starts_of
+pub starts_are : (t : Tables) (nets deltas : List ℤ) (starts : List (List ℕ)) (g : ℕ) → AreDeltas t nets deltas → length (legs_row starts g) ≡ 16 → ((leg : ℕ) → leg < 16 → leg_of starts g leg ≡ sum_below (leg_share t.months deltas g leg) (length t.months)) → legs_row starts g ≡ starts_of t.months (positions t.contracts nets) g
+unfolding starts_from
 starts_are t nets deltas starts g are long each =
     fill_by_all (start_of t.months (positions t.contracts nets) g) (legs_row starts g) 16 0 long (λ leg h. each leg h ∙ start_is t nets deltas g leg are)
 
 -- the net delta of a commodity, summed over the months with their deltas
-pub net_is : (t : Tables) (nets deltas : List ℤ) (g : ℕ) → AreDeltas t nets deltas → signed_sum_below (month_net_share t.months deltas g) (length t.months) ≡ net_delta t.months (positions t.contracts nets) g
+pub net_is : (t : Tables) (nets deltas : List ℤ) (g : ℕ) → AreDeltas t nets deltas → signed_sum_below (net_share_by t.months deltas g) (length t.months) ≡ net_delta t.months (positions t.contracts nets) g
 net_is t nets deltas g are =
-    signed_sum_below_same (month_net_share t.months deltas g) (net_share t.months (positions t.contracts nets) g) (length t.months) (λ m h. ap (λ (d : ℤ). month_net (month_at t.months m) d g) (are.each m h))
+    signed_sum_below_same (net_share_by t.months deltas g) (net_share t.months (positions t.contracts nets) g) (length t.months) (λ m h. ap (λ (d : ℤ). month_net (month_at t.months m) d g) (are.each m h))
 
 -- the sizes of all month deltas together are at most 10^12 for each position
 month_sizes : (t : Tables) (nets : List ℤ) (i : ℕ) → IsWithinLimits t → AreNets t nets → i ≤ length t.contracts → sum_below (λ m. unsigned_abs (month_delta (take i (positions t.contracts nets)) m)) (length t.months) ≤ i * 10 ^ 12

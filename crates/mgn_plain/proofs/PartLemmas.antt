@@ -10,13 +10,13 @@ use Rattle.std.proofs.lemmas.Int.{ints}
 use Rattle.std.proofs.lemmas.List.{get_or-replicate, get_or_default, get_or_past, length-replicate, nil_from_length}
 use Rattle.std.proofs.lemmas.List.FromFn.{fill_by_all, length-map-range_with_len}
 use Rattle.mgn_span.specs.Credits.{credits_of}
-use Rattle.mgn_span.specs.Deltas.{net_delta}
+use Rattle.mgn_span.specs.Words.{net_delta, price_risk2_of}
 use Rattle.mgn_params.specs.Limits.{IsWithinLimits}
 use Rattle.mgn_span.specs.Positions.{Position, positions}
-use Rattle.mgn_span.specs.Requirement.{credit, credits, intra_charge, minimum, price_risk2_of, risk, spot_charge}
+use Rattle.mgn_span.specs.Requirement.{credit, credits, intra_charge, minimum, risk, spot_charge}
 use Rattle.mgn_span.specs.Scan.{scenario_total}
-use Rattle.mgn_span.specs.Spot.{spot_charge_of, spot_of}
-use Rattle.mgn_span.specs.Stages.{charges_of, stages_of}
+use Rattle.mgn_span.specs.Spot.{spot_of, spot_charge_from}
+use Rattle.mgn_span.specs.Stages.{charges_of, stages_of, left_by}
 use Rattle.mgn_params.specs.Tables.{Tables}
 use Rattle.mgn_plain.specs.declared.figure_rows.FigureRows.{FigureRows}
 use Rattle.mgn_plain.specs.declared.scanned.ScanFigures.{ScanFigures}
@@ -27,7 +27,7 @@ use Rattle.mgn_plain.specs.Scans.{AreScans, AreScansOf, scan_at, scanned}
 use Rattle.mgn_plain.proofs.DeltaLemmas.{net_is, net_small, start_is, start_small, starts_are}
 use Rattle.mgn_span.proofs.ShareLemmas.{scenario_total_small}
 use Rattle.mgn_span.proofs.ScanLemmas.{active_same, scan_risk_same, price_risk2_same, price_risk2_small}
-use Rattle.mgn_plain.proofs.StageLemmas.{charges_of-small, kept_charge_is, stages_of-are, stages_of-few}
+use Rattle.mgn_plain.proofs.StageLemmas.{charges_of-small, stages_of-are, stages_of-few}
 
 -- no kept total is large
 pub total_small : (t : Tables) (nets : List ℤ) (rows : List (List ℤ)) (g s : ℕ) → IsWithinLimits t → AreTotals t nets rows → g < length t.commodities → s < 16 → unsigned_abs (total_of rows g s) ≤ 256 * 10 ^ 15
@@ -49,7 +49,7 @@ charges_are t nets deltas starts intra spot limits are from charged =
       one_intra_each = charged.one_intra_each;
       one_spot_each = charged.one_spot_each;
       intra_is = λ g h. charged.intra_is g h ∙ ap (λ (xs : List ℕ). charges_of xs (stages_of t.spreads g)) (row g h);
-      spot_is = λ g h. charged.spot_is g h ∙ kept_charge_is (legs_row starts g) (stages_of t.spreads g) (spot_of t.spots g) (from.sixteen g h) (stages g) ∙ ap (λ (xs : List ℕ). spot_charge_of xs (stages_of t.spreads g) (spot_of t.spots g)) (row g h);
+      spot_is = λ g h. charged.spot_is g h ∙ ap (λ (xs : List ℕ). spot_charge_from xs (left_by xs (stages_of t.spreads g)) (spot_of t.spots g)) (row g h);
       intra_small = λ g h.
           let low = charges_of-small (legs_row starts g) (stages_of t.spreads g) (stages g) (λ k. ⊎_elim (λ inside. kept_start_small t nets deltas starts g k limits are from h inside) (λ past. rw (get_or_past (legs_row starts g) k 0 (omega (arith, from.sixteen g h, past))) (omega arith)) (cases_lt k 16)) in
           omega (arith, charged.intra_is g h, low, stages_of-few t.spreads g, limits.few_spreads_in_each g);

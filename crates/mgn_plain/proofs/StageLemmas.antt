@@ -11,10 +11,8 @@ use Rattle.std.proofs.lemmas.Grind.{common_steps}
 use Rattle.mgn_span.proofs.StageLemmas.{used_le_left}
 use Rattle.mgn_params.specs.declared.tables.Spread.{Spread}
 use Rattle.mgn_span.specs.declared.stage.Stage.{Stage}
-use Rattle.mgn_span.specs.Stages.{amount_of, left_after, charge_of, charges_of, left_by, used_of, used_by, stages_of_spread, stages_of, IsStage, long_leg, short_leg}
-use Rattle.mgn_params.specs.declared.tables.SpotCharge.{SpotCharge}
-use Rattle.mgn_span.specs.Spot.{spread_delta, outright_delta, spot_charge_of}
-use Rattle.mgn_plain.specs.Kept.{kept_charge_of}
+use Rattle.mgn_span.specs.Stages.{amount_of, left_after, charges_of, left_by, stages_of_spread, stages_of, IsStage, long_leg, short_leg}
+use Rattle.mgn_span.specs.Words.{charge_of}
 use Rattle.mgn_params.specs.Limits.{IsSpread}
 
 -- what stages and further stages charge
@@ -93,32 +91,3 @@ pub charges_of-small : (left : List ℕ) (stages : List Stage) → AllByRecursio
 charges_of-small left [] are small = omega arith
 charges_of-small left (stage ∷ stages) are small =
     omega (arith, charge_of-small left stage are.0 small, charges_of-small (left_after left stage) stages are.1 (λ k. omega (arith, small k, left_after-le left stage k)))
-
--- what a stage uses of a leg is what the leg has less after it
-used_of-left : (left : List ℕ) (stage : Stage) (leg : ℕ) → length left ≡ 16 → IsStage stage → used_of left stage leg + slice_index (left_after left stage) leg ≡ slice_index left leg
-used_of-left left stage leg long is =
-    let first = used_le_left (amount_of left stage) (slice_index left stage.first_leg) stage.first_ratio is.first_ratio (omega arith) in
-    let second = used_le_left (amount_of left stage) (slice_index left stage.second_leg) stage.second_ratio is.second_ratio (omega arith) in
-    let apart = is.apart in
-    let there = is.first_leg in
-    let back = is.second_leg in
-    grind (arith, common_steps)
-
-pub used_by-left : (left : List ℕ) (stages : List Stage) (leg : ℕ) → length left ≡ 16 → AllByRecursion IsStage stages → used_by left stages leg + slice_index (left_by left stages) leg ≡ slice_index left leg
-used_by-left left [] leg long are = omega arith
-used_by-left left (stage ∷ stages) leg long are =
-    let after : length (left_after left stage) ≡ 16 = simp length-set long in
-    omega (arith, used_of-left left stage leg long are.0, used_by-left (left_after left stage) stages leg after are.1)
-
--- the spot month charge by what is left is that by what was used
-pub kept_charge_is : (starts : List ℕ) (stages : List Stage) (spot : Option SpotCharge) → length starts ≡ 16 → AllByRecursion IsStage stages → kept_charge_of starts (left_by starts stages) spot ≡ spot_charge_of starts stages spot
-kept_charge_is starts stages None long are = refl
-kept_charge_is starts stages (Some spot) long are =
-    let left = left_by starts stages in
-    let buy = used_by-left starts stages (long_leg spot.tier) long are in
-    let sell = used_by-left starts stages (short_leg spot.tier) long are in
-    let outright : slice_index left (long_leg spot.tier) + slice_index left (short_leg spot.tier) ≡ outright_delta starts stages spot.tier = omega (arith, buy, sell) in
-    let spread : slice_index starts (long_leg spot.tier) + slice_index starts (short_leg spot.tier) - (slice_index left (long_leg spot.tier) + slice_index left (short_leg spot.tier)) ≡ spread_delta starts stages spot.tier = omega (arith, buy, sell) in
-    let one = ap (λ (n : ℕ). div_ceil (n * spot.spread_rate) 10000) spread in
-    let two = ap (λ (n : ℕ). div_ceil (n * spot.outright_rate) 10000) outright in
-    omega (arith, one, two)

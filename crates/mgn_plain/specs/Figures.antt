@@ -2,8 +2,9 @@
 use Rattle.std.specs.Prelude.{ℕ, ℤ, pos, List, map}
 use Rattle.mgn_span.specs.Options.{net_option_value}
 use Rattle.mgn_span.specs.Positions.{Position, positions}
-use Rattle.mgn_span.specs.Requirement.{commodities_of, credit, intra_charge, minimum, requirement, risk, scan_of, spot_charge}
+use Rattle.mgn_span.specs.Requirement.{credit, intra_charge, minimum, requirement, risk, scan_of, spot_charge}
 use Rattle.mgn_span.specs.Scan.{active, price_risk2, scenario_total}
+use Rattle.mgn_span.specs.Words.{commodities_of}
 use Rattle.mgn_params.specs.Tables.{Tables}
 use Rattle.mgn_plain.specs.declared.commodity.CommodityFigures.{CommodityFigures}
 

@@ -6,13 +6,14 @@ use Rattle.mgn_span.specs.Deltas.{month_delta}
 use Rattle.mgn_span.specs.Positions.{IsNet, positions}
 use Rattle.mgn_span.specs.Requirement.{credits, intra_charge, minimum, spot_charge}
 use Rattle.mgn_span.specs.Scan.{scenario_total, value_at}
-use Rattle.mgn_span.specs.Spot.{spot_of}
+use Rattle.mgn_span.specs.Spot.{spot_of, spot_charge_from}
 use Rattle.mgn_span.specs.Stages.{charges_of, left_by, stages_of}
 use Rattle.mgn_params.specs.Tables.{Tables}
 use Rattle.mgn_plain.specs.declared.figure_rows.FigureRows.{FigureRows}
 use Rattle.mgn_plain.specs.declared.scanned.ScanFigures.{ScanFigures}
-use Rattle.mgn_plain.specs.Kept.{kept_charge_of, leg_of, legs_row, month_net_share, month_start, total_of}
+use Rattle.mgn_plain.specs.Kept.{leg_of, legs_row, total_of}
 use Rattle.mgn_plain.specs.Scans.{AreScans, scan_at}
+use Rattle.mgn_span.specs.MonthDeltas.{leg_share, net_share_by}
 
 -- one net for each contract, each at most 10^7 in size
 pub record AreNets (set : Tables) (nets : List ℤ) : Type 0 where
@@ -41,12 +42,12 @@ pub record AreMinimums (set : Tables) (nets : List ℤ) (row : List ℕ) : Type 
 pub record AreStarts (set : Tables) (deltas : List ℤ) (starts : List (List ℕ)) : Type 0 where
   pub one_row_each : length starts ≡ length set.commodities
   pub sixteen : (g : ℕ) → g < length set.commodities → length (legs_row starts g) ≡ 16
-  pub each : (g leg : ℕ) → g < length set.commodities → leg < 16 → leg_of starts g leg ≡ sum_below (month_start set.months deltas g leg) (length set.months)
+  pub each : (g leg : ℕ) → g < length set.commodities → leg < 16 → leg_of starts g leg ≡ sum_below (leg_share set.months deltas g leg) (length set.months)
 
 -- the net deltas of the commodities, summed over the months with their deltas
 pub record AreNetDeltas (set : Tables) (deltas row : List ℤ) : Type 0 where
   pub one_each : length row ≡ length set.commodities
-  pub each : (g : ℕ) → g < length set.commodities → value_at row g ≡ signed_sum_below (month_net_share set.months deltas g) (length set.months)
+  pub each : (g : ℕ) → g < length set.commodities → value_at row g ≡ signed_sum_below (net_share_by set.months deltas g) (length set.months)
 
 -- the doubled price risks among scan figures
 pub record AreRisks (scans : List ScanFigures) (risks : List ℕ) : Type 0 where
@@ -58,7 +59,7 @@ pub record AreChargesFrom (set : Tables) (starts : List (List ℕ)) (intra spot 
   pub one_intra_each : length intra ≡ length set.commodities
   pub one_spot_each : length spot ≡ length set.commodities
   pub intra_is : (g : ℕ) → g < length set.commodities → slice_index intra g ≡ charges_of (legs_row starts g) (stages_of set.spreads g)
-  pub spot_is : (g : ℕ) → g < length set.commodities → slice_index spot g ≡ kept_charge_of (legs_row starts g) (left_by (legs_row starts g) (stages_of set.spreads g)) (spot_of set.spots g)
+  pub spot_is : (g : ℕ) → g < length set.commodities → slice_index spot g ≡ spot_charge_from (legs_row starts g) (left_by (legs_row starts g) (stages_of set.spreads g)) (spot_of set.spots g)
   pub spot_small : (g : ℕ) → g < length set.commodities → slice_index spot g ≤ 10 ^ 23
 
 -- what intercommodity spreads credit, by net deltas and doubled price risks

@@ -2,7 +2,8 @@ ghost use Rattle.std.specs.Prelude.{◌≡◌, ℕ, ◌*◌, ◌<◌, ◌≤◌,
 ghost use Rattle.std.specs.Int.{int_max};
 ghost use Rattle.mgn_num.specs.Signed.{signed_sum_below};
 ghost use Rattle.mgn_span.specs.Positions.{IsNet, positions};
-ghost use Rattle.mgn_span.specs.Requirement.{commodities_of, requirement, risk};
+ghost use Rattle.mgn_span.specs.Requirement.{requirement, risk};
+ghost use Rattle.mgn_span.specs.Words.{commodities_of};
 ghost use Rattle.mgn_plain.specs.Figures.{commodity_figures, figures_of};
 ghost use Rattle.mgn_plain.specs.Parts.{AreFigureRows, AreNets};
 
@@ -141,8 +142,8 @@ fn requirement_of(set: &ParamSet, nets: &[Quantity], rows: &FigureRows) -> Cents
 /// What the nets require under the set, in whole cents, computed from scratch: one net for each contract of the set in file
 /// order, each at most 10,000,000 in size.
 ///
-/// It is 0 to 10^30. An error says that memory was refused, and nothing else fails. Each array of a contract with a
-/// net other than 0 is read once and counted in `work`.
+/// It is 0 to 10^30. An error says that memory was refused, and nothing else fails. `work` counts the risk arrays that
+/// the calculation reads.
 pub fn requirement(
     alloc: Global,
     set: &ParamSet,
@@ -181,8 +182,8 @@ fn list_figures(
 /// All figures of the nets under the set, computed from scratch: one net for each contract of the set in file order, each at
 /// most 10,000,000 in size.
 ///
-/// An error says that memory was refused, and nothing else fails. Each array of a contract with a net other than 0 is
-/// read once and counted in `work`.
+/// An error says that memory was refused, and nothing else fails. `work` counts the risk arrays that the calculation
+/// reads.
 #[tactic(auto, unfolding(crate::specs::Figures::figures_of))]
 pub fn figures(
     alloc: Global,

@@ -7,20 +7,20 @@ ghost use Rattle.mgn_span.specs.Stages.{used};
 ghost use Rattle.mgn_plain.specs.Rests.{AreCreditNumbers, AreRests, IsCreditable};
 
 use crate::deltas::delta_at;
-use mgn_num::{Tenk, mul_div_floor, quotient};
-use mgn_params::{CreditSpread, Leg, Side};
+use mgn_num::{TenThousandths, mul_div_floor, quotient};
+use mgn_params::{CreditSpread, Leg, LegSide};
 
-fn is_long_leg(a_long: bool, side: Side) -> bool
+fn is_long_leg(a_long: bool, side: LegSide) -> bool
     ensures { result ≡ is_long a_long side }
 {
     match side {
-        Side::A => a_long,
-        Side::B => !a_long,
+        LegSide::A => a_long,
+        LegSide::B => !a_long,
     }
 }
 
 // Whether the rest of a leg's commodity has the leg's direction.
-fn leg_fits(a_long: bool, rests: &[Tenk], leg: &Leg) -> bool
+fn leg_fits(a_long: bool, rests: &[TenThousandths], leg: &Leg) -> bool
     requires { leg.now.commodity < length rests.now }
     ensures { result ≡ fits a_long rests.now leg.now }
 {
@@ -33,7 +33,7 @@ fn leg_fits(a_long: bool, rests: &[Tenk], leg: &Leg) -> bool
 }
 
 #[tactic(auto, using(crate::proofs::CreditLemmas::fits_size, crate::proofs::CreditLemmas::all_fit_at))]
-fn all_fit(a_long: bool, rests: &[Tenk], legs: &[Leg]) -> bool
+fn all_fit(a_long: bool, rests: &[TenThousandths], legs: &[Leg]) -> bool
     requires { All (λ leg. leg.commodity < length rests.now) legs.now }
     ensures value { result ≡ list_all (fits a_long rests.now) legs.now }
     ensures none_zero { IsTrue result → All (λ leg. 0 < unsigned_abs (value_at rests.now leg.commodity)) legs.now }
@@ -42,7 +42,7 @@ fn all_fit(a_long: bool, rests: &[Tenk], legs: &[Leg]) -> bool
 }
 
 // Whether a spread forms: all legs of side A of one sign, and all of side B of the other.
-fn spread_forms(rests: &[Tenk], legs: &[Leg]) -> bool
+fn spread_forms(rests: &[TenThousandths], legs: &[Leg]) -> bool
     requires { All (λ leg. leg.commodity < length rests.now) legs.now }
     ensures value { result ≡ forms rests.now legs.now }
     ensures none_zero { IsTrue result → All (λ leg. 0 < unsigned_abs (value_at rests.now leg.commodity)) legs.now }
@@ -51,7 +51,7 @@ fn spread_forms(rests: &[Tenk], legs: &[Leg]) -> bool
 }
 
 // How many spreads a leg alone would form, in ten-thousandths.
-fn amount_of_leg(rests: &[Tenk], leg: &Leg) -> u128
+fn amount_of_leg(rests: &[TenThousandths], leg: &Leg) -> u128
     requires commodity { leg.now.commodity < length rests.now }
     requires ratio { 0 < leg.now.ratio }
     requires small { All (λ rest. unsigned_abs rest ≤ 10 ^ 15) rests.now }
@@ -64,7 +64,7 @@ fn amount_of_leg(rests: &[Tenk], leg: &Leg) -> u128
 
 #[tactic(auto, using(std::proofs::lemmas::List::Sums::fold_more))]
 // The least over the legs, none of which alone would form fewer.
-fn amount_of_legs(rests: &[Tenk], legs: &[Leg]) -> u128
+fn amount_of_legs(rests: &[TenThousandths], legs: &[Leg]) -> u128
     requires legs { All (λ leg. leg.commodity < length rests.now) legs.now }
     requires ratios { All (λ leg. 0 < leg.ratio) legs.now }
     requires small { All (λ rest. unsigned_abs rest ≤ 10 ^ 15) rests.now }
@@ -91,7 +91,7 @@ fn used_of(amount: u128, leg: &Leg) -> u128
 }
 
 // Takes the legs' uses off the rests.
-fn use_rests(rests: &mut [Tenk], amount: u128, legs: &[Leg])
+fn use_rests(rests: &mut [TenThousandths], amount: u128, legs: &[Leg])
     requires legs { All (λ leg. leg.commodity < length rests.old) legs.now }
     requires amount { amount ≤ 10 ^ 19 }
     ensures rests { rests.new ≡ rests_after rests.old amount legs.now }
@@ -105,7 +105,13 @@ fn use_rests(rests: &mut [Tenk], amount: u128, legs: &[Leg])
 }
 
 // A leg's credit: the part of its commodity's doubled price risk that its use is of the net delta, at half the rate.
-fn credit_of_leg(deltas: &[Tenk], risks: &[u128], rate: &u64, amount: u128, leg: &Leg) -> u128
+fn credit_of_leg(
+    deltas: &[TenThousandths],
+    risks: &[u128],
+    rate: &u64,
+    amount: u128,
+    leg: &Leg,
+) -> u128
     requires leg { IsCreditable deltas.now risks.now amount leg.now }
     requires rate { rate.now ≤ 10000 }
     requires amount { amount ≤ 10 ^ 19 }
@@ -119,7 +125,7 @@ fn credit_of_leg(deltas: &[Tenk], risks: &[u128], rate: &u64, amount: u128, leg:
 
 // Credits each leg of a formed spread.
 fn credit_legs(
-    deltas: &[Tenk],
+    deltas: &[TenThousandths],
     risks: &[u128],
     rate: &u64,
     amount: u128,
@@ -144,9 +150,9 @@ fn credit_legs(
 #[tactic(auto, using(crate::proofs::CreditLemmas::rests_small, crate::proofs::CreditLemmas::legs_creditable))]
 // Forms a spread, if it can be.
 fn form_spread(
-    deltas: &[Tenk],
+    deltas: &[TenThousandths],
     risks: &[u128],
-    rests: &mut [Tenk],
+    rests: &mut [TenThousandths],
     credits: &mut [u128],
     spread: &CreditSpread,
 )
@@ -171,9 +177,9 @@ fn form_spread(
 // Forms the intercommodity spreads in file order, each of the rests that the earlier ones left, and adds up what they
 // credit to each commodity.
 pub(crate) fn add_credits(
-    deltas: &[Tenk],
+    deltas: &[TenThousandths],
     risks: &[u128],
-    rests: &mut [Tenk],
+    rests: &mut [TenThousandths],
     credits: &mut [u128],
     spreads: &[CreditSpread],
 )

@@ -1,17 +1,19 @@
 ghost use Rattle.std.specs.Prelude.{◌≡◌, ℕ, ◌+◌, ◌*◌, ◌<◌, ◌≤◌, ◌^◌, ℤ, pos, ◌+ℤ◌, ◌*ℤ◌, unsigned_abs, length, All, replicate, slice_index};
 ghost use Rattle.mgn_num.specs.Signed.{sum_below, signed_sum_below};
-ghost use Rattle.mgn_span.specs.Deltas.{month_share, month_delta, net_delta, start_of, positive_part, negative_part};
+ghost use Rattle.mgn_span.specs.Deltas.{month_delta, positive_part, negative_part};
 ghost use Rattle.mgn_span.specs.Positions.{positions, IsNet};
 ghost use Rattle.mgn_span.specs.Scan.{value_at};
+ghost use Rattle.mgn_span.specs.Words.{month_share, net_delta, start_of};
 ghost use Rattle.mgn_params.specs.Tables.{contract_at, month_at};
-ghost use Rattle.mgn_plain.specs.Kept.{leg_of, legs_row, start_share, month_net, month_start, month_net_share};
+ghost use Rattle.mgn_plain.specs.Kept.{leg_of, legs_row};
+ghost use Rattle.mgn_span.specs.MonthDeltas.{leg_share, month_net, net_share_by, start_share};
 
 use crate::rows::net_at;
-use mgn_num::{Quantity, Tenk};
+use mgn_num::{Quantity, TenThousandths};
 use mgn_params::{Contract, Month, ParamSet};
 
 // The delta at a place.
-pub(crate) fn delta_at(deltas: &[Tenk], place: usize) -> Tenk
+pub(crate) fn delta_at(deltas: &[TenThousandths], place: usize) -> TenThousandths
     requires { place < length deltas.now }
     ensures { result ≡ value_at deltas.now place }
 {
@@ -19,17 +21,17 @@ pub(crate) fn delta_at(deltas: &[Tenk], place: usize) -> Tenk
 }
 
 // A delta and a net at a contract's delta more.
-fn plus_scaled(total: Tenk, net: Quantity, delta: &i64) -> Tenk
+fn plus_scaled(total: TenThousandths, net: Quantity, delta: &i64) -> TenThousandths
     requires total { unsigned_abs total ≤ 10 ^ 30 }
     requires net { IsNet net }
     requires delta { unsigned_abs delta.now ≤ 10 ^ 5 }
     ensures { result ≡ total +ℤ net *ℤ delta.now }
 {
-    total.plus(Tenk::product(net, *delta))
+    total.plus(TenThousandths::product(net, *delta))
 }
 
 // Adds what a position in a contract counts for in its month.
-fn add_position(deltas: &mut [Tenk], contract: &Contract, net: Quantity)
+fn add_position(deltas: &mut [TenThousandths], contract: &Contract, net: Quantity)
     requires month { contract.now.month < length deltas.old }
     requires delta { unsigned_abs contract.now.delta ≤ 10 ^ 5 }
     requires net { IsNet net }
@@ -46,7 +48,7 @@ fn add_position(deltas: &mut [Tenk], contract: &Contract, net: Quantity)
 
 #[tactic(auto, using(mgn_span::proofs::PositionLemmas::position_sum_all))]
 // Adds up the deltas of the months, one net for each contract of the set.
-pub(crate) fn add_positions(deltas: &mut [Tenk], set: &ParamSet, nets: &[Quantity])
+pub(crate) fn add_positions(deltas: &mut [TenThousandths], set: &ParamSet, nets: &[Quantity])
     requires one_each { length nets.now ≡ length set.now.contracts }
     requires nets { All IsNet nets.now }
     requires zero { deltas.old ≡ replicate (length set.now.months) (pos 0) }
@@ -62,7 +64,7 @@ pub(crate) fn add_positions(deltas: &mut [Tenk], set: &ParamSet, nets: &[Quantit
 }
 
 // Adds a month's delta to the leg of its tier that has the delta's direction.
-fn add_start(starts: &mut [[u128; 16]], month: &Month, delta: Tenk)
+fn add_start(starts: &mut [[u128; 16]], month: &Month, delta: TenThousandths)
     requires commodity { month.now.commodity < length starts.old }
     requires tier { month.now.tier < 8 }
     requires delta { unsigned_abs delta ≤ 10 ^ 20 }
@@ -82,7 +84,7 @@ fn add_start(starts: &mut [[u128; 16]], month: &Month, delta: Tenk)
 }
 
 // Adds a month's delta to the net delta of its commodity.
-fn add_net(nets: &mut [Tenk], month: &Month, delta: Tenk)
+fn add_net(nets: &mut [TenThousandths], month: &Month, delta: TenThousandths)
     requires commodity { month.now.commodity < length nets.old }
     requires delta { unsigned_abs delta ≤ 10 ^ 20 }
     requires room { (g : ℕ) → g < length nets.old → unsigned_abs (value_at nets.old g) ≤ 10 ^ 30 }
@@ -95,13 +97,13 @@ fn add_net(nets: &mut [Tenk], month: &Month, delta: Tenk)
 
 #[tactic(auto, using(mgn_num::proofs::SignedLemmas::sum_below_more))]
 // Adds up what the 16 legs of each commodity start with.
-pub(crate) fn add_starts(starts: &mut [[u128; 16]], set: &ParamSet, deltas: &[Tenk])
+pub(crate) fn add_starts(starts: &mut [[u128; 16]], set: &ParamSet, deltas: &[TenThousandths])
     requires one_each { length deltas.now ≡ length set.now.months }
     requires deltas { (m : ℕ) → m < length deltas.now → unsigned_abs (value_at deltas.now m) ≤ 10 ^ 16 }
     requires zero { starts.old ≡ replicate (length set.now.commodities) (replicate 16 0) }
     ensures one_each { length starts.new ≡ length set.now.commodities }
     ensures starts { (g leg : ℕ) → g < length set.now.commodities → leg < 16 →
-        leg_of starts.new g leg ≡ sum_below (month_start set.now.months deltas.now g leg) (length set.now.months) }
+        leg_of starts.new g leg ≡ sum_below (leg_share set.now.months deltas.now g leg) (length set.now.months) }
     ensures sixteen { (g : ℕ) → g < length set.now.commodities → length (legs_row starts.new g) ≡ 16 }
 {
     set.limits();
@@ -112,13 +114,13 @@ pub(crate) fn add_starts(starts: &mut [[u128; 16]], set: &ParamSet, deltas: &[Te
 
 #[tactic(auto, using(mgn_num::proofs::SignedLemmas::signed_sum_below_more))]
 // Adds up the net deltas of the commodities.
-pub(crate) fn add_nets(nets: &mut [Tenk], set: &ParamSet, deltas: &[Tenk])
+pub(crate) fn add_nets(nets: &mut [TenThousandths], set: &ParamSet, deltas: &[TenThousandths])
     requires one_each { length deltas.now ≡ length set.now.months }
     requires deltas { (m : ℕ) → m < length deltas.now → unsigned_abs (value_at deltas.now m) ≤ 10 ^ 16 }
     requires zero { nets.old ≡ replicate (length set.now.commodities) (pos 0) }
     ensures one_each { length nets.new ≡ length set.now.commodities }
     ensures nets { (g : ℕ) → g < length set.now.commodities →
-        value_at nets.new g ≡ signed_sum_below (month_net_share set.now.months deltas.now g) (length set.now.months) }
+        value_at nets.new g ≡ signed_sum_below (net_share_by set.now.months deltas.now g) (length set.now.months) }
 {
     set.limits();
     for m in 0..set.month_count() {

@@ -1,6 +1,7 @@
 ghost use Rattle.std.specs.Prelude.{◌≡◌, ℕ, ◌+◌, ◌*◌, ◌<◌, ◌≤◌, ◌^◌, unsigned_abs, length, All, replicate, slice_index};
-ghost use Rattle.mgn_span.specs.Options.{net_option_value, short_option_minimum, short_share_of, value_share};
+ghost use Rattle.mgn_span.specs.Options.{net_option_value, short_option_minimum};
 ghost use Rattle.mgn_span.specs.Positions.{positions, IsNet};
+ghost use Rattle.mgn_span.specs.Words.{short_share_of, value_share};
 ghost use Rattle.mgn_params.specs.Tables.{commodity_at, contract_at, is_option, is_premium};
 
 use crate::rows::net_at;

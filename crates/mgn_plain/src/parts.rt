@@ -10,7 +10,7 @@ use crate::scanned::ScanFigures;
 use crate::total::Total;
 use crate::{credits, deltas, options, scan, spot, stages};
 use bumpalo::Bump;
-use mgn_num::{Quantity, Tenk};
+use mgn_num::{Quantity, TenThousandths};
 use mgn_params::{ParamSet, Work};
 use std::alloc::AllocError;
 
@@ -71,12 +71,12 @@ pub(crate) fn month_deltas<'a>(
     arena: &'a Bump,
     set: &ParamSet,
     nets: &[Quantity],
-) -> Result<Row<'a, Tenk>, AllocError>
+) -> Result<Row<'a, TenThousandths>, AllocError>
     requires { AreNets set.now nets.now }
     ensures deltas { IfOk result (λ row. AreDeltas set.now nets.now row.items) }
     ensures small { IfOk result (λ row. (m : ℕ) → m < length row.items → unsigned_abs (value_at row.items m) ≤ 10 ^ 16) }
 {
-    let mut row = filled(arena, set.month_count(), Tenk::ZERO)?;
+    let mut row = filled(arena, set.month_count(), TenThousandths::ZERO)?;
     deltas::add_positions(&mut row, set, nets);
     Ok(row)
 }
@@ -85,7 +85,7 @@ pub(crate) fn month_deltas<'a>(
 pub(crate) fn start_rows<'a>(
     arena: &'a Bump,
     set: &ParamSet,
-    deltas: &[Tenk],
+    deltas: &[TenThousandths],
 ) -> Result<Row<'a, [u128; 16]>, AllocError>
     requires one_each { length deltas.now ≡ length set.now.months }
     requires small { (m : ℕ) → m < length deltas.now → unsigned_abs (value_at deltas.now m) ≤ 10 ^ 16 }
@@ -100,13 +100,13 @@ pub(crate) fn start_rows<'a>(
 pub(crate) fn net_deltas<'a>(
     arena: &'a Bump,
     set: &ParamSet,
-    deltas: &[Tenk],
-) -> Result<Row<'a, Tenk>, AllocError>
+    deltas: &[TenThousandths],
+) -> Result<Row<'a, TenThousandths>, AllocError>
     requires one_each { length deltas.now ≡ length set.now.months }
     requires small { (m : ℕ) → m < length deltas.now → unsigned_abs (value_at deltas.now m) ≤ 10 ^ 16 }
     ensures { IfOk result (λ row. AreNetDeltas set.now deltas.now row.items) }
 {
-    let mut row = filled(arena, set.commodity_count(), Tenk::ZERO)?;
+    let mut row = filled(arena, set.commodity_count(), TenThousandths::ZERO)?;
     deltas::add_nets(&mut row, set, deltas);
     Ok(row)
 }
@@ -141,7 +141,7 @@ pub(crate) fn charge_rows<'a>(
 pub(crate) fn credit_row<'a>(
     arena: &'a Bump,
     set: &ParamSet,
-    deltas: &[Tenk],
+    deltas: &[TenThousandths],
     risks: &[u128],
 ) -> Result<Row<'a, u128>, AllocError>
     requires one_each { length deltas.now ≡ length set.now.commodities }
@@ -173,7 +173,7 @@ pub(crate) fn minimum_row<'a>(
 pub(crate) fn work_out_charges<'a>(
     arena: &'a Bump,
     set: &ParamSet,
-    deltas: &[Tenk],
+    deltas: &[TenThousandths],
 ) -> Result<Charges<'a>, AllocError>
     requires nets { (nets : List ℤ) × AreDeltas set.now nets deltas.now }
     requires small { (m : ℕ) → m < length deltas.now → unsigned_abs (value_at deltas.now m) ≤ 10 ^ 16 }
@@ -190,7 +190,7 @@ pub(crate) fn work_out_charges<'a>(
 pub(crate) fn work_out_credits<'a>(
     arena: &'a Bump,
     set: &ParamSet,
-    deltas: &[Tenk],
+    deltas: &[TenThousandths],
     scans: &[ScanFigures],
 ) -> Result<Row<'a, u128>, AllocError>
     requires nets { (nets : List ℤ) × AreDeltas set.now nets deltas.now × AreScans set.now nets scans.now }

@@ -1,8 +1,8 @@
-ghost use Rattle.std.specs.Prelude.{◌≡◌, ℕ, ◌+◌, ◌*◌, ◌<◌, ◌≤◌, ◌^◌, length, All, replicate, slice_index};
+ghost use Rattle.std.specs.Prelude.{◌≡◌, ℕ, ◌+◌, ◌*◌, ◌<◌, ◌≤◌, ◌^◌, length, All, replicate, slice_index, Some};
 ghost use Rattle.mgn_params.specs.Limits.{IsSpotCharge};
-ghost use Rattle.mgn_span.specs.Spot.{spot_of};
+ghost use Rattle.mgn_span.specs.Spot.{spot_of, spot_charge_from};
 ghost use Rattle.mgn_params.specs.Tables.{spot_at};
-ghost use Rattle.mgn_plain.specs.Kept.{leg_of, legs_row, kept_charge_at, kept_charge_of};
+ghost use Rattle.mgn_plain.specs.Kept.{leg_of, legs_row};
 
 use mgn_num::mul_div_ceil;
 use mgn_params::SpotCharge;
@@ -12,7 +12,7 @@ fn spot_charge(starts: &[u128; 16], left: &[u128; 16], spot: &SpotCharge) -> u12
     requires spot { (commodities : ℕ) × IsSpotCharge commodities spot.now }
     requires starts { (k : ℕ) → k < 16 → slice_index starts.now k ≤ 10 ^ 16 }
     requires left { (k : ℕ) → k < 16 → slice_index left.now k ≤ slice_index starts.now k }
-    ensures charge { result ≡ kept_charge_at starts.now left.now spot.now }
+    ensures charge { result ≡ spot_charge_from starts.now left.now (Some spot.now) }
     ensures small { result ≤ 10 ^ 23 }
 {
     let long = spot.tier;
@@ -44,7 +44,7 @@ pub(crate) fn charge_spots(
     requires zero { charges.old ≡ replicate (length starts.now) 0 }
     ensures one_each { length charges.new ≡ length starts.now }
     ensures charges { (g : ℕ) → g < length starts.now →
-        slice_index charges.new g ≡ kept_charge_of (legs_row starts.now g) (legs_row left.now g) (spot_of spots.now g) }
+        slice_index charges.new g ≡ spot_charge_from (legs_row starts.now g) (legs_row left.now g) (spot_of spots.now g) }
     ensures small { (g : ℕ) → g < length starts.now → slice_index charges.new g ≤ 10 ^ 23 }
 {
     for i in (0..spots.len()).rev() {

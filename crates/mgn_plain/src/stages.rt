@@ -1,6 +1,7 @@
 ghost use Rattle.std.specs.Prelude.{◌≡◌, ℕ, ◌+◌, ◌*◌, ◌<◌, ◌≤◌, ◌^◌, ◌==◌, if◌then◌else◌, length, All, slice_index, replicate};
 ghost use Rattle.mgn_params.specs.Limits.{IsSpread};
-ghost use Rattle.mgn_span.specs.Stages.{amount_of, left_after, charge_of, charges_of, left_by, stages_of_spread, stages_of, IsStage};
+ghost use Rattle.mgn_span.specs.Stages.{amount_of, left_after, charges_of, left_by, stages_of_spread, stages_of, IsStage};
+ghost use Rattle.mgn_span.specs.Words.{charge_of};
 ghost use Rattle.mgn_plain.specs.Kept.{leg_of, legs_row};
 
 use mgn_num::{mul_div_ceil, mul_div_floor};

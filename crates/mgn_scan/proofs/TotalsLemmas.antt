@@ -10,7 +10,8 @@ use Rattle.mgn_params.specs.declared.tables.Contract.{Contract}
 use Rattle.mgn_params.specs.Limits.{IsWithinLimits}
 use Rattle.mgn_span.specs.Positions.{IsNet, positions}
 use Rattle.mgn_span.specs.Requirement.{scan_of}
-use Rattle.mgn_span.specs.Scan.{active, price_risk2, scan_risk, scenario_share, scenario_total, value_at}
+use Rattle.mgn_span.specs.Scan.{active, price_risk2, scan_risk, scenario_total, value_at}
+use Rattle.mgn_span.specs.Words.{scenario_share}
 use Rattle.mgn_params.specs.Tables.{Tables, contract_at}
 use Rattle.mgn_span.proofs.FlatLemmas.{AreFlat-replicate, scenario_total_flat}
 use Rattle.mgn_span.proofs.PositionLemmas.{position_sum-set}

@@ -1,5 +1,6 @@
 ghost use Rattle.std.specs.Prelude.{◌≡◌, ℕ, ◌+◌, ◌*◌, ◌<◌, ◌≤◌, ◌^◌, ℤ, pos, ◌+ℤ◌, ◌*ℤ◌, ◌≤ℤ◌, unsigned_abs};
-ghost use Rattle.mgn_span.specs.Scan.{active, pair_of, price_risk2, price_risk2_at, scan_risk, value_at};
+ghost use Rattle.mgn_span.specs.Scan.{active, pair_of, price_risk2, scan_risk, value_at};
+ghost use Rattle.mgn_span.specs.Words.{price_risk2_at};
 ghost use Rattle.mgn_scan.specs.Totals.{IsTotal};
 
 use crate::total::Total;

@@ -11,8 +11,8 @@ use Rattle.mgn_setfile.specs.declared.fault.Cause.{Cause}
 use Rattle.mgn_setfile.specs.declared.fault.Cause.TheVariants.{Name, Number, Range, Unknown, Double, Limit}
 use Rattle.mgn_params.specs.declared.tables.Kind.{Kind}
 use Rattle.mgn_params.specs.declared.tables.Kind.TheVariants.{Future, Call, Put}
-use Rattle.mgn_params.specs.declared.tables.Side.{Side}
-use Rattle.mgn_params.specs.declared.tables.Side.TheVariants.{A, B}
+use Rattle.mgn_params.specs.declared.tables.LegSide.{LegSide}
+use Rattle.mgn_params.specs.declared.tables.LegSide.TheVariants.{A, B}
 use Rattle.mgn_params.specs.declared.tables.Style.{Style}
 use Rattle.mgn_params.specs.declared.tables.Style.TheVariants.{Premium, Other}
 
@@ -70,7 +70,7 @@ value_of_style Premium n = Ok n
 value_of_style Other n = if n == 0 then Ok 0 else Err Range
 
 -- a side of an intercommodity spread: A or B
-unfoldable pub field_side : List ℕ → Result Side Cause
+unfoldable pub field_side : List ℕ → Result LegSide Cause
 field_side word = if bytes_eq word (codes "A") then Ok A else (if bytes_eq word (codes "B") then Ok B else Err Name)
 
 -- what earlier records give

@@ -10,7 +10,7 @@ use Rattle.mgn_params.specs.declared.tables.Contract.{Contract}
 use Rattle.mgn_params.specs.declared.tables.CreditSpread.{CreditSpread}
 use Rattle.mgn_params.specs.declared.tables.Kind.{Kind}
 use Rattle.mgn_params.specs.declared.tables.Leg.{Leg}
-use Rattle.mgn_params.specs.declared.tables.Side.{Side}
+use Rattle.mgn_params.specs.declared.tables.LegSide.{LegSide}
 use Rattle.mgn_params.specs.declared.tables.Month.{Month}
 use Rattle.mgn_params.specs.declared.tables.SpotCharge.{SpotCharge}
 use Rattle.mgn_params.specs.declared.tables.Spread.{Spread}
@@ -142,7 +142,7 @@ spread_of t _ = Err WrongFields
 
 -- a leg as its words say: where its commodity stands, if it is known, its side and its ratio
 abbrev pub FoundLeg : Type 0
-FoundLeg = Option ℕ × Side × ℕ
+FoundLeg = Option ℕ × LegSide × ℕ
 
 -- the limits on it, in a set of so many commodities
 pub record IsFoundLeg (commodities : ℕ) (leg : FoundLeg) : Type 0 where

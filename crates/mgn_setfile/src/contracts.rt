@@ -11,7 +11,7 @@ use crate::fields::{
     read_style,
 };
 use mgn_ids::{CommodityName, ContractName};
-use mgn_params::{Contract, Kind, ParamSet, Style};
+use mgn_params::{Contract, Kind, ParamSet, RiskArray, Style};
 
 // The names of the contract and of its commodity, and the number of its month.
 #[tactic(auto, unfolding(crate::specs::Records::contract_names_from))]
@@ -110,7 +110,7 @@ fn contract_at_month(
         style: terms.1,
         delta: terms.2,
         option_value: terms.3,
-        array: *array,
+        array: RiskArray::new(*array),
     };
     contract_row(set, &contract)
 }

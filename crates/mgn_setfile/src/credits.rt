@@ -8,15 +8,15 @@ ghost use Rattle.mgn_params.specs.Tables.{is_side_a, is_side_b, legs_of};
 
 use crate::fault::Cause;
 use crate::fields::{read_commodity_name, read_number, read_side};
-use mgn_params::{CreditSpread, Leg, ParamSet, Side};
+use mgn_params::{CreditSpread, Leg, LegSide, ParamSet};
 use std::alloc::Global;
 
 // A leg as its words say: where its commodity stands, if it is known, its side and its ratio.
-type FoundLeg = (Option<usize>, Side, u64);
+type FoundLeg = (Option<usize>, LegSide, u64);
 
 const NO_LEG: Leg = Leg {
     commodity: 0,
-    side: Side::A,
+    side: LegSide::A,
     ratio: 0,
 };
 
@@ -49,16 +49,16 @@ fn read_legs(alloc: Global, set: &ParamSet, words: &[&[u8]]) -> Result<Vec<Found
     Ok(legs)
 }
 
-fn is_on_side_a(side: Side) -> bool
+fn is_on_side_a(side: LegSide) -> bool
     ensures { result ≡ is_side_a side }
 {
-    side == Side::A
+    side == LegSide::A
 }
 
-fn is_on_side_b(side: Side) -> bool
+fn is_on_side_b(side: LegSide) -> bool
     ensures { result ≡ is_side_b side }
 {
-    side == Side::B
+    side == LegSide::B
 }
 
 fn has_side_a(legs: &[FoundLeg]) -> bool

@@ -6,7 +6,7 @@ ghost use Rattle.mgn_setfile.specs.Fields.{field_kind, field_name, field_number,
 use crate::fault::Cause;
 use mgn_ids::{ClassName, CommodityName, ContractName, IdFault, SetName};
 use mgn_num::{NumFault, read_signed, read_unsigned};
-use mgn_params::{Kind, Side, Style};
+use mgn_params::{Kind, LegSide, Style};
 
 #[tactic(auto, unfolding(crate::specs::Fields::field_name))]
 pub(crate) fn read_commodity_name(word: &[u8]) -> Result<CommodityName, Cause>
@@ -111,13 +111,13 @@ pub(crate) fn read_style(kind: Kind, word: &[u8]) -> Result<Style, Cause>
 }
 
 #[tactic(auto, unfolding(crate::specs::Fields::field_side))]
-pub(crate) fn read_side(word: &[u8]) -> Result<Side, Cause>
+pub(crate) fn read_side(word: &[u8]) -> Result<LegSide, Cause>
     ensures { result ≡ field_side word.now }
 {
     if word == b"A".as_slice() {
-        Ok(Side::A)
+        Ok(LegSide::A)
     } else if word == b"B".as_slice() {
-        Ok(Side::B)
+        Ok(LegSide::B)
     } else {
         Err(Cause::Name)
     }

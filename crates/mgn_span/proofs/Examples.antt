@@ -3,9 +3,9 @@ use Rattle.std.proofs.Common.{◌≡◌, ℕ, pos, List, [], ◌∷◌, map, ref
 use Rattle.std.specs.Prelude.{neg_ℤ}
 use Rattle.mgn_params.specs.declared.tables.Contract.{Contract}
 use Rattle.mgn_params.specs.declared.tables.Kind.TheVariants.{Future, Call}
-use Rattle.mgn_params.specs.declared.tables.Side.TheVariants.{A, B}
+use Rattle.mgn_params.specs.declared.tables.LegSide.TheVariants.{A, B}
 use Rattle.mgn_params.specs.declared.tables.Style.TheVariants.{Premium, Other}
-use Rattle.mgn_span.specs.Deltas.{starts_of}
+use Rattle.mgn_span.specs.Deltas.{starts_from}
 use Rattle.mgn_span.specs.Positions.{Position, positions}
 use Rattle.mgn_span.specs.Requirement.{credits, intra_charge, minimum, requirement, risk, scan_of, spot_charge}
 use Rattle.mgn_span.specs.Scan.{active, scenario_total}
@@ -105,35 +105,35 @@ one_requires : Requires one (
     (nets (long 2) (short 1) none (short 4), pos 655) ∷
     (nets (long 2) (short 2) none (short 4), pos 740) ∷
     [])
-unfolding aaa1 aaa2 aaac bbb1 one odd flat neg win spot spodd active starts_of intra_charge spot_charge credits risk requirement
+unfolding aaa1 aaa2 aaac bbb1 one odd flat neg win spot spodd active starts_from intra_charge spot_charge credits risk requirement
 one_requires = refl
 
 -- a stage of 3333 uses 9999 and 3333 and charges 14
 odd_requires : Requires odd (
     (nets (long 1) (short 1) none none, pos 44) ∷
     [])
-unfolding aaa1 aaa2 aaac bbb1 one odd flat neg win spot spodd active starts_of intra_charge spot_charge credits risk requirement
+unfolding aaa1 aaa2 aaac bbb1 one odd flat neg win spot spodd active starts_from intra_charge spot_charge credits risk requirement
 odd_requires = refl
 
 -- a tier spread with itself has one stage
 flat_requires : Requires flat (
     (nets (long 2) (short 2) none none, pos 140) ∷
     [])
-unfolding aaa1 aaa2 aaac bbb1 one odd flat neg win spot spodd active starts_of intra_charge spot_charge credits risk requirement
+unfolding aaa1 aaa2 aaac bbb1 one odd flat neg win spot spodd active starts_from intra_charge spot_charge credits risk requirement
 flat_requires = refl
 
 -- a credit above the scan
 neg_requires : Requires neg (
     (nets (long 1) none none (short 2), pos 0) ∷
     [])
-unfolding aaa1 aaa2 aaac bbb1 one odd flat neg win spot spodd active starts_of intra_charge spot_charge credits risk requirement
+unfolding aaa1 aaa2 aaac bbb1 one odd flat neg win spot spodd active starts_from intra_charge spot_charge credits risk requirement
 neg_requires = refl
 
 -- a commodity that only gains has neither scan nor price risk nor credit
 win_requires : Requires win (
     (nets (long 1) none none (short 2), pos 150) ∷
     [])
-unfolding aaa1 aaa2 aaac bbb1 one odd flat neg win spot spodd active starts_of intra_charge spot_charge credits risk requirement
+unfolding aaa1 aaa2 aaac bbb1 one odd flat neg win spot spodd active starts_from intra_charge spot_charge credits risk requirement
 win_requires = refl
 
 -- the spot month charge: all outright, all spread, both
@@ -142,14 +142,14 @@ spot_requires : Requires spot (
     (nets (long 2) (short 2) none none, pos 200) ∷
     (nets (long 3) (short 2) none none, pos 550) ∷
     [])
-unfolding aaa1 aaa2 aaac bbb1 one odd flat neg win spot spodd active starts_of intra_charge spot_charge credits risk requirement
+unfolding aaa1 aaa2 aaac bbb1 one odd flat neg win spot spodd active starts_from intra_charge spot_charge credits risk requirement
 spot_requires = refl
 
 -- and with rounding
 spodd_requires : Requires spodd (
     (nets (long 1) (short 1) none none, pos 75) ∷
     [])
-unfolding aaa1 aaa2 aaac bbb1 one odd flat neg win spot spodd active starts_of intra_charge spot_charge credits risk requirement
+unfolding aaa1 aaa2 aaac bbb1 one odd flat neg win spot spodd active starts_from intra_charge spot_charge credits risk requirement
 spodd_requires = refl
 
 -- Figures on the way to them.
@@ -162,7 +162,7 @@ calendar : (scan_of (held (nets (long 2) (short 2) none none)) 0 ≡ pos 60)
     × (active (scenario_total 0 (held (nets (long 2) (short 2) none none))) ≡ 12)
     × (intra_charge one (held (nets (long 2) (short 2) none none)) 0 ≡ 80)
     × (spot_charge spot (held (nets (long 2) (short 2) none none)) 0 ≡ 60)
-unfolding aaa1 aaa2 aaac bbb1 one odd flat neg win spot spodd active starts_of intra_charge spot_charge credits risk requirement
+unfolding aaa1 aaa2 aaac bbb1 one odd flat neg win spot spodd active starts_from intra_charge spot_charge credits risk requirement
 calendar = (refl, refl, refl, refl)
 
 -- one long AAA1 against two short BBB1: scans of 300 each, credits of 150 each
@@ -170,11 +170,11 @@ between_commodities : (credits one (held (nets (long 1) none none (short 2))) �
     × (risk one (held (nets (long 1) none none (short 2))) 0 ≡ pos 150)
     × (risk one (held (nets (long 1) none none (short 2))) 1 ≡ pos 150)
     × (active (scenario_total 1 (held (nets (long 1) none none (short 2)))) ≡ 10)
-unfolding aaa1 aaa2 aaac bbb1 one odd flat neg win spot spodd active starts_of intra_charge spot_charge credits risk requirement
+unfolding aaa1 aaa2 aaac bbb1 one odd flat neg win spot spodd active starts_from intra_charge spot_charge credits risk requirement
 between_commodities = (refl, refl, refl, refl)
 
 -- a short option: scan 220, minimum 25
 short_option : (scan_of (held (nets none none (short 1) none)) 0 ≡ pos 220)
     × (minimum one (held (nets none none (short 1) none)) 0 ≡ 25)
-unfolding aaa1 aaa2 aaac bbb1 one odd flat neg win spot spodd active starts_of intra_charge spot_charge credits risk requirement
+unfolding aaa1 aaa2 aaac bbb1 one odd flat neg win spot spodd active starts_from intra_charge spot_charge credits risk requirement
 short_option = (refl, refl)

@@ -14,13 +14,14 @@ use Rattle.mgn_params.specs.declared.tables.Contract.{Contract}
 use Rattle.mgn_params.specs.declared.tables.Month.{Month}
 use Rattle.mgn_params.specs.declared.tables.SpotCharge.{SpotCharge}
 use Rattle.mgn_span.specs.declared.stage.Stage.{Stage}
-use Rattle.mgn_span.specs.Deltas.{is_in_tier, negative_part, positive_part, long_delta, long_share, month_delta, month_share, short_delta, short_share, start_of, starts_of}
-use Rattle.mgn_span.specs.Options.{net_option_value, short_option_minimum, short_share_of, value_share}
+use Rattle.mgn_span.specs.Deltas.{is_in_tier, month_delta, negative_part, positive_part, starts_from}
+use Rattle.mgn_span.specs.Options.{net_option_value, short_option_minimum}
 use Rattle.mgn_span.specs.Positions.{AreFlat, Position, positions}
 use Rattle.mgn_span.specs.Requirement.{intra_charge, requirement, risk, scan_of, spot_charge}
-use Rattle.mgn_span.specs.Scan.{active, scenario_share, scenario_total, value_at}
-use Rattle.mgn_span.specs.Spot.{outright_delta, spot_charge_of, spot_of, spread_delta}
-use Rattle.mgn_span.specs.Stages.{amount_of, charge_of, charges_of, left_after, long_leg, short_leg, stages_of, used, used_by}
+use Rattle.mgn_span.specs.Scan.{active, scenario_total, value_at}
+use Rattle.mgn_span.specs.Spot.{spot_charge_from, spot_of}
+use Rattle.mgn_span.specs.Stages.{amount_of, charges_of, left_after, left_by, long_leg, short_leg, stages_of, used}
+use Rattle.mgn_span.specs.Words.{charge_of, long_delta, long_share, month_share, scenario_share, short_delta, short_share, short_share_of, start_of, starts_of, value_share}
 use Rattle.mgn_params.specs.Tables.{Tables, commodity_at, is_option, is_premium}
 
 -- each net is 0
@@ -101,7 +102,7 @@ zero_map f z [] = tt
 zero_map f z (x ∷ xs) = (z x, zero_map f z xs)
 
 starts_flat : (ms : List Month) (held : List Position) → IsFlat held → (g : ℕ) → IsZeroRow (starts_of ms held g)
-unfolding starts_of
+unfolding starts_from
 starts_flat ms held h g = zero_map (start_of ms held g) (start_flat ms held h g) (range_with_len 0 16)
 
 -- stages of nothing
@@ -132,21 +133,14 @@ charges_zero row h (s ∷ stages) =
     let here : charge_of row s ≡ 0 = rw (amount_zero row h s) (omega arith) in
     omega (arith, here, charges_zero (left_after row s) (left_zero row h s) stages)
 
-outright_zero : (row : List ℕ) → IsZeroRow row → (stages : List Stage) (tier : ℕ) → outright_delta row stages tier ≡ 0
-outright_zero row h stages tier = omega (arith, zero_read row h (long_leg tier), zero_read row h (short_leg tier))
+left_by_zero : (row : List ℕ) → IsZeroRow row → (stages : List Stage) → IsZeroRow (left_by row stages)
+left_by_zero row h [] = h
+left_by_zero row h (s ∷ stages) = left_by_zero (left_after row s) (left_zero row h s) stages
 
-used_by_zero : (row : List ℕ) → IsZeroRow row → (stages : List Stage) (leg : ℕ) → used_by row stages leg ≡ 0
-used_by_zero row h [] leg = refl
-used_by_zero row h (s ∷ stages) leg =
-    let first = either (s.first_leg == leg) (used (amount_of row s) s.first_ratio) 0 0 (used_zero (amount_of row s) s.first_ratio (amount_zero row h s)) refl in
-    let second = either (s.second_leg == leg) (used (amount_of row s) s.second_ratio) 0 0 (used_zero (amount_of row s) s.second_ratio (amount_zero row h s)) refl in
-    omega (arith, first, second, used_by_zero (left_after row s) (left_zero row h s) stages leg)
-
-spot_zero : (row : List ℕ) → IsZeroRow row → (stages : List Stage) (spot : Option SpotCharge) → spot_charge_of row stages spot ≡ 0
-spot_zero row h stages None = refl
-spot_zero row h stages (Some spot) =
-    let spread : spread_delta row stages spot.tier ≡ 0 = omega (arith, used_by_zero row h stages (long_leg spot.tier), used_by_zero row h stages (short_leg spot.tier)) in
-    rw (outright_zero row h stages spot.tier, spread) (omega arith)
+spot_zero : (row left : List ℕ) → IsZeroRow row → IsZeroRow left → (spot : Option SpotCharge) → spot_charge_from row left spot ≡ 0
+spot_zero row left h k None = refl
+spot_zero row left h k (Some spot) =
+    rw (zero_read row h (long_leg spot.tier), zero_read row h (short_leg spot.tier), zero_read left k (long_leg spot.tier), zero_read left k (short_leg spot.tier)) (omega arith)
 
 -- the requirement
 
@@ -171,7 +165,8 @@ risk_flat set held h g =
     let starts = starts_flat set.months held h g in
     let stages = stages_of set.spreads g in
     let intra = charges_zero (starts_of set.months held g) starts stages in
-    let spot = spot_zero (starts_of set.months held g) starts stages (spot_of set.spots g) in
+    let left = left_by_zero (starts_of set.months held g) starts stages in
+    let spot = spot_zero (starts_of set.months held g) (left_by (starts_of set.months held g) stages) starts left (spot_of set.spots g) in
     let least = minimum_flat held h g (commodity_at set.commodities g).short_option_charge in
     rw (scan_flat held h g, intra, spot, least) (omega (arith, ints, clamps))
 

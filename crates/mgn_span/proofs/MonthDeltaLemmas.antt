@@ -11,13 +11,14 @@ use Rattle.mgn_num.specs.Signed.{signed_sum_below, sum_below}
 use Rattle.mgn_num.proofs.SignedLemmas.{signed_sum_by-cons, sum-*ℤ}
 use Rattle.mgn_params.specs.declared.tables.Contract.{Contract}
 use Rattle.mgn_params.specs.declared.tables.Month.{Month}
-use Rattle.mgn_span.specs.Deltas.{is_in_tier, long_share, month_delta, month_share, negative_part, net_delta, net_share, positive_part, short_share, start_of, starts_of}
-use Rattle.mgn_span.specs.MonthDeltas.{intra_charge_by, leg_share, month_deltas, net_delta_by, net_share_by, spot_charge_by, start_by, starts_by}
+use Rattle.mgn_span.specs.Deltas.{is_in_tier, month_delta, negative_part, positive_part, starts_from, start_from}
+use Rattle.mgn_span.specs.MonthDeltas.{intra_charge_by, month_deltas, net_delta_by, net_share_by, spot_charge_by, start_by, starts_by}
 use Rattle.mgn_span.specs.Positions.{Position, positions}
 use Rattle.mgn_span.specs.Requirement.{intra_charge, spot_charge}
 use Rattle.mgn_span.specs.Scan.{value_at}
-use Rattle.mgn_span.specs.Spot.{spot_charge_of, spot_of}
-use Rattle.mgn_span.specs.Stages.{charges_of, stages_of}
+use Rattle.mgn_span.specs.Spot.{spot_charge_from, spot_of}
+use Rattle.mgn_span.specs.Stages.{charges_of, left_by, stages_of}
+use Rattle.mgn_span.specs.Words.{long_share, month_share, net_delta, net_share, short_share, start_of, starts_of}
 use Rattle.mgn_params.specs.Tables.{Tables, contract_at, month_at}
 use Rattle.mgn_span.proofs.PositionLemmas.{position_sum-set}
 
@@ -42,18 +43,23 @@ counts_if : (b : Bool) (f g : ℕ → ℕ) (n : ℕ) → sum_below (λ m. if b t
 counts_if true f g n = refl
 counts_if false f g n = refl
 
--- what a leg starts with
-pub start_by-month_deltas : (months : List Month) (held : List Position) (g leg : ℕ) → start_by months (month_deltas months held) g leg ≡ start_of months held g leg
-start_by-month_deltas months held g leg =
-    counts_same (leg_share months (month_deltas months held) g leg) (λ m. if nat_lt leg 8 then long_share months held g leg m else short_share months held g (leg - 8) m) (length months) (λ m h. ap (λ (d : ℤ). if nat_lt leg 8 then (if is_in_tier months g leg m then positive_part d else 0) else (if is_in_tier months g (leg - 8) m then negative_part d else 0)) (value_at-month_deltas months held m h))
-    ∙ counts_if (nat_lt leg 8) (long_share months held g leg) (short_share months held g (leg - 8)) (length months)
+-- what a leg starts with, month by month, is what its tier's long or short delta is
+pub start_by-is : (months : List Month) (deltas : List ℤ) (g leg : ℕ) → start_by months deltas g leg ≡ start_from months (value_at deltas) g leg
+start_by-is months deltas g leg =
+    counts_if (nat_lt leg 8) (λ m. if is_in_tier months g leg m then positive_part (value_at deltas m) else 0) (λ m. if is_in_tier months g (leg - 8) m then negative_part (value_at deltas m) else 0) (length months)
+
+pub start_from-same : (months : List Month) (d e : ℕ → ℤ) (g leg : ℕ) → ((m : ℕ) → m < length months → d m ≡ e m) → start_from months d g leg ≡ start_from months e g leg
+start_from-same months d e g leg same =
+    let long = counts_same (λ m. if is_in_tier months g leg m then positive_part (d m) else 0) (λ m. if is_in_tier months g leg m then positive_part (e m) else 0) (length months) (λ m h. ap (λ (x : ℤ). if is_in_tier months g leg m then positive_part x else 0) (same m h)) in
+    let short = counts_same (λ m. if is_in_tier months g (leg - 8) m then negative_part (d m) else 0) (λ m. if is_in_tier months g (leg - 8) m then negative_part (e m) else 0) (length months) (λ m h. ap (λ (x : ℤ). if is_in_tier months g (leg - 8) m then negative_part x else 0) (same m h)) in
+    rw (long, short) refl
 
 -- what the 16 legs start with
 pub starts_by-month_deltas : (months : List Month) (held : List Position) (g : ℕ) → starts_by months (month_deltas months held) g ≡ starts_of months held g
-unfolding starts_by starts_of
+unfolding starts_from
 starts_by-month_deltas months held g =
-    fill_by_all (start_of months held g) (map (start_by months (month_deltas months held) g) (range_with_len 0 16)) 16 0 (length-map-range_with_len (start_by months (month_deltas months held) g) 0 16)
-    (λ leg h. get_or-map-range_with_len (start_by months (month_deltas months held) g) 0 16 leg leg 0 h (omega arith) ∙ start_by-month_deltas months held g leg)
+    fill_by_all (start_of months held g) (map (start_from months (value_at (month_deltas months held)) g) (range_with_len 0 16)) 16 0 (length-map-range_with_len (start_from months (value_at (month_deltas months held)) g) 0 16)
+    (λ leg h. get_or-map-range_with_len (start_from months (value_at (month_deltas months held)) g) 0 16 leg leg 0 h (omega arith) ∙ start_from-same months (value_at (month_deltas months held)) (month_delta held) g leg (value_at-month_deltas months held))
 
 -- the net delta of a commodity
 pub net_delta_by-month_deltas : (months : List Month) (held : List Position) (g : ℕ) → net_delta_by months (month_deltas months held) g ≡ net_delta months held g
@@ -70,7 +76,7 @@ intra_charge_by-month_deltas set held g =
 pub spot_charge_by-month_deltas : (set : Tables) (held : List Position) (g : ℕ) → spot_charge_by set (month_deltas set.months held) g ≡ spot_charge set held g
 unfolding spot_charge_by spot_charge
 spot_charge_by-month_deltas set held g =
-    ap (λ (starts : List ℕ). spot_charge_of starts (stages_of set.spreads g) (spot_of set.spots g)) (starts_by-month_deltas set.months held g)
+    ap (λ (starts : List ℕ). spot_charge_from starts (left_by starts (stages_of set.spreads g)) (spot_of set.spots g)) (starts_by-month_deltas set.months held g)
 
 -- a quantity more of one contract moves the delta of its month, and no other
 share_sum : (m : ℕ) (c : Contract) (n q : ℤ) → month_share m (c, n +ℤ q) ≡ month_share m (c, n) +ℤ month_share m (c, q)

@@ -3,7 +3,8 @@ use Rattle.std.proofs.Common.{◌≡◌, ℕ, zero, suc, ◌*◌, ◌<◌, ◌�
 use Rattle.std.specs.Int.{int_max}
 use Rattle.std.proofs.lemmas.Int.{ints}
 use Rattle.mgn_span.proofs.ActiveLemmas.{pair_of_small}
-use Rattle.mgn_span.specs.Scan.{lowest_largest, active, scan_risk, pair_of, price_risk2, price_risk2_at}
+use Rattle.mgn_span.specs.Scan.{lowest_largest, active, scan_risk, pair_of, price_risk2}
+use Rattle.mgn_span.specs.Words.{price_risk2_at}
 
 lowest_largest-le : (t : ℕ → ℤ) (last : ℕ) → lowest_largest t last ≤ last
 lowest_largest-le t zero = omega arith

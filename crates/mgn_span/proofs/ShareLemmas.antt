@@ -11,11 +11,12 @@ use Rattle.mgn_num.proofs.SignedLemmas.{size-*ℤ-le}
 use Rattle.mgn_span.proofs.PositionLemmas.{position_count_all, position_count_more, position_sum_all, position_sum_more, value_at_small}
 use Rattle.mgn_params.specs.declared.tables.Contract.{Contract}
 use Rattle.mgn_params.specs.declared.tables.Month.{Month}
-use Rattle.mgn_span.specs.Deltas.{month_share, negative_part}
+use Rattle.mgn_span.specs.Deltas.{negative_part}
 use Rattle.mgn_params.specs.Limits.{IsContract, IsWithinLimits}
-use Rattle.mgn_span.specs.Options.{net_option_value, short_option_minimum, short_share_of, value_share}
+use Rattle.mgn_span.specs.Options.{net_option_value, short_option_minimum}
 use Rattle.mgn_span.specs.Positions.{Position, positions, IsNet}
-use Rattle.mgn_span.specs.Scan.{value_at, scenario_share, scenario_total}
+use Rattle.mgn_span.specs.Scan.{value_at, scenario_total}
+use Rattle.mgn_span.specs.Words.{month_share, scenario_share, short_share_of, value_share}
 use Rattle.mgn_params.specs.Tables.{Tables, contract_at, no_contract}
 
 -- One position.

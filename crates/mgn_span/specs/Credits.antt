@@ -3,15 +3,15 @@ use Rattle.std.specs.Prelude.{ℕ, ◌+◌, ◌*◌, ◌/◌, Bool, true, false,
 use Rattle.std.specs.List.{fold, list_all}
 use Rattle.mgn_params.specs.declared.tables.CreditSpread.{CreditSpread}
 use Rattle.mgn_params.specs.declared.tables.Leg.{Leg}
-use Rattle.mgn_params.specs.declared.tables.Side.{Side}
-use Rattle.mgn_params.specs.declared.tables.Side.TheVariants.{A, B}
+use Rattle.mgn_params.specs.declared.tables.LegSide.{LegSide}
+use Rattle.mgn_params.specs.declared.tables.LegSide.TheVariants.{A, B}
 use Rattle.mgn_span.specs.Scan.{value_at}
 use Rattle.mgn_span.specs.Stages.{used}
 use Rattle.mgn_params.specs.Tables.{legs_of}
 use Rattle.mgn_num.specs.Amount.{nearer_zero}
 
 -- whether a leg is to be long, where side A is long or not
-abbrev pub is_long : Bool → Side → Bool
+abbrev pub is_long : Bool → LegSide → Bool
 is_long a_long A = a_long
 is_long a_long B = not a_long
 

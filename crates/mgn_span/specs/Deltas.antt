@@ -6,13 +6,9 @@ use Rattle.mgn_params.specs.declared.tables.Month.{Month}
 use Rattle.mgn_params.specs.Tables.{month_at}
 use Rattle.mgn_span.specs.Positions.{Position}
 
--- what a position counts for in a month: net quantity times scaled delta (CME SPAN)
-abbrev pub month_share : ℕ → Position → ℤ
-month_share month p = if p.0.month == month then p.1 *ℤ p.0.delta else pos 0
-
--- the delta of a month: the sum over its contracts (CME SPAN)
+-- the delta of a month: the sum over its contracts of net quantity times scaled delta (CME SPAN)
 abbrev pub month_delta : List Position → ℕ → ℤ
-month_delta held month = signed_sum_by (month_share month) held
+month_delta held month = signed_sum_by (λ p. if p.0.month == month then p.1 *ℤ p.0.delta else pos 0) held
 
 -- the number, if it is above 0
 abbrev pub positive_part : ℤ → ℕ
@@ -27,38 +23,24 @@ negative_part z = positive_part (neg_ℤ z)
 abbrev pub is_in_tier : List Month → ℕ → ℕ → ℕ → Bool
 is_in_tier months commodity tier m = ((month_at months m).commodity == commodity) && ((month_at months m).tier == tier)
 
--- what a month counts for in the long delta of a tier
-abbrev pub long_share : List Month → List Position → ℕ → ℕ → ℕ → ℕ
-long_share months held commodity tier m =
-    if is_in_tier months commodity tier m then positive_part (month_delta held m) else 0
-
--- what a month counts for in the short delta of a tier
-abbrev pub short_share : List Month → List Position → ℕ → ℕ → ℕ → ℕ
-short_share months held commodity tier m =
-    if is_in_tier months commodity tier m then negative_part (month_delta held m) else 0
-
--- the long delta of a tier: the sum of its positive month deltas (CME SPAN)
-abbrev pub long_delta : List Month → List Position → ℕ → ℕ → ℕ
-long_delta months held commodity tier = sum_below (long_share months held commodity tier) (length months)
-
--- the short delta of a tier: the sum of the sizes of its negative month deltas (CME SPAN)
-abbrev pub short_delta : List Month → List Position → ℕ → ℕ → ℕ
-short_delta months held commodity tier = sum_below (short_share months held commodity tier) (length months)
+-- the long or the short delta of a tier: the sum of its months' positive deltas, or of the sizes of the negative ones
+-- (CME SPAN)
+abbrev pub tier_delta : (ℤ → ℕ) → List Month → (ℕ → ℤ) → ℕ → ℕ → ℕ
+tier_delta part months delta commodity tier =
+    sum_below (λ m. if is_in_tier months commodity tier m then part (delta m) else 0) (length months)
 
 -- what a leg starts with: legs 0 to 7 are the tiers' long deltas, 8 to 15 their short ones
-abbrev pub start_of : List Month → List Position → ℕ → ℕ → ℕ
-start_of months held commodity leg =
-    if nat_lt leg 8 then long_delta months held commodity leg else short_delta months held commodity (leg - 8)
+abbrev pub start_from : List Month → (ℕ → ℤ) → ℕ → ℕ → ℕ
+start_from months delta commodity leg =
+    if nat_lt leg 8
+    then tier_delta positive_part months delta commodity leg
+    else tier_delta negative_part months delta commodity (leg - 8)
 
--- what the 16 legs of a commodity start with
-unfoldable pub starts_of : List Month → List Position → ℕ → List ℕ
-starts_of months held commodity = map (start_of months held commodity) (range_with_len 0 16)
+-- what the 16 legs of a commodity start with, by the deltas of the months
+unfoldable pub starts_from : List Month → (ℕ → ℤ) → ℕ → List ℕ
+starts_from months delta commodity = map (start_from months delta commodity) (range_with_len 0 16)
 
--- what a month counts for in the net delta of a commodity
-abbrev pub net_share : List Month → List Position → ℕ → ℕ → ℤ
-net_share months held commodity m =
-    if (month_at months m).commodity == commodity then month_delta held m else pos 0
-
--- the net delta of a commodity: the sum of all its month deltas (CME SPAN)
-abbrev pub net_delta : List Month → List Position → ℕ → ℤ
-net_delta months held commodity = signed_sum_below (net_share months held commodity) (length months)
+-- the net delta of a commodity: the sum of the deltas of all its months (CME SPAN)
+abbrev pub net_delta_from : List Month → (ℕ → ℤ) → ℕ → ℤ
+net_delta_from months delta commodity =
+    signed_sum_below (λ m. if (month_at months m).commodity == commodity then delta m else pos 0) (length months)

@@ -8,3 +8,5 @@ pub mod Credits
 pub mod Options
 pub mod Spot
 pub mod Requirement
+pub mod Sizes
+pub mod Words

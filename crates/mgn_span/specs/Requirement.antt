@@ -4,17 +4,13 @@ use Rattle.std.specs.Int.{int_max}
 use Rattle.std.specs.List.{range_with_len}
 use Rattle.mgn_num.specs.Signed.{signed_sum_below}
 use Rattle.mgn_span.specs.Credits.{credits_of}
-use Rattle.mgn_span.specs.Deltas.{net_delta, starts_of}
+use Rattle.mgn_span.specs.Deltas.{month_delta, net_delta_from, starts_from}
 use Rattle.mgn_span.specs.Options.{net_option_value, short_option_minimum}
 use Rattle.mgn_span.specs.Positions.{Position, positions}
 use Rattle.mgn_span.specs.Scan.{price_risk2, scan_risk, scenario_total}
-use Rattle.mgn_span.specs.Spot.{spot_charge_of, spot_of}
-use Rattle.mgn_span.specs.Stages.{charges_of, stages_of}
+use Rattle.mgn_span.specs.Spot.{spot_charge_from, spot_of}
+use Rattle.mgn_span.specs.Stages.{charges_of, left_by, stages_of}
 use Rattle.mgn_params.specs.Tables.{Tables, commodity_at}
-
--- the commodities of a set, by number
-abbrev pub commodities_of : Tables → List ℕ
-commodities_of set = range_with_len 0 (length set.commodities)
 
 -- the scan risk of a commodity
 abbrev pub scan_of : List Position → ℕ → ℤ
@@ -22,21 +18,21 @@ scan_of held commodity = scan_risk (scenario_total commodity held)
 
 -- what the intracommodity spreads of a commodity charge (CME SPAN)
 unfoldable pub intra_charge : Tables → List Position → ℕ → ℕ
-intra_charge set held commodity = charges_of (starts_of set.months held commodity) (stages_of set.spreads commodity)
+intra_charge set held commodity =
+    charges_of (starts_from set.months (month_delta held) commodity) (stages_of set.spreads commodity)
 
 -- the spot month charge of a commodity
 unfoldable pub spot_charge : Tables → List Position → ℕ → ℕ
 spot_charge set held commodity =
-    spot_charge_of (starts_of set.months held commodity) (stages_of set.spreads commodity) (spot_of set.spots commodity)
+    let starts = starts_from set.months (month_delta held) commodity in
+    spot_charge_from starts (left_by starts (stages_of set.spreads commodity)) (spot_of set.spots commodity)
 
--- the doubled price risk of a commodity, which is never negative
-abbrev pub price_risk2_of : List Position → ℕ → ℕ
-price_risk2_of held commodity = unsigned_abs (price_risk2 (scenario_total commodity held))
-
--- what the intercommodity spreads credit to each commodity
+-- what the intercommodity spreads credit to each commodity, by net deltas and doubled price risks, which are never below 0
 unfoldable pub credits : Tables → List Position → List ℕ
 credits set held =
-    credits_of (map (net_delta set.months held) (commodities_of set)) (map (price_risk2_of held) (commodities_of set)) set.credits
+    let commodities = range_with_len 0 (length set.commodities) in
+    let deltas = map (net_delta_from set.months (month_delta held)) commodities in
+    credits_of deltas (map (λ g. unsigned_abs (price_risk2 (scenario_total g held))) commodities) set.credits
 
 -- the credit of a commodity
 abbrev pub credit : Tables → List Position → ℕ → ℕ

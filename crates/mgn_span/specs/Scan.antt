@@ -8,13 +8,10 @@ use Rattle.mgn_span.specs.Positions.{Position}
 abbrev pub value_at : List ℤ → ℕ → ℤ
 value_at array s = slice_index_or array s (pos 0)
 
--- what a position counts for in a commodity and a scenario: net quantity times array value (CME SPAN)
-abbrev pub scenario_share : ℕ → ℕ → Position → ℤ
-scenario_share commodity s p = if p.0.commodity == commodity then p.1 *ℤ value_at p.0.array s else pos 0
-
--- the total of a scenario: the sum over the contracts of the commodity (CME SPAN)
+-- the total of a scenario: the sum over the contracts of the commodity of net quantity times array value (CME SPAN)
 abbrev pub scenario_total : ℕ → List Position → ℕ → ℤ
-scenario_total commodity held s = signed_sum_by (scenario_share commodity s) held
+scenario_total commodity held s =
+    signed_sum_by (λ p. if p.0.commodity == commodity then p.1 *ℤ value_at p.0.array s else pos 0) held
 
 -- of the scenarios up to `last`, the lowest one with the largest total
 abbrev pub lowest_largest : (ℕ → ℤ) → ℕ → ℕ
@@ -40,11 +37,9 @@ scan_risk t = int_max (pos 0) (t (active t))
 abbrev pub pair_of : ℕ → ℕ
 pair_of s = if nat_lt s 14 then (if s % 2 == 0 then s + 1 else s - 1) else s
 
--- twice the price risk, where `s` is the active scenario (own profile, after SPAN)
-abbrev pub price_risk2_at : (ℕ → ℤ) → ℕ → ℤ
-price_risk2_at t s =
-    if int_lt (pos 0) (t s) then int_max (pos 0) (t s +ℤ t (pair_of s) -ℤ t 0 -ℤ t 1) else pos 0
-
--- twice the price risk: the active total and that of its pair, less the two totals of an unmoved price
+-- twice the price risk: the active total and that of its pair, less the two totals of an unmoved price, where both the
+-- active total and this are above 0 (own profile, after SPAN)
 abbrev pub price_risk2 : (ℕ → ℤ) → ℤ
-price_risk2 t = price_risk2_at t (active t)
+price_risk2 t =
+    let s = active t in
+    if int_lt (pos 0) (t s) then int_max (pos 0) (t s +ℤ t (pair_of s) -ℤ t 0 -ℤ t 1) else pos 0

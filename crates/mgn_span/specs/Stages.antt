@@ -29,29 +29,15 @@ left_after left stage =
     let first = slice_set left stage.first_leg (slice_index left stage.first_leg - used amount stage.first_ratio) in
     slice_set first stage.second_leg (slice_index left stage.second_leg - used amount stage.second_ratio)
 
--- what a stage charges
-abbrev pub charge_of : List ℕ → Stage → ℕ
-charge_of left stage = div_ceil (amount_of left stage * stage.charge) 10000
-
--- what the stages charge together, each on what the earlier ones left
+-- what the stages charge together, each on what the earlier ones left, and each charge rounded up
 abbrev pub charges_of : List ℕ → List Stage → ℕ
 charges_of left [] = 0
-charges_of left (stage ∷ stages) = charge_of left stage + charges_of (left_after left stage) stages
+charges_of left (stage ∷ stages) =
+    div_ceil (amount_of left stage * stage.charge) 10000 + charges_of (left_after left stage) stages
 
 -- what the stages leave
 abbrev pub left_by : List ℕ → List Stage → List ℕ
 left_by left stages = fold left_after left stages
-
--- what a stage uses of a leg
-abbrev pub used_of : List ℕ → Stage → ℕ → ℕ
-used_of left stage leg =
-    (if stage.first_leg == leg then used (amount_of left stage) stage.first_ratio else 0)
-    + (if stage.second_leg == leg then used (amount_of left stage) stage.second_ratio else 0)
-
--- what the stages use of a leg together, each of what the earlier ones left
-abbrev pub used_by : List ℕ → List Stage → ℕ → ℕ
-used_by left [] leg = 0
-used_by left (stage ∷ stages) leg = used_of left stage leg + used_by (left_after left stage) stages leg
 
 -- the stages of a spread: the first tier long and the second short, then the other way round if they differ; each tier keeps its ratio
 abbrev pub stages_of_spread : Spread → List Stage

@@ -5,7 +5,8 @@ use Rattle.std.proofs.lemmas.List.{get_or_append_left, get_or_at, take-append-le
 use Rattle.std.proofs.lemmas.List.Elements.{All-push}
 use Rattle.std.specs.Prelude.{min}
 use Rattle.mgn_span.specs.declared.stage.Stage.{Stage}
-use Rattle.mgn_span.specs.Stages.{IsStage, charge_of, charges_of, left_after, left_by}
+use Rattle.mgn_span.specs.Stages.{IsStage, charges_of, left_after, left_by}
+use Rattle.mgn_span.specs.Words.{charge_of}
 use Rattle.mgn_tiers.specs.declared.kept.Kept.{Kept}
 use Rattle.mgn_tiers.specs.Runs.{IsKept, IsRun, MissesBelow, Run, kept_at, no_stage, nothing_kept, stage_at}
 use Rattle.mgn_tiers.specs.Sizes.{IsStart}

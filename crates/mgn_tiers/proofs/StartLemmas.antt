@@ -6,19 +6,18 @@ use Rattle.std.proofs.lemmas.Int.{ints}
 use Rattle.std.proofs.lemmas.List.{get_or-replicate, get_or_past, length-replicate}
 use Rattle.std.proofs.lemmas.List.FromFn.{fill_by_all, get_or-map-range_with_len, length-map-range_with_len}
 use Rattle.mgn_params.specs.declared.tables.Month.{Month}
-use Rattle.mgn_span.specs.Deltas.{negative_part, positive_part}
-use Rattle.mgn_span.specs.MonthDeltas.{leg_share, net_delta_by, net_share_by, start_by, starts_by}
+use Rattle.mgn_span.specs.Deltas.{negative_part, positive_part, start_from, starts_from}
+use Rattle.mgn_span.specs.MonthDeltas.{start_share, leg_share, net_delta_by, net_share_by, start_by, starts_by}
 use Rattle.mgn_span.specs.Scan.{value_at}
 use Rattle.mgn_params.specs.Tables.{month_at}
-use Rattle.mgn_tiers.specs.Sizes.{IsDelta, IsStart}
+use Rattle.mgn_tiers.specs.Sizes.{IsStart}
 use Rattle.mgn_tiers.proofs.SumLemmas.{signed_sum_below_moved, signed_sum_below_none, sum_below_at, sum_below_moved, sum_below_small}
+use Rattle.mgn_span.proofs.MonthDeltaLemmas.{start_by-is}
+use Rattle.mgn_span.specs.Sizes.{IsDelta}
 
 -- what a month of a delta counts for in a leg
 share_of : Month → ℤ → ℕ → ℕ → ℕ
-share_of month delta g leg =
-    if nat_lt leg 8
-    then (if (month.commodity == g) && (month.tier == leg) then positive_part delta else 0)
-    else (if (month.commodity == g) && (month.tier == leg - 8) then negative_part delta else 0)
+share_of month delta g leg = start_share month delta g leg
 
 leg_share_is : (months : List Month) (deltas : List ℤ) (g leg m : ℕ) → leg_share months deltas g leg m ≡ share_of (month_at months m) (value_at deltas m) g leg
 unfolding share_of
@@ -46,17 +45,17 @@ share_out month delta g leg h = grind (arith, ints)
 
 -- a start at its place in the row
 pub starts_at : (months : List Month) (deltas : List ℤ) (g leg : ℕ) → leg < 16 → slice_index (starts_by months deltas g) leg ≡ start_by months deltas g leg
-unfolding starts_by
+unfolding starts_from
 starts_at months deltas g leg h =
-    get_or-map-range_with_len (start_by months deltas g) 0 16 leg leg 0 h (omega arith)
+    get_or-map-range_with_len (start_from months (value_at deltas) g) 0 16 leg leg 0 h (omega arith) ∙ sym (start_by-is months deltas g leg)
 
 pub starts_long : (months : List Month) (deltas : List ℤ) (g : ℕ) → length (starts_by months deltas g) ≡ 16
-unfolding starts_by
-starts_long months deltas g = length-map-range_with_len (start_by months deltas g) 0 16
+unfolding starts_from
+starts_long months deltas g = length-map-range_with_len (start_from months (value_at deltas) g) 0 16
 
-starts_from : (months : List Month) (deltas : List ℤ) (g : ℕ) (row : List ℕ) → length row ≡ 16 → ((leg : ℕ) → leg < 16 → slice_index row leg ≡ start_by months deltas g leg) → row ≡ starts_by months deltas g
-unfolding starts_by
-starts_from months deltas g row long each = fill_by_all (start_by months deltas g) row 16 0 long each
+starts_read : (months : List Month) (deltas : List ℤ) (g : ℕ) (row : List ℕ) → length row ≡ 16 → ((leg : ℕ) → leg < 16 → slice_index row leg ≡ start_by months deltas g leg) → row ≡ starts_by months deltas g
+unfolding starts_from
+starts_read months deltas g row long each = fill_by_all (start_from months (value_at deltas) g) row 16 0 long (λ leg h. each leg h ∙ start_by-is months deltas g leg)
 
 -- no leg starts with more than all months at their limits
 pub start_small : (months : List Month) (deltas : List ℤ) (g leg : ℕ) → length deltas ≡ length months → length months ≤ 256 * 64 → All IsDelta deltas → IsStart (start_by months deltas g leg)
@@ -83,7 +82,7 @@ start_moved months deltas m d g leg one_each h =
 -- the legs of other commodities are as they were
 pub starts_kept : (months : List Month) (deltas : List ℤ) (m : ℕ) (d : ℤ) (g : ℕ) → length deltas ≡ length months → m < length months → (month_at months m).commodity ≢ g → starts_by months deltas g ≡ starts_by months (slice_set deltas m d) g
 starts_kept months deltas m d g one_each h other =
-    starts_from months (slice_set deltas m d) g (starts_by months deltas g) (starts_long months deltas g)
+    starts_read months (slice_set deltas m d) g (starts_by months deltas g) (starts_long months deltas g)
     (λ leg low.
     let moved = start_moved months deltas m d g leg one_each h in
     omega (arith, starts_at months deltas g leg low, moved, share_out (month_at months m) (value_at deltas m) g leg other, share_out (month_at months m) d g leg other))
@@ -125,7 +124,7 @@ starts_moved months deltas m d one_each h low =
     let short = slice_index row (8 + tier) - negative_part (value_at deltas m) + negative_part d in
     let sixteen : length row ≡ 16 = starts_long months deltas g in
     let first = length-set row tier long in
-    starts_from months (slice_set deltas m d) g (slice_set (slice_set row tier long) (8 + tier) short) (length-set (slice_set row tier long) (8 + tier) short ∙ first ∙ sixteen)
+    starts_read months (slice_set deltas m d) g (slice_set (slice_set row tier long) (8 + tier) short) (length-set (slice_set row tier long) (8 + tier) short ∙ first ∙ sixteen)
     (λ leg inside.
     ⊎_elim
     (λ (here : leg ≡ 8 + tier).
@@ -172,7 +171,7 @@ none_at n m =
 pub starts_none : (months : List Month) (g : ℕ) → replicate 16 0 ≡ starts_by months (replicate (length months) (pos 0)) g
 starts_none months g =
     let deltas : List ℤ = replicate (length months) (pos 0) in
-    starts_from months deltas g (replicate 16 0) (length-replicate {A = ℕ} 16 0)
+    starts_read months deltas g (replicate 16 0) (length-replicate {A = ℕ} 16 0)
     (λ leg h.
     let each = sum_below_small (leg_share months deltas g leg) 0 (length months) (λ m low. omega (arith, leg_share_is months deltas g leg m, ap (λ (x : ℤ). share_of (month_at months m) x g leg) (none_at (length months) m), share_none (month_at months m) g leg)) in
     omega (arith, each, get_or-replicate {A = ℕ} 16 leg 0 0 h))

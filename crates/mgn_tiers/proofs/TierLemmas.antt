@@ -11,9 +11,9 @@ use Rattle.mgn_params.specs.Limits.{IsWithinLimits}
 use Rattle.mgn_span.specs.Scan.{value_at}
 use Rattle.mgn_params.specs.Tables.{Tables, month_at, no_month}
 use Rattle.mgn_tiers.specs.Runs.{Run}
-use Rattle.mgn_tiers.specs.Sizes.{IsDelta}
 use Rattle.mgn_tiers.specs.Tiers.{AreTiersOf, HasRoom, Tiers, no_run, run_at, run_by}
 use Rattle.mgn_tiers.proofs.StartLemmas.{long_moved, long_there, net_moved, net_none, short_moved, short_there, start_small, starts_kept, starts_moved}
+use Rattle.mgn_span.specs.Sizes.{IsDelta}
 
 -- the run of the month's commodity has room for another delta
 pub has_room : (set' : Tables) (t : Tiers) (m : ℕ) (d : ℤ) → IsWithinLimits set' → AreTiersOf set' t → m < length set'.months → IsDelta d → HasRoom (run_at t.runs (month_at set'.months m).commodity) (month_at set'.months m).tier (value_at t.deltas m) d

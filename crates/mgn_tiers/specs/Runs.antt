@@ -1,9 +1,8 @@
 -- The stages of one commodity, formed one after another of what its legs start with.
-use Rattle.std.specs.Prelude.{ℕ, ◌≡◌, ◌≢◌, ◌+◌, ◌-◌, ◌*◌, ◌<◌, ◌≤◌, ◌^◌, List, length, take, slice_index, slice_index_or, Option, IfSome, All}
-use Rattle.std.specs.Int.{div_ceil}
+use Rattle.std.specs.Prelude.{ℕ, ◌≡◌, ◌≢◌, ◌<◌, ◌≤◌, ◌^◌, List, length, take, slice_index, slice_index_or, Option, IfSome, All}
 use Rattle.mgn_params.specs.declared.tables.SpotCharge.{SpotCharge}
 use Rattle.mgn_span.specs.declared.stage.Stage.{Stage}
-use Rattle.mgn_span.specs.Stages.{IsStage, charges_of, left_by, long_leg, short_leg}
+use Rattle.mgn_span.specs.Stages.{IsStage, charges_of, left_by}
 use Rattle.mgn_tiers.specs.declared.kept.Kept.{Kept}
 use Rattle.mgn_tiers.specs.Sizes.{IsStart}
 
@@ -39,13 +38,6 @@ pub record IsKept (starts : List ℕ) (stages : List Stage) (i : ℕ) (k : Kept)
 
 abbrev pub IsSpot : SpotCharge → Type 0
 IsSpot s = (s.tier < 8) × (s.spread_rate ≤ 10 ^ 9) × (s.outright_rate ≤ 10 ^ 9)
-
--- the spot month charge by what the legs of the spot tier start with and what is left of them
-abbrev pub spot_charge_left : List ℕ → List ℕ → SpotCharge → ℕ
-spot_charge_left starts left spot =
-    let outright = slice_index left (long_leg spot.tier) + slice_index left (short_leg spot.tier) in
-    let spread = slice_index starts (long_leg spot.tier) + slice_index starts (short_leg spot.tier) - outright in
-    div_ceil (spread * spot.spread_rate) 10000 + div_ceil (outright * spot.outright_rate) 10000
 
 -- the rows are those of the stages that are formed
 pub record IsRun (run : Run) (left : List ℕ) (charged : ℕ) (kept : List Kept) (firsts : List ℕ) : Type 0 where

@@ -7,7 +7,8 @@ use Rattle.mgn_span.specs.Spot.{spot_of}
 use Rattle.mgn_span.specs.Stages.{stages_of}
 use Rattle.mgn_params.specs.Tables.{Tables}
 use Rattle.mgn_tiers.specs.Runs.{Run}
-use Rattle.mgn_tiers.specs.Sizes.{IsDelta, IsStart}
+use Rattle.mgn_tiers.specs.Sizes.{IsStart}
+use Rattle.mgn_span.specs.Sizes.{IsDelta}
 
 -- the deltas of the months, and for each commodity the net delta and the formed stages
 pub record Tiers : Type 0 where

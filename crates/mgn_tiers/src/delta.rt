@@ -1,7 +1,7 @@
 ghost use Rattle.std.specs.Prelude.{◌≡◌, ◌≤◌, ◌*◌, ◌^◌, ◌+ℤ◌, unsigned_abs};
 ghost use Rattle.mgn_span.specs.Deltas.{negative_part, positive_part};
 
-use mgn_num::Tenk;
+use mgn_num::TenThousandths;
 use std::marker::Model;
 
 /// A delta of a month or of a commodity in ten-thousandths, at most 2.56 * 10^14 in size. Contracts see the number.
@@ -12,7 +12,7 @@ pub(crate) struct Delta {
 
 impl Model for Delta {
     ghost use Rattle.std.specs.Prelude.{ℤ};
-    ghost use Rattle.mgn_tiers.specs.Sizes.{IsDelta};
+    ghost use Rattle.mgn_span.specs.Sizes.{IsDelta};
 
     ghost Value = { ℤ };
 
@@ -24,12 +24,12 @@ impl Model for Delta {
 }
 
 impl Delta {
-    ghost use Rattle.mgn_tiers.specs.Sizes.{IsDelta};
+    ghost use Rattle.mgn_span.specs.Sizes.{IsDelta};
 
     pub const ZERO: Delta = Delta { parts: 0 };
 
     // The sum with a change.
-    pub fn plus(self, change: Tenk) -> Delta
+    pub fn plus(self, change: TenThousandths) -> Delta
         requires { IsDelta (self +ℤ change) }
         ensures { result ≡ self +ℤ change }
     {
@@ -38,11 +38,11 @@ impl Delta {
         }
     }
 
-    pub fn tenk(self) -> Tenk
+    pub fn ten_thousandths(self) -> TenThousandths
         ensures value { result ≡ self }
         ensures small { IsDelta result }
     {
-        Tenk::new(i128::from(self.parts))
+        TenThousandths::new(i128::from(self.parts))
     }
 
     // The number, if it is above 0.

@@ -1,6 +1,6 @@
 ghost use Rattle.std.specs.Prelude.{◌≡◌, ◌≢◌, ◌+◌, ◌-◌, ◌*◌, ◌<◌, ◌≤◌, ◌^◌, ℕ, List, [], ◌∷◌, ◌++◌, length, replicate, slice_index, slice_set, None, Some, OnOk};
-ghost use Rattle.mgn_span.specs.Spot.{spot_charge_of};
-ghost use Rattle.mgn_span.specs.Stages.{charges_of, IsStage};
+ghost use Rattle.mgn_span.specs.Spot.{spot_charge_from};
+ghost use Rattle.mgn_span.specs.Stages.{charges_of, left_by, IsStage};
 ghost use Rattle.mgn_tiers.specs.Runs.{IsSpot, MissesBelow};
 ghost use Rattle.mgn_tiers.specs.Sizes.{IsStart};
 
@@ -210,7 +210,7 @@ impl StageRun {
     /// The spot month charge, 0 where there is none.
     pub fn spot_charge(&self) -> u128
         requires { self.now.formed ≡ length self.now.stages }
-        ensures charge { result ≡ spot_charge_of self.now.starts self.now.stages self.now.spot }
+        ensures charge { result ≡ spot_charge_from self.now.starts (left_by self.now.starts self.now.stages) self.now.spot }
         ensures small { result ≤ 10 ^ 30 }
     {
         match &self.spot {

@@ -1,5 +1,6 @@
-ghost use Rattle.std.specs.Prelude.{◌≡◌, ◌≤◌, ◌^◌, ℕ, slice_index};
-ghost use Rattle.mgn_tiers.specs.Runs.{IsSpot, spot_charge_left};
+ghost use Rattle.std.specs.Prelude.{◌≡◌, ◌≤◌, ◌^◌, ℕ, slice_index, Some};
+ghost use Rattle.mgn_span.specs.Spot.{spot_charge_from};
+ghost use Rattle.mgn_tiers.specs.Runs.{IsSpot};
 ghost use Rattle.mgn_tiers.specs.Sizes.{IsStart};
 
 use mgn_num::mul_div_ceil;
@@ -10,7 +11,7 @@ pub(crate) fn charge_by(starts: &[u64; 16], left: &[u64; 16], spot: &SpotCharge)
     requires spot { IsSpot spot.now }
     requires starts { (k : ℕ) → IsStart (slice_index starts.now k) }
     requires left { (k : ℕ) → slice_index left.now k ≤ slice_index starts.now k }
-    ensures charge { result ≡ spot_charge_left starts.now left.now spot.now }
+    ensures charge { result ≡ spot_charge_from starts.now left.now (Some spot.now) }
     ensures small { result ≤ 10 ^ 30 }
 {
     let (long, short) = (spot.tier, 8 + spot.tier);

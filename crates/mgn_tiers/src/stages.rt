@@ -1,6 +1,7 @@
 ghost use Rattle.std.specs.Prelude.{◌≡◌, ◌*◌, ◌/◌, ◌<◌, ◌≤◌, ◌^◌, ℕ, slice_index};
 ghost use Rattle.std.specs.Int.{div_ceil};
-ghost use Rattle.mgn_span.specs.Stages.{amount_of, charge_of, IsStage, left_after, used};
+ghost use Rattle.mgn_span.specs.Stages.{amount_of, IsStage, left_after, used};
+ghost use Rattle.mgn_span.specs.Words.{charge_of};
 ghost use Rattle.mgn_tiers.specs.Sizes.{IsStart};
 
 use mgn_span::Stage;

@@ -2,13 +2,13 @@ ghost use Rattle.std.specs.Prelude.{◌≡◌, ◌<◌, ◌≤◌, ◌^◌, ◌+
 ghost use Rattle.mgn_span.specs.MonthDeltas.{intra_charge_by, net_delta_by, spot_charge_by};
 ghost use Rattle.mgn_span.specs.Scan.{value_at};
 ghost use Rattle.mgn_params.specs.Tables.{month_at, Tables};
-ghost use Rattle.mgn_tiers.specs.Sizes.{IsDelta};
 ghost use Rattle.mgn_tiers.specs.Tiers.{AreTiersOf};
+ghost use Rattle.mgn_span.specs.Sizes.{IsDelta};
 
 use crate::delta::Delta;
 use crate::rows::{delta_at, filled, move_delta, runs_of};
 use crate::run::StageRun;
-use mgn_num::{Cents, Tenk};
+use mgn_num::{Cents, TenThousandths};
 use mgn_params::ParamSet;
 use std::alloc::{AllocError, Global};
 use std::marker::Model;
@@ -51,7 +51,7 @@ impl TierStages {
 
     /// Adds to the delta of the month at a place, in ten-thousandths. The stages of its commodity are formed again from
     /// the first one whose start changed. The resulting month delta and net delta are at most 2.56 * 10^14 in size.
-    pub fn add(&mut self, set: &ParamSet, month: usize, delta: Tenk)
+    pub fn add(&mut self, set: &ParamSet, month: usize, delta: TenThousandths)
         requires of_set { AreTiersOf set.now self.old }
         requires month { month < length set.now.months }
         requires month_delta { IsDelta (value_at self.old.deltas month +ℤ delta) }
@@ -70,12 +70,12 @@ impl TierStages {
     }
 
     /// The delta of the month at a place, in ten-thousandths: what the changes so far add up to.
-    pub fn month_delta(&self, month: usize) -> Tenk
+    pub fn month_delta(&self, month: usize) -> TenThousandths
         requires { month < length self.now.deltas }
         ensures value { result ≡ value_at self.now.deltas month }
         ensures small { IsDelta result }
     {
-        delta_at(&self.deltas, month).tenk()
+        delta_at(&self.deltas, month).ten_thousandths()
     }
 
     /// What the intracommodity spreads of the commodity at a place charge, in cents (CME SPAN).
@@ -97,11 +97,11 @@ impl TierStages {
     }
 
     /// The net delta of the commodity at a place: the sum of its month deltas, in ten-thousandths (CME SPAN).
-    pub fn net_delta(&self, g: usize) -> Tenk
+    pub fn net_delta(&self, g: usize) -> TenThousandths
         requires { (set : Tables) × AreTiersOf set self.now × (g < length set.commodities) }
         ensures value { (set : Tables) → AreTiersOf set self.now → result ≡ net_delta_by set.months self.now.deltas g }
         ensures small { IsDelta result }
     {
-        delta_at(&self.net_deltas, g).tenk()
+        delta_at(&self.net_deltas, g).ten_thousandths()
     }
 }

@@ -78,6 +78,16 @@ fn shows_its_rows(rt: HostRuntime) -> Result<(), Fail> {
     check_shown(&rt, &set)
 }
 
+#[test]
+fn tells_equal_sets(rt: HostRuntime) -> Result<(), Fail> {
+    let set = read_set(rt.alloc(), one().as_bytes())?;
+    let again = read_set(rt.alloc(), one().as_bytes())?;
+    let other = read_set(rt.alloc(), fut().as_bytes())?;
+    assert!(rt; set.is_same(&again) && again.is_same(&set));
+    assert!(rt; !set.is_same(&other) && !other.is_same(&set));
+    Ok(())
+}
+
 // The text of a worked set, by number.
 fn text_of(number: usize) -> &'static str {
     match number {

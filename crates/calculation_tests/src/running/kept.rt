@@ -5,7 +5,7 @@ ghost use Rattle.mgn_scan.specs.Totals.{AreTotals};
 ghost use Rattle.mgn_span.specs.Positions.{IsNet};
 
 use mgn_inter::InterCredits;
-use mgn_num::{Quantity, Tenk};
+use mgn_num::{Quantity, TenThousandths};
 use mgn_option::OptionSums;
 use mgn_params::{ParamSet, Work};
 use mgn_plain::{CommodityFigures, figures};
@@ -63,16 +63,16 @@ fn difference(new: Quantity, old: Quantity) -> Quantity
 }
 
 // Contracts at a scaled delta each.
-fn scaled(quantity: Quantity, delta: &i64) -> Tenk
+fn scaled(quantity: Quantity, delta: &i64) -> TenThousandths
     requires quantity { unsigned_abs quantity ≤ 2 * 10 ^ 7 }
     requires delta { unsigned_abs delta.now ≤ 10 ^ 5 }
     ensures { unsigned_abs result ≤ 2 * 10 ^ 12 }
 {
-    Tenk::product(quantity, *delta)
+    TenThousandths::product(quantity, *delta)
 }
 
 // What the delta of its month changes by with the net of a contract.
-fn delta_of(set: &ParamSet, i: usize, quantity: Quantity) -> Tenk
+fn delta_of(set: &ParamSet, i: usize, quantity: Quantity) -> TenThousandths
     requires contract { i < length set.now.contracts }
     requires quantity { unsigned_abs quantity ≤ 2 * 10 ^ 7 }
     ensures { unsigned_abs result ≤ 2 * 10 ^ 12 }

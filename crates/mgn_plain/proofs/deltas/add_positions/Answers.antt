@@ -1,7 +1,7 @@
 use Rattle.std.proofs.Common.{arith, ◌<◌, length, pos}
 use Rattle.std.proofs.lemmas.Int.{ints}
 use Rattle.mgn_params.specs.Tables.{contract_at, no_contract}
-use Rattle.mgn_span.specs.Deltas.{month_share}
+use Rattle.mgn_span.specs.Words.{month_share}
 use Rattle.mgn_span.specs.Scan.{value_at}
 use Rattle.mgn_span.proofs.PositionLemmas.{position_sum_more}
 use Rattle.mgn_span.proofs.ShareLemmas.{month_share_small}

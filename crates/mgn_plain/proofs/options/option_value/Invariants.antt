@@ -1,6 +1,6 @@
 use Rattle.std.proofs.Common.{◌≡◌, ◌≤◌, ◌*◌, ◌^◌, take, unsigned_abs}
 use Rattle.mgn_num.specs.Signed.{signed_sum_by}
-use Rattle.mgn_span.specs.Options.{value_share}
+use Rattle.mgn_span.specs.Words.{value_share}
 use Rattle.mgn_span.specs.Positions.{positions}
 use Rattle.mgn_plain.proofs.options.option_value.Given as goal
 

@@ -1,7 +1,8 @@
 use Rattle.std.proofs.Common.{arith, ◌<◌, length, pos}
 use Rattle.std.proofs.lemmas.Int.{ints}
 use Rattle.mgn_params.specs.Tables.{contract_at, no_contract}
-use Rattle.mgn_span.specs.Scan.{scenario_share, value_at}
+use Rattle.mgn_span.specs.Scan.{value_at}
+use Rattle.mgn_span.specs.Words.{scenario_share}
 use Rattle.mgn_span.proofs.PositionLemmas.{position_sum_more}
 use Rattle.mgn_span.proofs.ShareLemmas.{scenario_share_small}
 use Rattle.mgn_plain.proofs.scan.add_positions.Goals as goal

@@ -3,7 +3,7 @@ use Rattle.std.specs.Prelude.{◌+ℤ◌, slice_index}
 use Rattle.std.proofs.lemmas.Int.{ints}
 use Rattle.mgn_params.specs.declared.tables.Contract.{Contract}
 use Rattle.mgn_params.specs.declared.tables.Commodity.{Commodity}
-use Rattle.mgn_span.specs.Options.{short_share_of, value_share}
+use Rattle.mgn_span.specs.Words.{short_share_of, value_share}
 use Rattle.mgn_span.specs.Scan.{value_at}
 use Rattle.mgn_params.specs.Tables.{Tables, commodity_at, contract_at, no_contract}
 use Rattle.mgn_option.specs.Sums.{AreSums, Sums}

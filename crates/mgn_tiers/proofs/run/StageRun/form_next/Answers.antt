@@ -1,7 +1,8 @@
 use Rattle.std.proofs.Common.{◌≡◌, ◌<◌, ◌∙◌, ap, subst, sym, arith, refl, length, slice_index}
 use Rattle.std.proofs.lemmas.List.{get_or_read}
 use Rattle.mgn_span.specs.declared.stage.Stage.{Stage}
-use Rattle.mgn_span.specs.Stages.{charge_of, left_after}
+use Rattle.mgn_span.specs.Stages.{left_after}
+use Rattle.mgn_span.specs.Words.{charge_of}
 use Rattle.mgn_tiers.specs.Runs.{Run, no_stage, stage_at}
 use Rattle.mgn_tiers.specs.RunRows.{run_of}
 use Rattle.mgn_tiers.proofs.RunLemmas.{charged_small, left_small, run_formed}

@@ -4,11 +4,11 @@ use Rattle.std.proofs.lemmas.List.{get_or_read}
 use Rattle.mgn_params.specs.declared.tables.Month.{Month}
 use Rattle.mgn_span.specs.Scan.{value_at}
 use Rattle.mgn_params.specs.Tables.{no_month}
-use Rattle.mgn_tiers.specs.Sizes.{IsDelta}
 use Rattle.mgn_tiers.specs.TierRows.{tiers_of}
 use Rattle.mgn_tiers.specs.Tiers.{AreTiersOf, Tiers, no_run}
 use Rattle.mgn_tiers.proofs.TierLemmas.{has_room, tiers_moved}
 use Rattle.mgn_tiers.proofs.tiers.TierStages.add.Goals as goal
+use Rattle.mgn_span.specs.Sizes.{IsDelta}
 
 pub move_delta-requires : goal.move_delta-requires
 move_delta-requires c =

@@ -11,11 +11,11 @@ use std::marker::Model;
 /// A signed number of ten-thousandths, at most 10^36 in size: a delta, a ratio, a rate, a number of spreads.
 /// Contracts see the number of ten-thousandths.
 #[derive(Clone, Copy, PartialEq, Eq, PartialOrd, Ord, Debug)]
-pub struct Tenk {
+pub struct TenThousandths {
     parts: i128,
 }
 
-impl Model for Tenk {
+impl Model for TenThousandths {
     ghost use Rattle.std.specs.Prelude.{ℤ};
     ghost use Rattle.mgn_num.specs.Amount.{IsAmount};
 
@@ -28,18 +28,18 @@ impl Model for Tenk {
     ghost inverse = { λ z. record { parts = z } };
 }
 
-impl Tenk {
+impl TenThousandths {
     ghost use Rattle.mgn_num.specs.Amount.{IsAmount, nearer_zero};
 
     /// None.
-    pub const ZERO: Tenk = Tenk { parts: 0 };
+    pub const ZERO: TenThousandths = TenThousandths { parts: 0 };
 
     /// A number of ten-thousandths.
     pub fn new(parts: i128) -> Self
         requires { IsAmount parts }
         ensures { result ≡ parts }
     {
-        Tenk { parts }
+        TenThousandths { parts }
     }
 
     /// The number of ten-thousandths.
@@ -51,20 +51,20 @@ impl Tenk {
     }
 
     /// The sum of two.
-    pub fn plus(self, other: Tenk) -> Tenk
+    pub fn plus(self, other: TenThousandths) -> TenThousandths
         requires { IsAmount (self +ℤ other) }
         ensures { result ≡ self +ℤ other }
     {
-        Tenk {
+        TenThousandths {
             parts: self.parts + other.parts,
         }
     }
 
     /// A quantity of contracts at a scaled delta for each.
-    pub fn product(quantity: Quantity, each: i64) -> Tenk
+    pub fn product(quantity: Quantity, each: i64) -> TenThousandths
         ensures { result ≡ quantity *ℤ each }
     {
-        Tenk {
+        TenThousandths {
             parts: i128::from(quantity.contracts()) * i128::from(each),
         }
     }
@@ -78,7 +78,7 @@ impl Tenk {
     }
 
     /// The number brought nearer to 0, where it stops.
-    pub fn nearer_zero(self, by: u128) -> Tenk
+    pub fn nearer_zero(self, by: u128) -> TenThousandths
         ensures { result ≡ nearer_zero self by }
     {
         let by = by.min(self.size()) as i128;
@@ -87,7 +87,7 @@ impl Tenk {
         } else {
             self.parts - by
         };
-        Tenk { parts }
+        TenThousandths { parts }
     }
 
     /// Whether it is above 0.
@@ -106,11 +106,11 @@ impl Tenk {
 
     /// The number that a text spells: `0`, or an optional `-`, a digit 1 to 9 and any further digits. `Syntax` where it
     /// is spelled otherwise, `Range` where it is above 10^36 in size. Takes no memory.
-    pub fn parse(text: &[u8]) -> Result<Tenk, NumFault>
+    pub fn parse(text: &[u8]) -> Result<TenThousandths, NumFault>
         ensures { result ≡ number_of text.now }
     {
         let number = read_number(text)?;
-        Ok(Tenk { parts: number })
+        Ok(TenThousandths { parts: number })
     }
 
     /// Appends the number's text, as `parse` reads it. At an error nothing is appended.

@@ -2,5 +2,5 @@
 use Rattle.std.specs.Prelude.{ℤ, neg_ℤ, List, map}
 
 -- what was long is short, and what was short is long
-abbrev pub turned : List ℤ → List ℤ
-turned nets = map neg_ℤ nets
+abbrev pub negated : List ℤ → List ℤ
+negated nets = map neg_ℤ nets

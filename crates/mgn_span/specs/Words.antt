@@ -1,0 +1,87 @@
+-- Words for laws, for the inside of other crates and for proofs. No definition of the requirement stands on them.
+use Rattle.std.specs.Prelude.{ℕ, ◌+◌, ◌-◌, ◌*◌, ◌==◌, ◌&&◌, nat_lt, if◌then◌else◌, ℤ, pos, ◌+ℤ◌, ◌-ℤ◌, ◌*ℤ◌, int_lt, unsigned_abs, List, [], ◌∷◌, length}
+use Rattle.std.specs.Int.{div_ceil, int_max}
+use Rattle.std.specs.List.{range_with_len}
+use Rattle.mgn_params.specs.declared.tables.Month.{Month}
+use Rattle.mgn_params.specs.Tables.{Tables, is_option, is_premium, month_at}
+use Rattle.mgn_span.specs.declared.stage.Stage.{Stage}
+use Rattle.mgn_span.specs.Deltas.{is_in_tier, month_delta, negative_part, net_delta_from, positive_part, start_from, starts_from, tier_delta}
+use Rattle.mgn_span.specs.Positions.{Position}
+use Rattle.mgn_span.specs.Scan.{pair_of, price_risk2, scenario_total, value_at}
+use Rattle.mgn_span.specs.Stages.{amount_of, left_after, used}
+
+-- What one position or one month counts for in a sum.
+
+abbrev pub scenario_share : ℕ → ℕ → Position → ℤ
+scenario_share commodity s p = if p.0.commodity == commodity then p.1 *ℤ value_at p.0.array s else pos 0
+
+abbrev pub month_share : ℕ → Position → ℤ
+month_share month p = if p.0.month == month then p.1 *ℤ p.0.delta else pos 0
+
+abbrev pub short_share_of : ℕ → ℕ → Position → ℕ
+short_share_of commodity charge p =
+    if (p.0.commodity == commodity) && is_option p.0.kind then negative_part p.1 * charge else 0
+
+abbrev pub value_share : Position → ℤ
+value_share p = if is_premium p.0.style then p.1 *ℤ pos p.0.option_value else pos 0
+
+abbrev pub long_share : List Month → List Position → ℕ → ℕ → ℕ → ℕ
+long_share months held commodity tier m =
+    if is_in_tier months commodity tier m then positive_part (month_delta held m) else 0
+
+abbrev pub short_share : List Month → List Position → ℕ → ℕ → ℕ → ℕ
+short_share months held commodity tier m =
+    if is_in_tier months commodity tier m then negative_part (month_delta held m) else 0
+
+abbrev pub net_share : List Month → List Position → ℕ → ℕ → ℤ
+net_share months held commodity m = if (month_at months m).commodity == commodity then month_delta held m else pos 0
+
+-- Deltas by positions.
+
+-- the long and the short delta of a tier
+abbrev pub long_delta : List Month → List Position → ℕ → ℕ → ℕ
+long_delta months held commodity tier = tier_delta positive_part months (month_delta held) commodity tier
+
+abbrev pub short_delta : List Month → List Position → ℕ → ℕ → ℕ
+short_delta months held commodity tier = tier_delta negative_part months (month_delta held) commodity tier
+
+-- what a leg of a commodity starts with, and what its 16 legs do
+abbrev pub start_of : List Month → List Position → ℕ → ℕ → ℕ
+start_of months held commodity leg = start_from months (month_delta held) commodity leg
+
+abbrev pub starts_of : List Month → List Position → ℕ → List ℕ
+starts_of months held commodity = starts_from months (month_delta held) commodity
+
+-- the net delta of a commodity
+abbrev pub net_delta : List Month → List Position → ℕ → ℤ
+net_delta months held commodity = net_delta_from months (month_delta held) commodity
+
+-- Commodities by number.
+
+abbrev pub commodities_of : Tables → List ℕ
+commodities_of set = range_with_len 0 (length set.commodities)
+
+-- the doubled price risk, which is never negative, and what it is at a scenario
+abbrev pub price_risk2_of : List Position → ℕ → ℕ
+price_risk2_of held commodity = unsigned_abs (price_risk2 (scenario_total commodity held))
+
+abbrev pub price_risk2_at : (ℕ → ℤ) → ℕ → ℤ
+price_risk2_at t s =
+    if int_lt (pos 0) (t s) then int_max (pos 0) (t s +ℤ t (pair_of s) -ℤ t 0 -ℤ t 1) else pos 0
+
+-- Stages one by one.
+
+-- what a stage charges
+abbrev pub charge_of : List ℕ → Stage → ℕ
+charge_of left stage = div_ceil (amount_of left stage * stage.charge) 10000
+
+-- what a stage uses of a leg
+abbrev pub used_of : List ℕ → Stage → ℕ → ℕ
+used_of left stage leg =
+    (if stage.first_leg == leg then used (amount_of left stage) stage.first_ratio else 0)
+    + (if stage.second_leg == leg then used (amount_of left stage) stage.second_ratio else 0)
+
+-- what the stages use of a leg together, each of what the earlier ones left
+abbrev pub used_by : List ℕ → List Stage → ℕ → ℕ
+used_by left [] leg = 0
+used_by left (stage ∷ stages) leg = used_of left stage leg + used_by (left_after left stage) stages leg
