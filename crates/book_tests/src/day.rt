@@ -4,7 +4,7 @@ use mgn_book::{Book, Outcome};
 use mgn_ids::{
     AccountName, ContractName, IdFault, LotId, LotQuantity, OriginName, Premium, SessionNo,
 };
-use mgn_machine::{Command, Figures, Mode, Refusal, Reply};
+use mgn_machine::{Command, Figures, Mode, Refusal, Reply, Trade};
 use mgn_num::Cents;
 use mgn_params::SetList;
 use mgn_setfile::read_set;
@@ -65,7 +65,13 @@ fn commands() -> Result<[Command; 5], IdFault> {
     let (account, origin) = (AccountName::read(b"A1")?, OriginName::read(b"CUST")?);
     let (lot, contract) = (LotId::read(b"1")?, ContractName::read(b"AAA1")?);
     let (quantity, premium) = (LotQuantity::read(b"2")?, Premium::read(b"0")?);
-    let trade = Command::Trade(account, lot, contract, quantity, premium);
+    let trade = Command::Trade(Trade {
+        account,
+        lot,
+        contract,
+        quantity,
+        premium,
+    });
     Ok([
         Command::NewOrigin(origin, Mode::Gross),
         Command::NewAccount(account, origin),

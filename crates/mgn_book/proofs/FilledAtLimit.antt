@@ -8,6 +8,7 @@ use Rattle.std.proofs.lemmas.List.Quantifiers.{position-Some}
 use Rattle.mgn_params.specs.Tables.{Tables}
 use Rattle.mgn_holds.specs.declared.held.Held.{Held}
 use Rattle.mgn_holds.specs.Holds.{is_buy, hold_at, place_of_order, covers}
+use Rattle.mgn_machine.specs.declared.command.Fill.{Fill}
 use Rattle.mgn_machine.specs.declared.reply.Refusal.{Refusal}
 use Rattle.mgn_machine.specs.declared.reply.Refusal.TheVariants.{NoOrder, NoAccount}
 use Rattle.mgn_machine.specs.State.{State, AccountState, account_at, put}
@@ -49,9 +50,9 @@ not_false true e = refl
 not_false false e = cc
 
 -- where the fill takes place, and that the hold covers it
-fill_places-done : (set' : Tables) (s : State) (account : List ℕ) (order lot : ℕ) (quantity : ℤ) (premium k j : ℕ) (at : ℕ × ℕ) → place_of s account ≡ Ok k → place_of_order (account_at s.accounts k).holds order ≡ Some j → fill_places set' s account order lot quantity premium ≡ Ok at → (covers (hold_at (account_at s.accounts k).holds j) quantity ≡ true) × ((k, j) ≡ at)
+fill_places-done : (set' : Tables) (s : State) (f : Fill) (k j : ℕ) (at : ℕ × ℕ) → place_of s f.account ≡ Ok k → place_of_order (account_at s.accounts k).holds f.order ≡ Some j → fill_places set' s f ≡ Ok at → (covers (hold_at (account_at s.accounts k).holds j) f.quantity ≡ true) × ((k, j) ≡ at)
 unfolding fill_places
-fill_places-done set' s account order lot quantity premium k j at place hold done =
+fill_places-done set' s f k j at place hold done =
     let not_closed = test_passed _ _ _ at done in
     let fresh = test_passed _ _ _ at (then_done _ _ k at place not_closed.1) in
     let met = test_passed _ _ _ at (then_done _ _ j at (ap (λ o. found o NoOrder) hold) fresh.1) in
@@ -75,18 +76,18 @@ place-inside s account k place =
 
 -- each portfolio that counts the hold stays as it was
 pub fill_done-keeps : (set' : Tables) (old new : State) (p : Portfolio) (u : ℕ) → FillsAtLimit set' old new p → portfolio_of set' new.accounts u p ≡ portfolio_of set' old.accounts u p
-fill_done-keeps set' old new p u fill =
-    let a = account_at old.accounts fill.place in
-    let x = hold_at a.holds fill.hold in
-    let ends = first_done (fill_places set' old fill.account fill.order fill.lot fill.quantity x.limit) _ new fill.done in
-    let told = fill_places-done set' old fill.account fill.order fill.lot fill.quantity x.limit fill.place fill.hold ends.0 fill.account_stands fill.hold_stands ends.1.0 in
-    let now : put old fill.place (fill_of a fill.hold fill.lot fill.quantity x.limit) ≡ new =
-    ap (λ (at : ℕ × ℕ). put old at.0 (fill_of (account_at old.accounts at.0) at.1 fill.lot fill.quantity x.limit)) told.1 ∙ same_done _ _ new refl ends.1.1
+fill_done-keeps set' old new p u at =
+    let a = account_at old.accounts at.place in
+    let f = at.fill in
+    let ends = first_done (fill_places set' old f) _ new at.done in
+    let found = fill_places-done set' old f at.place at.hold ends.0 at.account_stands at.hold_stands ends.1.0 in
+    let now : put old at.place (fill_of a at.hold f) ≡ new =
+    ap (λ (places : ℕ × ℕ). put old places.0 (fill_of (account_at old.accounts places.0) places.1 f)) found.1 ∙ same_done _ _ new refl ends.1.1
     in
     sym (ap (λ (s : State). portfolio_of set' s.accounts u p) now)
-    ∙ fill_at_limit-keeps set' old.accounts fill.place fill.hold fill.lot fill.quantity p u (place-inside old fill.account fill.place fill.account_stands)
-    (position-Some (λ (y : Held). nat_eq y.order fill.order) a.holds fill.hold x fill.hold_stands).0 told.0
-    (ap (counts p) (covered-side x fill.quantity told.0) ∙ fill.counted)
+    ∙ fill_at_limit-keeps set' old.accounts at.place at.hold f p u (place-inside old f.account at.place at.account_stands)
+    (position-Some (λ (y : Held). nat_eq y.order f.order) a.holds at.hold (hold_at a.holds at.hold) at.hold_stands).0 found.0
+    (ap (counts p) (covered-side (hold_at a.holds at.hold) f.quantity found.0) ∙ at.counted) at.at_limit
 
 pub requirement-kept : (set' : Tables) (old new : State) (p : Portfolio) (u : ℕ) → FillsAtLimit set' old new p → requirement_of set' new.accounts u p ≡ requirement_of set' old.accounts u p
 unfolding portfolio_of requirement_of

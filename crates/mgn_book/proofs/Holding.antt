@@ -11,20 +11,23 @@ use Rattle.mgn_params.specs.Tables.{Tables}
 use Rattle.mgn_lots.specs.declared.lot.Lot.{Lot}
 use Rattle.mgn_lots.specs.Lots.{IsLot, is_live, is_full}
 use Rattle.mgn_holds.specs.declared.held.Held.{Held}
-use Rattle.mgn_holds.specs.Holds.{IsHeld, hold_at, no_hold, is_full as holds_full, covers}
+use Rattle.mgn_holds.specs.Holds.{IsHeld, has_order, hold_at, no_hold, is_full as holds_full, covers}
 use Rattle.mgn_unit.specs.declared.change.Change.{Change}
+use Rattle.mgn_machine.specs.declared.command.Fill.{Fill}
+use Rattle.mgn_machine.specs.declared.command.Hold.{Hold}
 use Rattle.mgn_machine.specs.declared.origin.Origin.{Origin}
 use Rattle.mgn_machine.specs.declared.reply.Refusal.{Refusal}
-use Rattle.mgn_machine.specs.declared.reply.Refusal.TheVariants.{NoRoom}
+use Rattle.mgn_machine.specs.declared.reply.Refusal.TheVariants.{NoRoom, Limit}
 use Rattle.mgn_unit.specs.declared.row.Row.{Row}
 use Rattle.mgn_unit.specs.declared.row.Priced.{Priced}
 use Rattle.mgn_machine.specs.State.{State, AccountState, IsAccount, no_account, account_at, put, traded_lot}
 use Rattle.mgn_machine.specs.Portfolios.{account_size}
 use Rattle.mgn_machine.specs.Room.{unit_room}
-use Rattle.mgn_machine.specs.Refusals.{◌>>=◌, if_room, contract_of, has_contract, is_over, unit_size, IsKnown}
+use Rattle.mgn_machine.specs.Refusals.{◌>>=◌, refuse_if, if_room, place_of, contract_of, has_contract, is_over, premium_fits, IsKnown}
 use Rattle.mgn_unit.specs.Rows.{IsRoomy, Prices, row_of, row_with, lacks_room}
 use Rattle.mgn_unit.specs.Changes.{Moves, hold_change, release_change, fill_change}
 use Rattle.mgn_machine.specs.Holding.{entered, hold_places, new_hold, with_hold, without_hold, fill_of}
+use Rattle.mgn_machine.proofs.Names.{unit_size}
 use Rattle.mgn_unit.proofs.Bounded.{unit-within}
 use Rattle.mgn_unit.proofs.HoldMoves.{hold-moves, release-moves, hold-limits, release-limits, All-removed}
 use Rattle.mgn_unit.proofs.FillMoves.{fill-moves, fill-limits, All-filled}
@@ -115,41 +118,54 @@ was-known set' f k i a r contract reads = account-known set' f k a reads.kept re
 
 -- HOLD
 
-pub hold-roomy : (set' : Tables) (f : BookState) (k i : ℕ) (a : AccountState) (r : Row) (order : ℕ) (contract : List ℕ) (quantity : ℤ) (limit : ℕ) → Reads set' f k i a r contract → is_over f.state k contract quantity ≡ false → IsRoomy (hold_change i quantity limit) r
-hold-roomy set' f k i a r order contract quantity limit reads over =
-    changed-roomy set' f k a (with_hold a (new_hold order contract quantity limit)) r contract (hold_change i quantity limit) reads (hold-moves set' a order contract i quantity limit)
-    (subst (λ (z : ℤ). IsNet (z +ℤ pos (unsigned_abs quantity))) (sym size) (not_over (unit_size f.state a.unit contract) (unsigned_abs quantity) (subst IsNet size (row-small set' f k i a r contract reads)) room))
+pub hold-roomy : (set' : Tables) (f : BookState) (k i : ℕ) (a : AccountState) (r : Row) (h : Hold) → Reads set' f k i a r h.contract → is_over f.state k h.contract h.quantity ≡ false → IsRoomy (hold_change i h.quantity h.limit) r
+hold-roomy set' f k i a r h reads over =
+    changed-roomy set' f k a (with_hold a (new_hold h)) r h.contract (hold_change i h.quantity h.limit) reads (hold-moves set' a i h)
+    (subst (λ (z : ℤ). IsNet (z +ℤ pos (unsigned_abs h.quantity))) (sym size) (not_over (unit_size f.state a.unit h.contract) (unsigned_abs h.quantity) (subst IsNet size (row-small set' f k i a r h.contract reads)) room))
   where
-    size : get_or r.sizes i (pos 0) ≡ unit_size f.state a.unit contract
-    size = row-size set' f k i a r contract reads
+    size : get_or r.sizes i (pos 0) ≡ unit_size f.state a.unit h.contract
+    size = row-size set' f k i a r h.contract reads
 
-    room : int_lt (pos (10 ^ 7)) (unit_size f.state a.unit contract +ℤ pos (unsigned_abs quantity)) ≡ false
-    room = ap (λ (x : AccountState). int_lt (pos (10 ^ 7)) (unit_size f.state x.unit contract +ℤ pos (unsigned_abs quantity))) (account-read set' f k i a r contract reads) ∙ over
+    room : int_lt (pos (10 ^ 7)) (unit_size f.state a.unit h.contract +ℤ pos (unsigned_abs h.quantity)) ≡ false
+    room = ap (λ (x : AccountState). int_lt (pos (10 ^ 7)) (unit_size f.state x.unit h.contract +ℤ pos (unsigned_abs h.quantity))) (account-read set' f k i a r h.contract reads) ∙ over
 
-pub hold-row : (set' : Tables) (f : BookState) (k i : ℕ) (a : AccountState) (r : Row) (order : ℕ) (contract : List ℕ) (quantity : ℤ) (limit : ℕ) → Reads set' f k i a r contract → row_with set' (hold_change i quantity limit) r ≡ row_of set' (set f.state.accounts k (with_hold a (new_hold order contract quantity limit))) a.unit
-hold-row set' f k i a r order contract quantity limit reads =
-    changed-row set' f k a (with_hold a (new_hold order contract quantity limit)) r contract (hold_change i quantity limit) reads (hold-moves set' a order contract i quantity limit)
+pub hold-row : (set' : Tables) (f : BookState) (k i : ℕ) (a : AccountState) (r : Row) (h : Hold) → Reads set' f k i a r h.contract → row_with set' (hold_change i h.quantity h.limit) r ≡ row_of set' (set f.state.accounts k (with_hold a (new_hold h))) a.unit
+hold-row set' f k i a r h reads =
+    changed-row set' f k a (with_hold a (new_hold h)) r h.contract (hold_change i h.quantity h.limit) reads (hold-moves set' a i h)
 
-pub hold-kept : (set' : Tables) (origins : List Origin) (accounts : List AccountState) (rows : List Row) (closed : Bool) (version : ℕ) (k i : ℕ) (a now : AccountState) (r row : Row) (order : ℕ) (contract : List ℕ) (quantity : ℤ) (limit : ℕ) (priced : Priced) → Reads set' (book_state origins accounts rows closed version) k i a r contract → IsRoomy (hold_change i quantity limit) r → Prices set' (hold_change i quantity limit) r priced → IsHeld (new_hold order contract quantity limit) → holds_full a.holds ≡ false → row ≡ row_with set' (hold_change i quantity limit) r → now ≡ with_hold a (new_hold order contract quantity limit) → IsKept set' (book_state origins (set accounts k now) (set rows a.unit row) closed version)
-hold-kept set' origins accounts rows closed version k i a now r row order contract quantity limit priced reads room prices held few is added =
-    changed-kept set' origins accounts rows closed version k a (with_hold a x) now r row contract (hold_change i quantity limit) priced reads (hold-moves set' a order contract i quantity limit) refl room prices
-    (hold-limits a x (was-limits set' f k i a r contract reads) held (grind (arith, nat_tests, few)))
+pub hold-kept : (set' : Tables) (origins : List Origin) (accounts : List AccountState) (rows : List Row) (closed : Bool) (version : ℕ) (k i : ℕ) (a now : AccountState) (r row : Row) (h : Hold) (priced : Priced) → Reads set' (book_state origins accounts rows closed version) k i a r h.contract → IsRoomy (hold_change i h.quantity h.limit) r → Prices set' (hold_change i h.quantity h.limit) r priced → IsHeld (new_hold h) → holds_full a.holds ≡ false → row ≡ row_with set' (hold_change i h.quantity h.limit) r → now ≡ with_hold a (new_hold h) → IsKept set' (book_state origins (set accounts k now) (set rows a.unit row) closed version)
+hold-kept set' origins accounts rows closed version k i a now r row h priced reads room prices held few is added =
+    changed-kept set' origins accounts rows closed version k a (with_hold a x) now r row h.contract (hold_change i h.quantity h.limit) priced reads (hold-moves set' a i h) refl room prices
+    (hold-limits a x (was-limits set' f k i a r h.contract reads) held (grind (arith, nat_tests, few)))
     known is added
   where
     f : BookState
     f = book_state origins accounts rows closed version
 
     x : Held
-    x = new_hold order contract quantity limit
+    x = new_hold h
 
     before : IsKnown set' a
-    before = was-known set' f k i a r contract reads
+    before = was-known set' f k i a r h.contract reads
 
     known : IsKnown set' (with_hold a x)
     known = record {
       lots = before.lots;
-      holds = All-push (λ (y : Held). has_contract set' y.contract ≡ true) a.holds x before.holds (stands-known set' contract i (stands set' f k i a r contract reads));
+      holds = All-push (λ (y : Held). has_contract set' y.contract ≡ true) a.holds x before.holds (stands-known set' h.contract i (stands set' f k i a r h.contract reads));
     }
+
+-- what a test refuses with
+pub refused-why : (test : Bool) (r : Result (Unit {0}) Refusal) (why w : Refusal) → r ≡ Err why → r ≡ refuse_if test w → why ≡ w
+unfolding refuse_if
+refused-why true r why w e f = cc
+refused-why false r why w e f = cc
+
+-- where it is the size alone that is refused
+pub hold_places-over : (set' : Tables) (s : State) (h : Hold) (k i : ℕ) → s.closed ≡ false → place_of s h.account ≡ Ok k → has_order (account_at s.accounts k).holds h.order ≡ false → contract_of set' h.contract ≡ Ok i → premium_fits set' i h.limit ≡ true
+    → holds_full (account_at s.accounts k).holds ≡ false → is_over s k h.contract h.quantity ≡ true → hold_places set' s h ≡ Err Limit
+unfolding hold_places refuse_if place_of
+hold_places-over set' s h k i closed place fresh contract fits few over =
+    rw closed (rw place (rw fresh (rw contract (rw fits (rw few (rw over refl))))))
 
 -- what is answered, once the places and the room are known
 
@@ -166,20 +182,20 @@ room-asked u set' s = by (int_lt (unit_room set' s.accounts u) (pos 0))
     by false = tt
 
 -- the state that a hold leads to
-abbrev pub state-held : State → ℕ × ℕ → ℕ → List ℕ → ℤ → ℕ → State
-state-held s at order contract quantity limit = put s at.0 (with_hold (account_at s.accounts at.0) (new_hold order contract quantity limit))
+abbrev pub state-held : State → ℕ × ℕ → Hold → State
+state-held s at h = put s at.0 (with_hold (account_at s.accounts at.0) (new_hold h))
 
-entered-by : (set' : Tables) (s : State) (at : ℕ × ℕ) (account : List ℕ) (order : ℕ) (contract : List ℕ) (quantity : ℤ) (limit : ℕ) → hold_places set' s account order contract quantity limit ≡ Ok at → entered set' s account order contract quantity limit ≡ if_room set' (account_at s.accounts at.0).unit (state-held s at order contract quantity limit)
-entered-by set' s at account order contract quantity limit places =
-    ap (λ (x : Result (ℕ × ℕ) Refusal). x >>= (λ at. if_room set' (account_at s.accounts at.0).unit (state-held s at order contract quantity limit))) places
+entered-by : (set' : Tables) (s : State) (at : ℕ × ℕ) (h : Hold) → hold_places set' s h ≡ Ok at → entered set' s h ≡ if_room set' (account_at s.accounts at.0).unit (state-held s at h)
+entered-by set' s at h places =
+    ap (λ (x : Result (ℕ × ℕ) Refusal). x >>= (λ at. if_room set' (account_at s.accounts at.0).unit (state-held s at h))) places
 
-pub entered-done : (set' : Tables) (s : State) (at : ℕ × ℕ) (account : List ℕ) (order : ℕ) (contract : List ℕ) (quantity : ℤ) (limit : ℕ) → hold_places set' s account order contract quantity limit ≡ Ok at → lacks_room (row_of set' (state-held s at order contract quantity limit).accounts (account_at s.accounts at.0).unit) ≡ false → entered set' s account order contract quantity limit ≡ Ok (state-held s at order contract quantity limit)
-entered-done set' s at account order contract quantity limit places room =
-    entered-by set' s at account order contract quantity limit places ∙ asked-room set' (account_at s.accounts at.0).unit (state-held s at order contract quantity limit) false room
+pub entered-done : (set' : Tables) (s : State) (at : ℕ × ℕ) (h : Hold) → hold_places set' s h ≡ Ok at → lacks_room (row_of set' (state-held s at h).accounts (account_at s.accounts at.0).unit) ≡ false → entered set' s h ≡ Ok (state-held s at h)
+entered-done set' s at h places room =
+    entered-by set' s at h places ∙ asked-room set' (account_at s.accounts at.0).unit (state-held s at h) false room
 
-pub entered-short : (set' : Tables) (s : State) (at : ℕ × ℕ) (account : List ℕ) (order : ℕ) (contract : List ℕ) (quantity : ℤ) (limit : ℕ) → hold_places set' s account order contract quantity limit ≡ Ok at → lacks_room (row_of set' (state-held s at order contract quantity limit).accounts (account_at s.accounts at.0).unit) ≡ true → entered set' s account order contract quantity limit ≡ Err NoRoom
-entered-short set' s at account order contract quantity limit places room =
-    entered-by set' s at account order contract quantity limit places ∙ asked-room set' (account_at s.accounts at.0).unit (state-held s at order contract quantity limit) true room
+pub entered-short : (set' : Tables) (s : State) (at : ℕ × ℕ) (h : Hold) → hold_places set' s h ≡ Ok at → lacks_room (row_of set' (state-held s at h).accounts (account_at s.accounts at.0).unit) ≡ true → entered set' s h ≡ Err NoRoom
+entered-short set' s at h places room =
+    entered-by set' s at h places ∙ asked-room set' (account_at s.accounts at.0).unit (state-held s at h) true room
 
 -- RELEASE
 
@@ -215,15 +231,15 @@ release-kept set' origins accounts rows closed version k i j a now r row priced 
 
 -- FILL
 
-pub fill-roomy : (set' : Tables) (f : BookState) (k i j lot : ℕ) (a : AccountState) (r : Row) (quantity : ℤ) (premium : ℕ) → Reads set' f k i a r (hold_at a.holds j).contract → j < length a.holds → covers (hold_at a.holds j) quantity ≡ true → IsRoomy (fill_change i quantity (hold_at a.holds j).limit premium) r
-fill-roomy set' f k i j lot a r quantity premium reads inside c =
-    changed-roomy set' f k a (fill_of a j lot quantity premium) r (hold_at a.holds j).contract (fill_change i quantity (hold_at a.holds j).limit premium) reads (fill-moves set' a i j lot quantity premium inside c)
+pub fill-roomy : (set' : Tables) (f : BookState) (k i j : ℕ) (a : AccountState) (r : Row) (y : Fill) → Reads set' f k i a r (hold_at a.holds j).contract → j < length a.holds → covers (hold_at a.holds j) y.quantity ≡ true → IsRoomy (fill_change i y.quantity (hold_at a.holds j).limit y.premium) r
+fill-roomy set' f k i j a r y reads inside c =
+    changed-roomy set' f k a (fill_of a j y) r (hold_at a.holds j).contract (fill_change i y.quantity (hold_at a.holds j).limit y.premium) reads (fill-moves set' a i j y inside c)
     (not_moved (get_or r.sizes i (pos 0)) (row-small set' f k i a r (hold_at a.holds j).contract reads))
 
-pub fill-kept : (set' : Tables) (origins : List Origin) (accounts : List AccountState) (rows : List Row) (closed : Bool) (version : ℕ) (k i j lot : ℕ) (a now : AccountState) (r row : Row) (quantity : ℤ) (premium : ℕ) (priced : Priced) → Reads set' (book_state origins accounts rows closed version) k i a r (hold_at a.holds j).contract → j < length a.holds → covers (hold_at a.holds j) quantity ≡ true → IsRoomy (fill_change i quantity (hold_at a.holds j).limit premium) r → Prices set' (fill_change i quantity (hold_at a.holds j).limit premium) r priced → IsLot (traded_lot lot (hold_at a.holds j).contract quantity premium) → is_full a.lots ≡ false → row ≡ row_with set' (fill_change i quantity (hold_at a.holds j).limit premium) r → now ≡ fill_of a j lot quantity premium → IsKept set' (book_state origins (set accounts k now) (set rows a.unit row) closed version)
-fill-kept set' origins accounts rows closed version k i j lot a now r row quantity premium priced reads inside c room prices is_lot few is filled =
-    changed-kept set' origins accounts rows closed version k a (fill_of a j lot quantity premium) now r row x.contract (fill_change i quantity x.limit premium) priced reads (fill-moves set' a i j lot quantity premium inside c) refl room prices
-    (fill-limits a j lot quantity premium (was-limits set' f k i a r x.contract reads) inside c is_lot (grind (arith, nat_tests, few)))
+pub fill-kept : (set' : Tables) (origins : List Origin) (accounts : List AccountState) (rows : List Row) (closed : Bool) (version : ℕ) (k i j : ℕ) (a now : AccountState) (r row : Row) (y : Fill) (priced : Priced) → Reads set' (book_state origins accounts rows closed version) k i a r (hold_at a.holds j).contract → j < length a.holds → covers (hold_at a.holds j) y.quantity ≡ true → IsRoomy (fill_change i y.quantity (hold_at a.holds j).limit y.premium) r → Prices set' (fill_change i y.quantity (hold_at a.holds j).limit y.premium) r priced → IsLot (traded_lot y.lot (hold_at a.holds j).contract y.quantity y.premium) → is_full a.lots ≡ false → row ≡ row_with set' (fill_change i y.quantity (hold_at a.holds j).limit y.premium) r → now ≡ fill_of a j y → IsKept set' (book_state origins (set accounts k now) (set rows a.unit row) closed version)
+fill-kept set' origins accounts rows closed version k i j a now r row y priced reads inside c room prices is_lot few is filled =
+    changed-kept set' origins accounts rows closed version k a (fill_of a j y) now r row x.contract (fill_change i y.quantity x.limit y.premium) priced reads (fill-moves set' a i j y inside c) refl room prices
+    (fill-limits a j y (was-limits set' f k i a r x.contract reads) inside c is_lot (grind (arith, nat_tests, few)))
     known is filled
   where
     f : BookState
@@ -235,10 +251,10 @@ fill-kept set' origins accounts rows closed version k i j lot a now r row quanti
     before : IsKnown set' a
     before = was-known set' f k i a r x.contract reads
 
-    known : IsKnown set' (fill_of a j lot quantity premium)
+    known : IsKnown set' (fill_of a j y)
     known = record {
-      lots = All-push (λ (y : Lot). is_live y.mark ≡ true → has_contract set' y.contract ≡ true) a.lots (traded_lot lot x.contract quantity premium) before.lots (λ _. stands-known set' x.contract i (stands set' f k i a r x.contract reads));
-      holds = All-filled (λ (y : Held). has_contract set' y.contract ≡ true) a.holds j quantity before.holds (λ part. stands-known set' x.contract i (stands set' f k i a r x.contract reads));
+      lots = All-push (λ (z : Lot). is_live z.mark ≡ true → has_contract set' z.contract ≡ true) a.lots (traded_lot y.lot x.contract y.quantity y.premium) before.lots (λ _. stands-known set' x.contract i (stands set' f k i a r x.contract reads));
+      holds = All-filled (λ (z : Held). has_contract set' z.contract ≡ true) a.holds j y.quantity before.holds (λ part. stands-known set' x.contract i (stands set' f k i a r x.contract reads));
     }
 
 -- Where nothing has changed.
@@ -261,20 +277,20 @@ new-state : (origins : List Origin) (accounts : List AccountState) (rows : List 
 new-state origins accounts rows closed version k u row b now is =
     λ i. record { origins = origins; accounts = set accounts k (is i); units = sym (length-set rows u row) i; closed = closed; version = version }
 
-held-short : (set' : Tables) (f : BookState) (at : ℕ × ℕ) (a : AccountState) (r : Row) (order : ℕ) (contract : List ℕ) (quantity : ℤ) (limit : ℕ) (b : Bool) → Reads set' f at.0 at.1 a r contract → lacks_room (row_with set' (hold_change at.1 quantity limit) r) ≡ b → lacks_room (row_of set' (state-held f.state at order contract quantity limit).accounts (account_at f.state.accounts at.0).unit) ≡ b
-held-short set' f at a r order contract quantity limit b reads is =
-    subst (λ (x : AccountState). lacks_room (row_of set' (set f.state.accounts at.0 (with_hold x (new_hold order contract quantity limit))) x.unit) ≡ b) (account-read set' f at.0 at.1 a r contract reads)
-    (ap lacks_room (sym (hold-row set' f at.0 at.1 a r order contract quantity limit reads)) ∙ is)
+held-short : (set' : Tables) (f : BookState) (at : ℕ × ℕ) (a : AccountState) (r : Row) (h : Hold) (b : Bool) → Reads set' f at.0 at.1 a r h.contract → lacks_room (row_with set' (hold_change at.1 h.quantity h.limit) r) ≡ b → lacks_room (row_of set' (state-held f.state at h).accounts (account_at f.state.accounts at.0).unit) ≡ b
+held-short set' f at a r h b reads is =
+    subst (λ (x : AccountState). lacks_room (row_of set' (set f.state.accounts at.0 (with_hold x (new_hold h))) x.unit) ≡ b) (account-read set' f at.0 at.1 a r h.contract reads)
+    (ap lacks_room (sym (hold-row set' f at.0 at.1 a r h reads)) ∙ is)
 
-pub hold-done : (set' : Tables) (origins : List Origin) (accounts : List AccountState) (rows : List Row) (closed : Bool) (version : ℕ) (at : ℕ × ℕ) (u : ℕ) (a now : AccountState) (r row : Row) (account : List ℕ) (order : ℕ) (contract : List ℕ) (quantity : ℤ) (limit : ℕ) → Reads set' (book_state origins accounts rows closed version) at.0 at.1 a r contract → hold_places set' (book_state origins accounts rows closed version).state account order contract quantity limit ≡ Ok at → lacks_room (row_with set' (hold_change at.1 quantity limit) r) ≡ false → now ≡ with_hold a (new_hold order contract quantity limit) → entered set' (book_state origins accounts rows closed version).state account order contract quantity limit ≡ Ok (book_state origins (set accounts at.0 now) (set rows u row) closed version).state
-hold-done set' origins accounts rows closed version at u a now r row account order contract quantity limit reads places room added =
+pub hold-done : (set' : Tables) (origins : List Origin) (accounts : List AccountState) (rows : List Row) (closed : Bool) (version : ℕ) (at : ℕ × ℕ) (u : ℕ) (a now : AccountState) (r row : Row) (h : Hold) → Reads set' (book_state origins accounts rows closed version) at.0 at.1 a r h.contract → hold_places set' (book_state origins accounts rows closed version).state h ≡ Ok at → lacks_room (row_with set' (hold_change at.1 h.quantity h.limit) r) ≡ false → now ≡ with_hold a (new_hold h) → entered set' (book_state origins accounts rows closed version).state h ≡ Ok (book_state origins (set accounts at.0 now) (set rows u row) closed version).state
+hold-done set' origins accounts rows closed version at u a now r row h reads places room added =
     let f = book_state origins accounts rows closed version in
-    let x = new_hold order contract quantity limit in
-    entered-done set' f.state at account order contract quantity limit places (held-short set' f at a r order contract quantity limit false reads room)
-    ∙ ap (λ (s : State). Ok s) (new-state origins accounts rows closed version at.0 u row (with_hold (account_at accounts at.0) x) now (ap (λ (y : AccountState). with_hold y x) (sym (account-read set' f at.0 at.1 a r contract reads)) ∙ sym added))
+    let x = new_hold h in
+    entered-done set' f.state at h places (held-short set' f at a r h false reads room)
+    ∙ ap (λ (s : State). Ok s) (new-state origins accounts rows closed version at.0 u row (with_hold (account_at accounts at.0) x) now (ap (λ (y : AccountState). with_hold y x) (sym (account-read set' f at.0 at.1 a r h.contract reads)) ∙ sym added))
 
-pub hold-refused : (set' : Tables) (f new : BookState) (at : ℕ × ℕ) (a : AccountState) (r : Row) (account : List ℕ) (order : ℕ) (contract : List ℕ) (quantity : ℤ) (limit : ℕ) (why : Fault) → Reads set' f at.0 at.1 a r contract → hold_places set' f.state account order contract quantity limit ≡ Ok at → AsksRoom {X = Unit {0}} (row_with set' (hold_change at.1 quantity limit) r) (Err why) → new ≡ f → Steps {X = Unit {0}} (entered set' f.state account order contract quantity limit) (Err why) f new
-hold-refused set' f new at a r account order contract quantity limit (Refused why) reads places asks same =
-    (entered-short set' f.state at account order contract quantity limit places (held-short set' f at a r order contract quantity limit true reads asks.1) ∙ ap (λ (x : Refusal). Err x) (sym asks.0), same)
-hold-refused set' f new at a r account order contract quantity limit Memory reads places asks same =
-    (subst AsksMemory (sym (entered-by set' f.state at account order contract quantity limit places)) (room-asked (account_at f.state.accounts at.0).unit set' (state-held f.state at order contract quantity limit)), same)
+pub hold-refused : (set' : Tables) (f new : BookState) (at : ℕ × ℕ) (a : AccountState) (r : Row) (h : Hold) (why : Fault) → Reads set' f at.0 at.1 a r h.contract → hold_places set' f.state h ≡ Ok at → AsksRoom {X = Unit {0}} (row_with set' (hold_change at.1 h.quantity h.limit) r) (Err why) → new ≡ f → Steps {X = Unit {0}} (entered set' f.state h) (Err why) f new
+hold-refused set' f new at a r h (Refused why) reads places asks same =
+    (entered-short set' f.state at h places (held-short set' f at a r h true reads asks.1) ∙ ap (λ (x : Refusal). Err x) (sym asks.0), same)
+hold-refused set' f new at a r h Memory reads places asks same =
+    (subst AsksMemory (sym (entered-by set' f.state at h places)) (room-asked (account_at f.state.accounts at.0).unit set' (state-held f.state at h)), same)

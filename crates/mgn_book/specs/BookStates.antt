@@ -18,7 +18,12 @@ pub record BookState : Type 0 where
   pub rows : List Row
 
 abbrev pub book_state : List Origin → List AccountState → List Row → Bool → ℕ → BookState
-book_state origins accounts rows closed version = record { state = record { origins = origins; accounts = accounts; units = length rows; closed = closed; version = version }; rows = rows }
+book_state origins accounts rows closed version =
+    let units = length rows in
+    record {
+      state = record { origins = origins; accounts = accounts; units = units; closed = closed; version = version };
+      rows = rows;
+    }
 
 -- a row is that of the unit, worked out from lots, holds and collateral, and within the limits
 pub record IsUnitRow (set : Tables) (accounts : List AccountState) (u : ℕ) (row : Row) : Type 0 where
@@ -38,7 +43,8 @@ pub record IsKept (set : Tables) (f : BookState) : Type 0 where
   pub netted : All (λ (o : Origin). IfSome o.unit (λ u. u < length f.rows)) f.state.origins
   pub rows : (u : ℕ) (d : Row) → u < length f.rows → IsUnitRow set f.state.accounts u (slice_index_or f.rows u d)
 
--- memory is asked for only where a command would be done, or refused for want of room alone, which has to be priced first
+-- memory is asked for only where a command would be done, or refused for want of room alone, which has to be priced
+-- first
 abbrev pub AsksMemory : Result State Refusal → Type 0
 AsksMemory (Ok now) = Unit {0}
 AsksMemory (Err why) = why ≡ NoRoom

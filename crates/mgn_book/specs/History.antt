@@ -34,7 +34,13 @@ sets_of (SetRefused set) = set ∷ []
 
 -- stands for the figures past the end of the list, which no one asks for
 abbrev pub no_figures : Figures
-no_figures = record { requirement = pos 0; exposure_requirement = pos 0; value = pos 0; exposure_value = pos 0; room = pos 0 }
+no_figures = record {
+  requirement = pos 0;
+  exposure_requirement = pos 0;
+  value = pos 0;
+  exposure_value = pos 0;
+  room = pos 0;
+}
 
 -- the reply that is stored
 abbrev pub reply_of : List Figures → StoredReply → Reply
@@ -63,7 +69,8 @@ sets_needed (RefusedAt place) = place + 1
 
 -- the entry of what is stored
 abbrev pub entry_of : List Figures → List Tables → StoredEntry → Entry
-entry_of figures refused stored = entry stored.session stored.number (recorded_of refused stored.request) (reply_of figures stored.reply)
+entry_of figures refused stored =
+    entry stored.session stored.number (recorded_of refused stored.request) (reply_of figures stored.reply)
 
 -- both lists are long enough for what is stored
 pub record IsShown (figures refused : ℕ) (stored : StoredEntry) : Type 0 where

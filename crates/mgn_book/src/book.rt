@@ -1,4 +1,4 @@
-ghost use Rattle.std.specs.Prelude.{◌≡◌, ◌+◌, ◌≤◌, ◌++◌, ◌∷◌, [], length, List, true};
+ghost use Rattle.std.specs.Prelude.{◌≡◌, ◌+◌, ◌<◌, ◌≤◌, ◌++◌, ◌∷◌, [], length, List, true};
 ghost use Rattle.mgn_params.specs.Tables.{Tables};
 ghost use Rattle.mgn_machine.specs.declared.request.Recorded.TheVariants.{Asked};
 ghost use Rattle.mgn_machine.specs.declared.request.Request.TheVariants.{Do, Switch};
@@ -77,7 +77,7 @@ impl Book {
         ensures count { result ≡ calls session self.now.history }
         ensures few { result ≤ 1000000 }
     {
-        let place = session.number() as usize - 1;
+        let place = count_place(session);
         self.counts[place]
     }
 
@@ -117,13 +117,13 @@ impl Book {
             Err(Fault::Memory) => return Outcome::Memory,
             Err(Fault::Refused(_)) => unreachable!(),
         };
-        self.counts[session.number() as usize - 1] = number;
+        self.counts[count_place(session)] = number;
         write(&mut self.history, session, number, command, &reply)
     }
 
-    /// One switch to a set and its entry: it comes into force under the next version, or it is refused. `Full` where the
-    /// history has 1,000,000 entries, `Memory` where memory is refused; then nothing has changed, in the book and on the
-    /// shelf.
+    /// One switch to a set and its entry: it comes into force under the next version, or it is refused. `Full` where
+    /// the history has 1,000,000 entries, `Memory` where memory is refused; then nothing has changed, in the book and
+    /// on the shelf.
     pub fn commit_switch<S: Shelf>(
         &mut self,
         alloc: Global,
@@ -159,10 +159,18 @@ impl Book {
             Err(Fault::Memory) => return Outcome::Memory,
             Err(Fault::Refused(_)) => unreachable!(),
         };
-        let own = session.number() as usize - 1;
+        let own = count_place(session);
         self.counts[own] = number;
         Outcome::Done(self.history.len() as u64, reply)
     }
+}
+
+// Where the count of a session stands, which are numbered from 1.
+fn count_place(session: SessionNo) -> usize
+    ensures place { result + 1 ≡ session }
+    ensures within { result < 16 }
+{
+    session.number() as usize - 1
 }
 
 // Writes an entry where there is room for it.
@@ -176,7 +184,8 @@ fn write(
     requires room { history.old.reserved ≡ true }
     requires number { number ≤ 1000000 }
     ensures outcome { result ≡ Done (length history.new.entries) reply.now }
-    ensures entry { history.new.entries ≡ history.old.entries ++ entry session number (Asked command.now) reply.now ∷ [] }
+    ensures entry { history.new.entries ≡
+        history.old.entries ++ entry session number (Asked command.now) reply.now ∷ [] }
 {
     history.push(session, number, command, reply);
     Outcome::Done(history.len() as u64, *reply)

@@ -11,7 +11,7 @@ use crate::fault::Fault;
 use crate::register::Register;
 use mgn_ids::{AccountName, ClassName, ContractName, LotId, LotQuantity, Premium, Units};
 use mgn_lots::{Lot, Mark};
-use mgn_machine::Refusal;
+use mgn_machine::{Refusal, Trade};
 use mgn_params::{ParamSet, Work};
 use mgn_unit::{Account, Change, Row};
 use std::alloc::{AllocError, Global};
@@ -37,29 +37,18 @@ pub(crate) fn traded_lot(
 
 impl Register {
     /// A lot is traded.
-    pub fn trade(
-        &mut self,
-        alloc: Global,
-        set: &ParamSet,
-        account: AccountName,
-        number: LotId,
-        contract: ContractName,
-        quantity: LotQuantity,
-        premium: Premium,
-    ) -> Result<(), Fault>
+    pub fn trade(&mut self, alloc: Global, set: &ParamSet, trade: &Trade) -> Result<(), Fault>
         requires kept { IsKept set.now self.old }
         ensures kept { IsKept set.now self.new }
-        ensures steps { Steps (traded set.now self.old.state account number contract quantity premium) result self.old self.new }
+        ensures steps { Steps (traded set.now self.old.state trade.now) result self.old self.new }
     {
         set.limits();
-        let (place, i) = match self.trade_places(
-            set, account, number, contract, quantity, premium,
-        ) {
+        let (place, i) = match self.trade_places(set, trade) {
             Ok(places) => places,
             Err(why) => return Err(Fault::Refused(why)),
         };
-        let change = Change::of_lot(i, quantity, premium);
-        let lot = traded_lot(number, contract, quantity, premium);
+        let change = Change::of_lot(i, trade.quantity, trade.premium);
+        let lot = traded_lot(trade.lot, trade.contract, trade.quantity, trade.premium);
         let owner = &mut self.accounts[place];
         let row = &mut self.rows[owner.unit()];
         match enter_lot(alloc, set, owner, row, &change, &lot) {
@@ -157,9 +146,11 @@ impl Register {
         requires place { place < length self.old.state.accounts }
         requires most { amount ≤ most_of class.now }
         ensures kept { IsKept set.now self.new }
-        ensures written { OnOk result (self.new.state ≡ put self.old.state place (with_amount (account_at self.old.state.accounts place) class.now amount)) }
+        ensures written { OnOk result (self.new.state ≡
+            put self.old.state place (with_amount (account_at self.old.state.accounts place) class.now amount)) }
         ensures same { OnErr result (self.new ≡ self.old) }
-        ensures posted { 1 ≤ amount_of class.now (account_at self.old.state.accounts place).collateral → IsOk result }
+        ensures posted { 1 ≤ amount_of class.now (account_at self.old.state.accounts place).collateral
+            → IsOk result }
     {
         set.limits();
         let owner = &mut self.accounts[place];
@@ -195,8 +186,8 @@ fn bust_lot(
     Ok(())
 }
 
-// Another amount of a class in an account, and what the row of its unit gains by it; at an error nothing has changed in
-// either.
+// Another amount of a class in an account, and what the row of its unit gains by it; at an error nothing has changed
+// in either.
 fn write_amount(
     set: &ParamSet,
     owner: &mut Account,
@@ -208,7 +199,10 @@ fn write_amount(
     requires amount { amount ≤ most_of class.now }
     ensures written { OnOk result (owner.new ≡ with_amount owner.old class.now amount) }
     ensures limits { OnOk result (IsPosted owner.new.collateral.cash owner.new.collateral.units) }
-    ensures gained { OnOk result (row.new ≡ row_with_worth (pos (value set.now.classes owner.new.collateral) -ℤ pos (value set.now.classes owner.old.collateral)) row.old) }
+    ensures gained { OnOk result (
+        let before = pos (value set.now.classes owner.old.collateral) in
+        let after = pos (value set.now.classes owner.new.collateral) in
+        row.new ≡ row_with_worth (after -ℤ before) row.old) }
     ensures same_account { OnErr result (owner.new ≡ owner.old) }
     ensures same_row { OnErr result (row.new ≡ row.old) }
     ensures posted { 1 ≤ amount_of class.now owner.old.collateral → IsOk result }

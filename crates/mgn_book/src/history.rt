@@ -51,7 +51,11 @@ impl Model for History {
 
     ghost Value = { EntryList };
 
-    ghost view = { λ h. record { entries = map (entry_of h.figures.items h.refused.items) h.entries.items; reserved = nat_lt (vec_len h.entries) (vec_capacity h.entries) && nat_lt (vec_len h.figures) (vec_capacity h.figures) } };
+    ghost view = { λ h. record {
+      entries = map (entry_of h.figures.items h.refused.items) h.entries.items;
+      reserved = nat_lt (vec_len h.entries) (vec_capacity h.entries)
+          && nat_lt (vec_len h.figures) (vec_capacity h.figures);
+    } };
 
     ghost invariant = { λ h. AreShown (length h.figures.items) (length h.refused.items) h.entries.items };
 }
@@ -110,7 +114,8 @@ impl History {
     ) -> Result<(), AllocError>
         requires reserved { self.old.reserved ≡ true }
         requires number { number ≤ 1000000 }
-        ensures ok { OnOk result (self.new.entries ≡ self.old.entries ++ entry session number request reply.now ∷ []) }
+        ensures ok { OnOk result (
+            self.new.entries ≡ self.old.entries ++ entry session number request reply.now ∷ []) }
         ensures err { OnErr result (self.new.entries ≡ self.old.entries) }
         ensures in_force { (version : ℕ) → request ≡ InForce version → IsOk result }
     {

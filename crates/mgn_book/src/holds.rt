@@ -14,23 +14,23 @@ use crate::changes::traded_lot;
 use crate::fault::Fault;
 use crate::register::{Register, contract_of, is_over, known_contract, premium_fits, refuse_if};
 use mgn_holds::Held;
-use mgn_ids::{AccountName, ContractName, LotId, LotQuantity, OrderId, Premium};
+use mgn_ids::{AccountName, OrderId, Premium};
 use mgn_lots::Lot;
-use mgn_machine::Refusal;
+use mgn_machine::{Fill, Hold, Refusal};
 use mgn_params::{ParamSet, Work};
 use mgn_unit::{Account, Change, Row};
 use std::alloc::{AllocError, Global};
 
 // An order as it is entered.
-fn new_hold(order: OrderId, contract: ContractName, quantity: LotQuantity, limit: Premium) -> Held
-    ensures held { result ≡ new_hold order contract quantity limit }
+fn new_hold(hold: &Hold) -> Held
+    ensures held { result ≡ new_hold hold.now }
     ensures limits { IsHeld result }
 {
     Held {
-        order,
-        contract,
-        quantity: quantity.quantity(),
-        limit: limit.cents(),
+        order: hold.order,
+        contract: hold.contract,
+        quantity: hold.quantity.quantity(),
+        limit: hold.limit.cents(),
     }
 }
 
@@ -59,33 +59,27 @@ fn premium_fits_at(set: &ParamSet, place: Result<usize, Refusal>, premium: Premi
 impl Register {
     // Where the account and the contract of a new hold stand, if it is not refused; its room is not asked here.
     #[tactic(auto, unfolding(mgn_machine::specs::Holding::hold_places))]
-    fn hold_places(
-        &self,
-        set: &ParamSet,
-        account: AccountName,
-        order: OrderId,
-        contract: ContractName,
-        quantity: LotQuantity,
-        limit: Premium,
-    ) -> Result<(usize, usize), Refusal>
+    fn hold_places(&self, set: &ParamSet, hold: &Hold) -> Result<(usize, usize), Refusal>
         requires kept { IsKept set.now self.now }
-        ensures places { result ≡ hold_places set.now self.now.state account order contract quantity limit }
+        ensures places { result ≡ hold_places set.now self.now.state hold.now }
         ensures account { IfOk result (λ at. at.0 < length self.now.state.accounts) }
         ensures contract { IfOk result (λ at. at.1 < length set.now.contracts) }
-        ensures stands { IfOk result (λ at. contract_of set.now contract ≡ Ok at.1) }
-        ensures fresh { IfOk result (λ at. has_order (account_at self.now.state.accounts at.0).holds order ≡ false) }
+        ensures stands { IfOk result (λ at. contract_of set.now hold.now.contract ≡ Ok at.1) }
+        ensures fresh { IfOk result (λ at.
+            has_order (account_at self.now.state.accounts at.0).holds hold.now.order ≡ false) }
         ensures few { IfOk result (λ at. holds_full (account_at self.now.state.accounts at.0).holds ≡ false) }
-        ensures room { IfOk result (λ at. is_over self.now.state at.0 contract quantity ≡ false) }
+        ensures room { IfOk result (λ at.
+            is_over self.now.state at.0 hold.now.contract hold.now.quantity ≡ false) }
     {
         refuse_if(self.closed, Refusal::Closed)?;
-        let place = self.place(account)?;
+        let place = self.place(hold.account)?;
         let owner = &self.accounts[place];
-        refuse_if(owner.has_order(order), Refusal::Duplicate)?;
-        let i = contract_of(set, contract)?;
-        refuse_if(!premium_fits(set, i, limit), Refusal::Premium)?;
+        refuse_if(owner.has_order(hold.order), Refusal::Duplicate)?;
+        let i = contract_of(set, hold.contract)?;
+        refuse_if(!premium_fits(set, i, hold.limit), Refusal::Premium)?;
         refuse_if(owner.holds_full(), Refusal::Limit)?;
-        let size = self.unit_size(set, place, contract, i);
-        refuse_if(is_over(size, quantity), Refusal::Limit)?;
+        let size = self.unit_size(set, place, hold.contract, i);
+        refuse_if(is_over(size, hold.quantity), Refusal::Limit)?;
         Ok((place, i))
     }
 
@@ -111,34 +105,26 @@ impl Register {
         requires kept { IsKept set.now self.now }
         requires account { place < length self.now.state.accounts }
         requires hold { hold < length (account_at self.now.state.accounts place).holds }
-        ensures stands { contract_of set.now (hold_at (account_at self.now.state.accounts place).holds hold).contract ≡ Ok result }
+        ensures stands { contract_of set.now (hold_at (account_at self.now.state.accounts place).holds hold).contract
+            ≡ Ok result }
         ensures within { result < length set.now.contracts }
     {
         known_contract(set, self.accounts[place].hold_at(hold).contract)
     }
 
     /// Room is held for an order.
-    pub fn hold(
-        &mut self,
-        alloc: Global,
-        set: &ParamSet,
-        account: AccountName,
-        order: OrderId,
-        contract: ContractName,
-        quantity: LotQuantity,
-        limit: Premium,
-    ) -> Result<(), Fault>
+    pub fn hold(&mut self, alloc: Global, set: &ParamSet, hold: &Hold) -> Result<(), Fault>
         requires kept { IsKept set.now self.old }
         ensures kept { IsKept set.now self.new }
-        ensures steps { Steps (entered set.now self.old.state account order contract quantity limit) result self.old self.new }
+        ensures steps { Steps (entered set.now self.old.state hold.now) result self.old self.new }
     {
         set.limits();
-        let (place, i) = match self.hold_places(set, account, order, contract, quantity, limit) {
+        let (place, i) = match self.hold_places(set, hold) {
             Ok(places) => places,
             Err(why) => return Err(Fault::Refused(why)),
         };
-        let change = Change::of_hold(i, quantity, limit);
-        let held = new_hold(order, contract, quantity, limit);
+        let change = Change::of_hold(i, hold.quantity, hold.limit);
+        let held = new_hold(hold);
         let owner = &mut self.accounts[place];
         let row = &mut self.rows[owner.unit()];
         match enter_hold(alloc, set, owner, row, &change, &held) {
@@ -150,61 +136,46 @@ impl Register {
 
     // Where the account stands and the hold that is filled, if it is not refused.
     #[tactic(auto, unfolding(mgn_machine::specs::Holding::fill_places))]
-    fn fill_places(
-        &self,
-        set: &ParamSet,
-        account: AccountName,
-        order: OrderId,
-        lot: LotId,
-        quantity: LotQuantity,
-        premium: Premium,
-    ) -> Result<(usize, usize), Refusal>
-        ensures places { result ≡ fill_places set.now self.now.state account order lot quantity premium }
+    fn fill_places(&self, set: &ParamSet, fill: &Fill) -> Result<(usize, usize), Refusal>
+        ensures places { result ≡ fill_places set.now self.now.state fill.now }
         ensures account { IfOk result (λ at. at.0 < length self.now.state.accounts) }
         ensures hold { IfOk result (λ at. at.1 < length (account_at self.now.state.accounts at.0).holds) }
-        ensures fresh { IfOk result (λ at. has_number (account_at self.now.state.accounts at.0).lots lot ≡ false) }
-        ensures covers { IfOk result (λ at. covers (hold_at (account_at self.now.state.accounts at.0).holds at.1) quantity ≡ true) }
+        ensures fresh { IfOk result (λ at.
+            has_number (account_at self.now.state.accounts at.0).lots fill.now.lot ≡ false) }
+        ensures covers { IfOk result (λ at.
+            covers (hold_at (account_at self.now.state.accounts at.0).holds at.1) fill.now.quantity ≡ true) }
         ensures few { IfOk result (λ at. is_full (account_at self.now.state.accounts at.0).lots ≡ false) }
     {
         refuse_if(self.closed, Refusal::Closed)?;
-        let place = self.place(account)?;
+        let place = self.place(fill.account)?;
         let owner = &self.accounts[place];
-        refuse_if(owner.has_lot(lot), Refusal::Duplicate)?;
-        let hold = order_place(owner, order)?;
+        refuse_if(owner.has_lot(fill.lot), Refusal::Duplicate)?;
+        let hold = order_place(owner, fill.order)?;
         let held = owner.hold_at(hold);
-        refuse_if(!held.meets_limit(premium.cents()), Refusal::Premium)?;
+        refuse_if(!held.meets_limit(fill.premium.cents()), Refusal::Premium)?;
         let i = contract_of(set, held.contract);
-        refuse_if(!premium_fits_at(set, i, premium), Refusal::Premium)?;
-        refuse_if(!held.covers(quantity.quantity()), Refusal::Over)?;
+        refuse_if(!premium_fits_at(set, i, fill.premium), Refusal::Premium)?;
+        refuse_if(!held.covers(fill.quantity.quantity()), Refusal::Over)?;
         refuse_if(owner.is_full(), Refusal::Limit)?;
         Ok((place, hold))
     }
 
     /// A held order is filled, in part or whole.
-    pub fn fill(
-        &mut self,
-        alloc: Global,
-        set: &ParamSet,
-        account: AccountName,
-        order: OrderId,
-        number: LotId,
-        quantity: LotQuantity,
-        premium: Premium,
-    ) -> Result<(), Fault>
+    pub fn fill(&mut self, alloc: Global, set: &ParamSet, fill: &Fill) -> Result<(), Fault>
         requires kept { IsKept set.now self.old }
         ensures kept { IsKept set.now self.new }
-        ensures steps { Steps (filled set.now self.old.state account order number quantity premium) result self.old self.new }
+        ensures steps { Steps (filled set.now self.old.state fill.now) result self.old self.new }
     {
         set.limits();
-        let (place, hold) = match self.fill_places(set, account, order, number, quantity, premium) {
+        let (place, hold) = match self.fill_places(set, fill) {
             Ok(places) => places,
             Err(why) => return Err(Fault::Refused(why)),
         };
         let i = self.held_contract(set, place, hold);
         let owner = &mut self.accounts[place];
         let held = *owner.hold_at(hold);
-        let change = Change::of_fill(i, quantity, held.limit, premium);
-        let lot = traded_lot(number, held.contract, quantity, premium);
+        let change = Change::of_fill(i, fill.quantity, held.limit, fill.premium);
+        let lot = traded_lot(fill.lot, held.contract, fill.quantity, fill.premium);
         let row = &mut self.rows[owner.unit()];
         match fill_hold(alloc, set, owner, row, &change, hold, &lot) {
             Ok(()) => {}
@@ -322,7 +293,7 @@ fn fill_hold(
     requires few { is_full owner.old.lots ≡ false }
     requires hold { hold < length owner.old.holds }
     requires covers { covers (hold_at owner.old.holds hold) lot.now.quantity ≡ true }
-    ensures filled { OnOk result (owner.new ≡ with_fill owner.old hold lot.now.quantity lot.now) }
+    ensures filled { OnOk result (owner.new ≡ with_fill owner.old hold lot.now) }
     ensures changed { OnOk result (row.new ≡ row_with set.now change.now row.old) }
     ensures priced { OnOk result ((priced : Priced) × Prices set.now change.now row.old priced) }
     ensures same_account { OnErr result (owner.new ≡ owner.old) }

@@ -32,10 +32,17 @@ fn enter_set<S: Shelf>(
     requires few { register.old.state.version < 64 }
     requires few_units { length rows.items ≤ 1024 }
     ensures place { S.place shelf.new ≡ S.place shelf.old }
-    ensures reply { IfOk result (λ reply. reply ≡ Reply.NewSet record { version = register.old.state.version + 1; on_call = length (filter row_on_call rows.items) }) }
-    ensures entry { IfOk result (λ reply. history.new.entries ≡ history.old.entries ++ entry session number (InForce (register.old.state.version + 1)) reply ∷ []) }
+    ensures reply { IfOk result (λ reply. reply ≡ Reply.NewSet record {
+      version = register.old.state.version + 1;
+      on_call = length (filter row_on_call rows.items);
+    }) }
+    ensures entry { IfOk result (λ reply.
+        let request = InForce (register.old.state.version + 1) in
+        history.new.entries ≡ history.old.entries ++ entry session number request reply ∷ []) }
     ensures sets { OnOk result (S.sets shelf.new ≡ S.sets shelf.old ++ set ∷ []) }
-    ensures state { OnOk result (register.new ≡ book_state register.old.state.origins register.old.state.accounts rows.items register.old.state.closed (register.old.state.version + 1)) }
+    ensures state { OnOk result (
+        let old = register.old.state in
+        register.new ≡ book_state old.origins old.accounts rows.items old.closed (old.version + 1)) }
     ensures fault { IfErr result (λ fault. fault ≡ Fault.Memory) }
     ensures same_register { OnErr result (register.new ≡ register.old) }
     ensures same_history { OnErr result (history.new.entries ≡ history.old.entries) }
@@ -67,7 +74,8 @@ fn refuse_set(
     requires reserved { history.old.reserved ≡ true }
     requires number { number ≤ 1000000 }
     ensures reply { IfOk result (λ reply. reply ≡ Reply.Refused why) }
-    ensures entry { IfOk result (λ reply. history.new.entries ≡ history.old.entries ++ entry session number (SetRefused set) reply ∷ []) }
+    ensures entry { IfOk result (λ reply.
+        history.new.entries ≡ history.old.entries ++ entry session number (SetRefused set) reply ∷ []) }
     ensures fault { IfErr result (λ fault. fault ≡ Fault.Memory) }
     ensures same_history { OnErr result (history.new.entries ≡ history.old.entries) }
 {
@@ -78,8 +86,8 @@ fn refuse_set(
     }
 }
 
-/// One switch to a set: it comes into force, or is refused, and the history tells which. Where memory is refused nothing
-/// has changed.
+/// One switch to a set: it comes into force, or is refused, and the history tells which. Where memory is refused
+/// nothing has changed.
 pub(crate) fn switch_set<S: Shelf>(
     alloc: Global,
     register: &mut Register,
@@ -94,8 +102,11 @@ pub(crate) fn switch_set<S: Shelf>(
     requires shown { length (S.sets shelf.old) ≡ register.old.state.version + 1 }
     requires kept { IsKept (set_at (S.sets shelf.old) register.old.state.version) register.old }
     ensures place { S.place shelf.new ≡ S.place shelf.old }
-    ensures switched { IfOk result (λ reply. IsSwitched (S.sets shelf.old) (S.sets shelf.new) register.old register.new set reply) }
-    ensures entry { IfOk result (λ reply. history.new.entries ≡ history.old.entries ++ entry session number (recorded (Switch set) reply) reply ∷ []) }
+    ensures switched { IfOk result (λ reply.
+        IsSwitched (S.sets shelf.old) (S.sets shelf.new) register.old register.new set reply) }
+    ensures entry { IfOk result (λ reply.
+        let request = recorded (Switch set) reply in
+        history.new.entries ≡ history.old.entries ++ entry session number request reply ∷ []) }
     ensures fault { IfErr result (λ fault. fault ≡ Fault.Memory) }
     ensures same_register { OnErr result (register.new ≡ register.old) }
     ensures same_history { OnErr result (history.new.entries ≡ history.old.entries) }

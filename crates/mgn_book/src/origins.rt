@@ -52,7 +52,8 @@ type Home = (usize, Option<usize>);
 fn home_of(origins: &[Origin], name: OriginName) -> Result<Home, Refusal>
     ensures home { result ≡ home_of origins.now name }
     ensures there { IfOk result (λ home. home.0 < length origins.now) }
-    ensures within { (n : ℕ) → All (λ o. IfSome o.unit (λ u. u < n)) origins.now → IfOk result (λ home. IfSome home.1 (λ u. u < n)) }
+    ensures within { (n : ℕ) → All (λ o. IfSome o.unit (λ u. u < n)) origins.now
+        → IfOk result (λ home. IfSome home.1 (λ u. u < n)) }
 {
     match origin_place(origins, name) {
         Some(place) => Ok((place, origins[place].unit)),
@@ -92,7 +93,8 @@ impl Register {
         ensures few { OnOk result (length self.now.state.accounts < 1024) }
         ensures few_units { IfOk result (λ home. home.1 ≡ None → self.now.state.units < 1024) }
         ensures there { IfOk result (λ home. home.0 < length self.now.state.origins) }
-        ensures within { (n : ℕ) → All (λ o. IfSome o.unit (λ u. u < n)) self.now.state.origins → IfOk result (λ home. IfSome home.1 (λ u. u < n)) }
+        ensures within { (n : ℕ) → All (λ o. IfSome o.unit (λ u. u < n)) self.now.state.origins
+            → IfOk result (λ home. IfSome home.1 (λ u. u < n)) }
     {
         refuse_if(self.closed, Refusal::Closed)?;
         let home = home_of(self.origins.as_slice(), origin)?;

@@ -3,7 +3,8 @@ ghost use Rattle.mgn_params.specs.Tables.{contract_at, is_premium};
 ghost use Rattle.mgn_lots.specs.Lots.{has_number, is_busted, is_full, is_live, is_moved, lot_at, place_of_lot};
 ghost use Rattle.mgn_machine.specs.declared.reply.Refusal.TheVariants.{NoTrade};
 ghost use Rattle.mgn_machine.specs.State.{account_at, put, with_amount};
-ghost use Rattle.mgn_machine.specs.Refusals.{place_of, contract_of, has_contract, premium_fits, found, refuse_if, is_over, lot_places, trade_places, unit_size, bust_places, post_place, draw_place};
+ghost use Rattle.mgn_machine.specs.Refusals.{place_of, contract_of, has_contract, premium_fits, found, refuse_if, is_over, trade_places, bust_places, post_place, draw_place};
+ghost use Rattle.mgn_machine.specs.Portfolios.{account_size, unit_sum};
 ghost use Rattle.mgn_coll.specs.Posted.{amount_of, most_of};
 ghost use Rattle.mgn_span.specs.Positions.{IsNet};
 ghost use Rattle.mgn_machine.specs.Room.{unit_room};
@@ -13,7 +14,7 @@ ghost use Rattle.mgn_book.specs.BookStates.{IsKept, book_state};
 use mgn_coll::{is_known, most_of};
 use mgn_ids::{AccountName, ClassName, ContractName, LotId, LotQuantity, Places, Premium, Units};
 use mgn_lots::Mark;
-use mgn_machine::{Origin, Refusal};
+use mgn_machine::{Origin, Refusal, Trade};
 use mgn_num::Quantity;
 use mgn_params::{ParamSet, Style, Version};
 use mgn_unit::{Account, Row};
@@ -157,7 +158,8 @@ impl Register {
     pub(crate) fn row(&self, set: &ParamSet, place: usize) -> &Row
         requires kept { IsKept set.now self.now }
         requires place { place < length self.now.state.accounts }
-        ensures row { result.now ≡ row_of set.now self.now.state.accounts (account_at self.now.state.accounts place).unit }
+        ensures row { result.now ≡
+            row_of set.now self.now.state.accounts (account_at self.now.state.accounts place).unit }
         ensures limits { IsRow set.now result.now }
     {
         let unit = self.accounts[place].unit();
@@ -175,7 +177,8 @@ impl Register {
         requires kept { IsKept set.now self.now }
         requires place { place < length self.now.state.accounts }
         requires contract { contract_of set.now name ≡ Ok contract }
-        ensures size { result ≡ unit_size self.now.state (account_at self.now.state.accounts place).unit name }
+        ensures size { result ≡
+            unit_sum (account_at self.now.state.accounts place).unit (account_size name) self.now.state.accounts }
         ensures limit { IsNet result }
     {
         set.limits();
@@ -183,55 +186,32 @@ impl Register {
     }
 
     // Where the account and the contract of a new lot stand, if it is not refused.
-    #[tactic(auto, unfolding(mgn_machine::specs::Refusals::lot_places))]
-    fn lot_places(
-        &self,
-        set: &ParamSet,
-        account: AccountName,
-        lot: LotId,
-        contract: ContractName,
-        premium: Premium,
-    ) -> Result<(usize, usize), Refusal>
-        ensures places { result ≡ lot_places set.now self.now.state account lot contract premium }
-        ensures account { IfOk result (λ at. at.0 < length self.now.state.accounts) }
-        ensures contract { IfOk result (λ at. at.1 < length set.now.contracts) }
-        ensures stands { IfOk result (λ at. contract_of set.now contract ≡ Ok at.1) }
-        ensures fresh { IfOk result (λ at. has_number (account_at self.now.state.accounts at.0).lots lot ≡ false) }
-        ensures few { IfOk result (λ at. is_full (account_at self.now.state.accounts at.0).lots ≡ false) }
-    {
-        refuse_if(self.closed, Refusal::Closed)?;
-        let place = self.place(account)?;
-        let owner = &self.accounts[place];
-        refuse_if(owner.has_lot(lot), Refusal::Duplicate)?;
-        let i = contract_of(set, contract)?;
-        refuse_if(!premium_fits(set, i, premium), Refusal::Premium)?;
-        refuse_if(owner.is_full(), Refusal::Limit)?;
-        Ok((place, i))
-    }
-
-    // The same of a trade, which also has to leave the unit within its size.
     #[tactic(auto, unfolding(mgn_machine::specs::Refusals::trade_places))]
     pub(crate) fn trade_places(
         &self,
         set: &ParamSet,
-        account: AccountName,
-        lot: LotId,
-        contract: ContractName,
-        quantity: LotQuantity,
-        premium: Premium,
+        trade: &Trade,
     ) -> Result<(usize, usize), Refusal>
         requires kept { IsKept set.now self.now }
-        ensures places { result ≡ trade_places set.now self.now.state account lot contract quantity premium }
+        ensures places { result ≡ trade_places set.now self.now.state trade.now }
         ensures account { IfOk result (λ at. at.0 < length self.now.state.accounts) }
         ensures contract { IfOk result (λ at. at.1 < length set.now.contracts) }
-        ensures stands { IfOk result (λ at. contract_of set.now contract ≡ Ok at.1) }
-        ensures fresh { IfOk result (λ at. has_number (account_at self.now.state.accounts at.0).lots lot ≡ false) }
+        ensures stands { IfOk result (λ at. contract_of set.now trade.now.contract ≡ Ok at.1) }
+        ensures fresh { IfOk result (λ at.
+            has_number (account_at self.now.state.accounts at.0).lots trade.now.lot ≡ false) }
         ensures few { IfOk result (λ at. is_full (account_at self.now.state.accounts at.0).lots ≡ false) }
-        ensures room { IfOk result (λ at. is_over self.now.state at.0 contract quantity ≡ false) }
+        ensures room { IfOk result (λ at.
+            is_over self.now.state at.0 trade.now.contract trade.now.quantity ≡ false) }
     {
-        let (place, i) = self.lot_places(set, account, lot, contract, premium)?;
-        let size = self.unit_size(set, place, contract, i);
-        refuse_if(is_over(size, quantity), Refusal::Limit)?;
+        refuse_if(self.closed, Refusal::Closed)?;
+        let place = self.place(trade.account)?;
+        let owner = &self.accounts[place];
+        refuse_if(owner.has_lot(trade.lot), Refusal::Duplicate)?;
+        let i = contract_of(set, trade.contract)?;
+        refuse_if(!premium_fits(set, i, trade.premium), Refusal::Premium)?;
+        refuse_if(owner.is_full(), Refusal::Limit)?;
+        let size = self.unit_size(set, place, trade.contract, i);
+        refuse_if(is_over(size, trade.quantity), Refusal::Limit)?;
         Ok((place, i))
     }
 
@@ -245,7 +225,8 @@ impl Register {
         ensures places { result ≡ bust_places self.now.state account lot }
         ensures account { IfOk result (λ at. at.0 < length self.now.state.accounts) }
         ensures lot { IfOk result (λ at. at.1 < length (account_at self.now.state.accounts at.0).lots) }
-        ensures live { IfOk result (λ at. is_live (lot_at (account_at self.now.state.accounts at.0).lots at.1).mark ≡ true) }
+        ensures live { IfOk result (λ at.
+            is_live (lot_at (account_at self.now.state.accounts at.0).lots at.1).mark ≡ true) }
     {
         refuse_if(self.closed, Refusal::Closed)?;
         let place = self.place(account)?;
@@ -263,7 +244,8 @@ impl Register {
         requires account { place < length self.now.state.accounts }
         requires lot { at < length (account_at self.now.state.accounts place).lots }
         requires live { is_live (lot_at (account_at self.now.state.accounts place).lots at).mark ≡ true }
-        ensures stands { contract_of set.now (lot_at (account_at self.now.state.accounts place).lots at).contract ≡ Ok result }
+        ensures stands { contract_of set.now (lot_at (account_at self.now.state.accounts place).lots at).contract
+            ≡ Ok result }
         ensures within { result < length set.now.contracts }
     {
         known_contract(set, self.accounts[place].lot_at(at).contract)
@@ -302,7 +284,8 @@ impl Register {
         ensures place { result ≡ draw_place set.now self.now.state account class.now units }
         ensures account { IfOk result (λ at. at.0 < length self.now.state.accounts) }
         ensures most { IfOk result (λ at. at.1 ≤ most_of class.now) }
-        ensures some { IfOk result (λ at. 1 ≤ amount_of class.now (account_at self.now.state.accounts at.0).collateral) }
+        ensures some { IfOk result (λ at.
+            1 ≤ amount_of class.now (account_at self.now.state.accounts at.0).collateral) }
     {
         refuse_if(self.closed, Refusal::Closed)?;
         let place = self.place(account)?;
@@ -323,7 +306,9 @@ impl Register {
         requires kept { IsKept set.now self.now }
         requires place { place < length self.now.state.accounts }
         requires most { amount ≤ most_of class.now }
-        ensures { result ≡ int_lt (unit_room set.now (put self.now.state place (with_amount (account_at self.now.state.accounts place) class.now amount)).accounts (account_at self.now.state.accounts place).unit) (pos 0) }
+        ensures { let a = account_at self.now.state.accounts place in
+            let after = put self.now.state place (with_amount a class.now amount) in
+            result ≡ int_lt (unit_room set.now after.accounts a.unit) (pos 0) }
     {
         let owner = &self.accounts[place];
         let before = owner.collateral_value(set);

@@ -1,5 +1,6 @@
 ghost use Rattle.std.specs.Prelude.{◌≡◌, ◌≢◌};
-ghost use Rattle.mgn_machine.specs.Step.{step_under, told, asked, ended};
+ghost use Rattle.mgn_machine.specs.Refusals.{place_of};
+ghost use Rattle.mgn_machine.specs.Step.{step_under, asked, ended};
 ghost use Rattle.mgn_book.specs.BookStates.{IsKept, Steps, Replies, answer_of};
 
 use crate::fault::Fault;
@@ -14,7 +15,7 @@ impl Register {
     #[tactic(auto, using(mgn_unit::proofs::Least::figures_of_row))]
     pub fn ask(&self, set: &ParamSet, account: AccountName) -> Reply
         requires kept { IsKept set.now self.now }
-        ensures { result ≡ told (asked set.now self.now.state account) }
+        ensures { result ≡ asked set.now self.now.state (place_of self.now.state account) }
     {
         match self.place(account) {
             Ok(place) => Reply::Figures(self.row(set, place).figures(set)),
@@ -64,16 +65,10 @@ pub fn step(
     match *command {
         Command::NewOrigin(name, mode) => answer_of(register.originate(alloc, set, name, mode)),
         Command::NewAccount(name, origin) => answer_of(register.open(alloc, set, name, origin)),
-        Command::Trade(account, lot, contract, quantity, premium) => {
-            answer_of(register.trade(alloc, set, account, lot, contract, quantity, premium))
-        }
+        Command::Trade(trade) => answer_of(register.trade(alloc, set, &trade)),
         Command::Bust(account, lot) => answer_of(register.bust(alloc, set, account, lot)),
-        Command::Hold(account, order, contract, quantity, limit) => {
-            answer_of(register.hold(alloc, set, account, order, contract, quantity, limit))
-        }
-        Command::Fill(account, order, lot, quantity, premium) => {
-            answer_of(register.fill(alloc, set, account, order, lot, quantity, premium))
-        }
+        Command::Hold(hold) => answer_of(register.hold(alloc, set, &hold)),
+        Command::Fill(fill) => answer_of(register.fill(alloc, set, &fill)),
         Command::Release(account, order) => answer_of(register.release(alloc, set, account, order)),
         Command::Post(account, class, units) => answer_of(register.post(
             set, account, &class, units,

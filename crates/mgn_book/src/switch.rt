@@ -34,7 +34,8 @@ impl Register {
 
     // Whether a set has each class of which units are posted.
     fn has_classes(&self, new: &ParamSet) -> bool
-        ensures { result ≡ list_all (λ (a : AccountState). is_priced_by new.now.classes a.collateral) self.now.state.accounts }
+        ensures { result ≡
+            list_all (λ (a : AccountState). is_priced_by new.now.classes a.collateral) self.now.state.accounts }
     {
         self.accounts
             .iter()
@@ -111,7 +112,8 @@ impl Register {
     /// Another set is in force, under which these are the rows of all units. Gives how many of these are on call.
     pub fn put_in_force(&mut self, rows: Vec<Row>, version: Version) -> u32
         requires few { length rows.items ≤ 1024 }
-        ensures state { self.new ≡ book_state self.old.state.origins self.old.state.accounts rows.items self.old.state.closed version }
+        ensures state { let old = self.old.state in
+            self.new ≡ book_state old.origins old.accounts rows.items old.closed version }
         ensures on_call { result ≡ length (filter row_on_call rows.items) }
     {
         self.rows = rows;

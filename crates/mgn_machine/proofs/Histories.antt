@@ -13,7 +13,7 @@ use Rattle.mgn_machine.specs.declared.request.Recorded.TheVariants.{Asked, InFor
 use Rattle.mgn_machine.specs.declared.request.Request.{Request}
 use Rattle.mgn_machine.specs.declared.request.Request.TheVariants.{Do, Switch}
 use Rattle.mgn_machine.specs.Step.{step, step_under, switched}
-use Rattle.mgn_machine.specs.History.{replay, replay_from, Follows, LegalFrom, Legal, calls, next, recorded, recorded_switch, request_of}
+use Rattle.mgn_machine.specs.History.{replay, replay_from, Follows, LegalFrom, Legal, calls, next, recorded, request_of}
 
 -- its replay is one step further
 pub replay-push : (sets : List Tables) (s : State) (history : List Entry) (e : Entry) → replay_from sets s (history ++ e ∷ []) ≡ (next sets (replay_from sets s history) e).0
@@ -55,7 +55,7 @@ version_of other (InForce version) = version
 version_of other (SetRefused t) = other
 
 -- a switch that is kept by a version leads to that version
-leads : (s : State) (on_call : ℕ) (r : Result (Unit {0}) Refusal) (t : Tables) (version : ℕ) → InForce version ≡ recorded_switch t (switched s on_call r).1 → version ≡ (switched s on_call r).0.version
+leads : (s : State) (on_call : ℕ) (r : Result (Unit {0}) Refusal) (t : Tables) (version : ℕ) → InForce version ≡ recorded (Switch t) (switched s on_call r).1 → version ≡ (switched s on_call r).0.version
 leads s on_call (Ok done) t version kept = ap (version_of 0) kept
 leads s on_call (Err why) t version kept = ap (version_of s.version) kept
 
@@ -64,7 +64,7 @@ same_request : (sets more : List Tables) (s : State) (r : Recorded) (reply : Rep
     → reply ≡ (step sets s (request_of sets r)).1 → request_of (sets ++ more) r ≡ request_of sets r
 same_request sets more s (Asked command) reply after kept is = refl
 same_request sets more s (InForce version) reply after kept is =
-    let same : version ≡ (step sets s (Switch (set_at sets version))).0.version = leads s _ _ (set_at sets version) version (kept ∙ ap (λ (x : Reply). recorded_switch (set_at sets version) x) is) in
+    let same : version ≡ (step sets s (Switch (set_at sets version))).0.version = leads s _ _ (set_at sets version) version (kept ∙ ap (λ (x : Reply). recorded (Switch (set_at sets version)) x) is) in
     ap (λ (t : Tables). Switch t) (get_or_append_left sets more (no_tables []) version (omega (arith, same, after)))
 same_request sets more s (SetRefused t) reply after kept is = refl
 

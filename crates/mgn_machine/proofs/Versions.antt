@@ -51,10 +51,10 @@ of_room set' u version now same = of_test (int_lt (unit_room set' now.accounts u
 pub keeps_version : (set' : Tables) (s : State) (command : Command) → (step_under set' s command).0.version ≡ s.version
 keeps_version set' s (NewOrigin name mode) = of_answer s (originated s name mode) (of_chain s.version _ _ (λ _. of_origin s name mode))
 keeps_version set' s (NewAccount account origin) = of_answer s (opened s account origin) (of_chain s.version _ _ (λ home. of_account s account home))
-keeps_version set' s (Trade account lot contract quantity premium) = of_answer s (traded set' s account lot contract quantity premium) (of_chain s.version _ _ (λ _. of_done s.version _ refl))
+keeps_version set' s (Trade t) = of_answer s (traded set' s t) (of_chain s.version _ _ (λ _. of_done s.version _ refl))
 keeps_version set' s (Bust account lot) = of_answer s (undone s account lot) (of_chain s.version _ _ (λ _. of_done s.version _ refl))
-keeps_version set' s (Hold account order contract quantity limit) = of_answer s (entered set' s account order contract quantity limit) (of_chain s.version _ _ (λ at. of_room set' _ s.version _ refl))
-keeps_version set' s (Fill account order lot quantity premium) = of_answer s (filled set' s account order lot quantity premium) (of_chain s.version _ _ (λ _. of_done s.version _ refl))
+keeps_version set' s (Hold h) = of_answer s (entered set' s h) (of_chain s.version _ _ (λ at. of_room set' _ s.version _ refl))
+keeps_version set' s (Fill f) = of_answer s (filled set' s f) (of_chain s.version _ _ (λ _. of_done s.version _ refl))
 keeps_version set' s (Release account order) = of_answer s (released s account order) (of_chain s.version _ _ (λ _. of_done s.version _ refl))
 keeps_version set' s (Post account class units) = of_answer s (posted set' s account class units) (of_chain s.version _ _ (λ _. of_done s.version _ refl))
 keeps_version set' s (Draw account class units) = of_answer s (drawn set' s account class units) (of_chain s.version _ _ (λ at. of_room set' _ s.version _ refl))

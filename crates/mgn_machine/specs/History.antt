@@ -1,11 +1,12 @@
--- Histories: what was committed, in order, and when that is legal (own profile). The sets are those of a shelf, by version.
+-- Histories: what was committed, in order, and when that is legal (own profile). The sets are those of a shelf, by
+-- version.
 use Rattle.std.specs.Prelude.{ℕ, suc, ◌+◌, ◌<◌, ◌≡◌, ◌==◌, if◌then◌else◌, List, [], ◌∷◌, ◌++◌, length}
 use Rattle.mgn_params.specs.Shelves.{set_at}
 use Rattle.mgn_params.specs.Tables.{Tables}
 use Rattle.mgn_machine.specs.declared.entry.Entry.{Entry}
 use Rattle.mgn_machine.specs.declared.entry.Item.{Item}
 use Rattle.mgn_machine.specs.declared.reply.Reply.{Reply}
-use Rattle.mgn_machine.specs.declared.reply.Reply.TheVariants.{Done, Figures, NewSet, Refused}
+use Rattle.mgn_machine.specs.declared.reply.Reply.TheVariants.{NewSet}
 use Rattle.mgn_machine.specs.declared.request.Recorded.{Recorded}
 use Rattle.mgn_machine.specs.declared.request.Recorded.TheVariants.{Asked, InForce, SetRefused}
 use Rattle.mgn_machine.specs.declared.request.Request.{Request}
@@ -13,17 +14,12 @@ use Rattle.mgn_machine.specs.declared.request.Request.TheVariants.{Do, Switch}
 use Rattle.mgn_machine.specs.State.{State, start}
 use Rattle.mgn_machine.specs.Step.{step}
 
--- how a switch is kept: by the version that it was told, or with its set, where it was refused
-abbrev pub recorded_switch : Tables → Reply → Recorded
-recorded_switch set (NewSet told) = InForce told.version
-recorded_switch set (Refused why) = SetRefused set
-recorded_switch set Done = SetRefused set
-recorded_switch set (Figures figures) = SetRefused set
-
--- how a request is kept that was answered
+-- how a request is kept that was answered: a switch by the version that it was told, or, where it was refused, with its
+-- set
 abbrev pub recorded : Request → Reply → Recorded
 recorded (Do command) reply = Asked command
-recorded (Switch set) reply = recorded_switch set reply
+recorded (Switch set) (NewSet told) = InForce told.version
+recorded (Switch set) _ = SetRefused set
 
 -- the request that is kept: a version stands for the set that it shows
 abbrev pub request_of : List Tables → Recorded → Request
@@ -54,8 +50,8 @@ abbrev pub calls : ℕ → List Entry → ℕ
 calls session [] = 0
 calls session (e ∷ es) = if e.session == session then suc (calls session es) else calls session es
 
--- an entry may come next: its reply is the machine's, its request is kept as such a reply wants, the version in force is
--- that of a set before it and after it, and its number is the next one of its session
+-- an entry may come next: its reply is the machine's, its request is kept as such a reply wants, the version in force
+-- is that of a set before it and after it, and its number is the next one of its session
 pub record Follows (sets : List Tables) (history : List Entry) (e : Entry) : Type 0 where
   pub shown : (replay sets history).version < length sets
   pub after : (next sets (replay sets history) e).0.version < length sets
@@ -74,7 +70,8 @@ Legal sets history = LegalFrom sets [] history
 abbrev pub items_from : ℕ → ℕ → List Entry → List Item
 items_from session place [] = []
 items_from session place (e ∷ es) =
-    if e.session == session then item place e.request e.reply ∷ items_from session (place + 1) es else items_from session (place + 1) es
+    if e.session == session then item place e.request e.reply ∷ items_from session (place + 1) es
+    else items_from session (place + 1) es
 
 -- what a session asked and was answered, with the places in the history
 abbrev pub items_of : ℕ → List Entry → List Item

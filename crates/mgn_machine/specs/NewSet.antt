@@ -1,5 +1,5 @@
 -- New sets during the day: when one may come into force, and which units are then on call (own profile).
-use Rattle.std.specs.Prelude.{ℕ, ◌+◌, Bool, not, ◌&&◌, ◌||◌, nat_le, int_lt, List, length, filter, Result, Ok, Err}
+use Rattle.std.specs.Prelude.{ℕ, Bool, not, ◌&&◌, ◌||◌, nat_le, int_lt, List, length, filter, Result, Ok}
 use Rattle.std.specs.List.{list_all, range_with_len}
 use Rattle.mgn_params.specs.Tables.{Tables}
 use Rattle.mgn_coll.specs.Posted.{is_priced_by}
@@ -13,7 +13,8 @@ use Rattle.mgn_machine.specs.Portfolios.{OnlyLots}
 use Rattle.mgn_machine.specs.Refusals.{◌>>=◌, refuse_if, has_contract}
 use Rattle.mgn_machine.specs.Room.{requirement_of, worth_of}
 
--- a set has what an account holds: the contract of each live lot and of each hold, and each class of which units are posted
+-- a set has what an account holds: the contract of each live lot and of each hold, and each class of which units are
+-- posted
 abbrev pub has_all : Tables → AccountState → Bool
 has_all set a =
     list_all (λ (x : Lot). not (is_live x.mark) || has_contract set x.contract) a.lots

@@ -8,6 +8,7 @@ use Rattle.mgn_params.specs.Tables.{Tables}
 use Rattle.mgn_coll.specs.Posted.{value}
 use Rattle.mgn_lots.specs.Lots.{net, gross, cost}
 use Rattle.mgn_holds.specs.declared.held.Held.{Held}
+use Rattle.mgn_holds.specs.declared.side.Side.{Side}
 use Rattle.mgn_holds.specs.declared.side.Side.TheVariants.{Buys, Sales}
 use Rattle.mgn_holds.specs.Holds.{held_net, premium}
 use Rattle.mgn_machine.specs.State.{AccountState}
@@ -19,39 +20,31 @@ pub data Portfolio : Type 0 where
   WithSales : Portfolio
   WithAll : Portfolio
 
--- what the holds of a portfolio hold of a contract
-abbrev pub held_in : Portfolio → List ℕ → List Held → ℤ
-held_in OnlyLots contract holds = pos 0
-held_in WithBuys contract holds = held_net Buys contract holds
-held_in WithSales contract holds = held_net Sales contract holds
-held_in WithAll contract holds = held_net Buys contract holds +ℤ held_net Sales contract holds
-
--- what they would cost, filled at their limits
-abbrev pub premium_in : Portfolio → List Held → ℤ
-premium_in OnlyLots holds = pos 0
-premium_in WithBuys holds = premium Buys holds
-premium_in WithSales holds = premium Sales holds
-premium_in WithAll holds = premium Buys holds +ℤ premium Sales holds
+-- the sum of `f` over the sides of which a portfolio has the holds
+abbrev pub over_sides : Portfolio → (Side → ℤ) → ℤ
+over_sides OnlyLots f = pos 0
+over_sides WithBuys f = f Buys
+over_sides WithSales f = f Sales
+over_sides WithAll f = f Buys +ℤ f Sales
 
 -- the sizes of all holds in a contract
 abbrev pub held_size : List ℕ → List Held → ℕ
-held_size contract holds = sum_by (λ (x : Held). if bytes_eq x.contract contract then unsigned_abs x.quantity else 0) holds
+held_size contract holds =
+    sum_by (λ (x : Held). if bytes_eq x.contract contract then unsigned_abs x.quantity else 0) holds
 
 -- an account's net of a contract: its live lots, with the holds of the portfolio as lots
 abbrev pub account_net : Portfolio → List ℕ → AccountState → ℤ
-account_net p contract a = net contract a.lots +ℤ held_in p contract a.holds
+account_net p contract a = net contract a.lots +ℤ over_sides p (λ side. held_net side contract a.holds)
 
 -- the sum of the sizes of its live lots and its holds in a contract
 abbrev pub account_size : List ℕ → AccountState → ℤ
 account_size contract a = pos (gross contract a.lots + held_size contract a.holds)
 
--- what an account has: the value of its collateral, less what its live lots cost
-abbrev pub account_value : Tables → AccountState → ℤ
-account_value set a = pos (value set.classes a.collateral) -ℤ cost a.lots
-
--- the same with the holds of the portfolio filled at their limits
+-- what an account has: the value of its collateral, less what its live lots cost, and the holds of the portfolio,
+-- filled at their limits
 abbrev pub account_worth : Tables → Portfolio → AccountState → ℤ
-account_worth set p a = account_value set a -ℤ premium_in p a.holds
+account_worth set p a =
+    (pos (value set.classes a.collateral) -ℤ cost a.lots) -ℤ over_sides p (λ side. premium side a.holds)
 
 -- what an account counts for in a unit
 abbrev pub in_unit : ℕ → (AccountState → ℤ) → AccountState → ℤ

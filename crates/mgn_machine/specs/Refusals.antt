@@ -1,5 +1,5 @@
 -- Why commands are refused, in the one order in which the reasons are looked for (own profile).
-use Rattle.std.specs.Prelude.{◌≡◌, All, ℕ, ◌+◌, ◌-◌, ◌^◌, Bool, true, false, not, ◌==◌, ◌&&◌, ◌||◌, nat_le, nat_lt, int_lt, if◌then◌else◌, ℤ, pos, ◌+ℤ◌, unsigned_abs, Option, None, Some, is_some, List, length, map, position, slice_index_or, codes, Result, Ok, Err}
+use Rattle.std.specs.Prelude.{◌≡◌, All, ℕ, ◌+◌, ◌-◌, ◌^◌, Bool, true, false, not, ◌==◌, ◌&&◌, ◌||◌, nat_le, nat_lt, int_lt, if◌then◌else◌, ℤ, pos, ◌+ℤ◌, unsigned_abs, Option, None, Some, is_some, List, [], length, map, position, slice_index_or, Result, Ok, Err}
 use Rattle.std.specs.Str.{bytes_eq}
 use Rattle.std.specs.List.{list_any}
 use Rattle.mgn_params.specs.Limits.{contract_names}
@@ -10,6 +10,7 @@ use Rattle.mgn_lots.specs.Lots.{has_number, is_busted, is_full, is_live, is_move
 use Rattle.mgn_holds.specs.declared.held.Held.{Held}
 use Rattle.mgn_machine.specs.declared.command.Mode.{Mode}
 use Rattle.mgn_machine.specs.declared.command.Mode.TheVariants.{Gross, Net}
+use Rattle.mgn_machine.specs.declared.command.Trade.{Trade}
 use Rattle.mgn_machine.specs.declared.origin.Origin.{Origin}
 use Rattle.mgn_machine.specs.declared.reply.Refusal.{Refusal}
 use Rattle.mgn_machine.specs.declared.reply.Refusal.TheVariants.{NoAccount, NoOrigin, Duplicate, NoContract, NoTrade, Moved, NoClass, NoRoom, Limit, Premium, Over, Closed}
@@ -51,16 +52,11 @@ origin_fits s name mode = do
 abbrev pub account_names : List AccountState → List (List ℕ)
 account_names accounts = map (λ (a : AccountState). a.name) accounts
 
-abbrev pub no_origin : Origin
-no_origin = record { name = codes ""; unit = None }
-
-abbrev pub home_at : List Origin → Option ℕ → Result (ℕ × Option ℕ) Refusal
-home_at origins None = Err NoOrigin
-home_at origins (Some i) = Ok (i, (slice_index_or origins i no_origin).unit)
-
 -- where an origin stands, and the unit of its accounts, if it is netted
 unfoldable pub home_of : List Origin → List ℕ → Result (ℕ × Option ℕ) Refusal
-home_of origins name = home_at origins (position (λ (o : Origin). bytes_eq o.name name) origins)
+home_of origins name = do
+  i ← found (position (λ (o : Origin). bytes_eq o.name name) origins) NoOrigin
+  Ok (i, (slice_index_or origins i record { name = []; unit = None }).unit)
 
 -- where the origin of a new account stands, and its unit
 unfoldable pub open_home : State → List ℕ → List ℕ → Result (ℕ × Option ℕ) Refusal
@@ -95,31 +91,23 @@ pub record IsKnown (set : Tables) (a : AccountState) : Type 0 where
 abbrev pub premium_fits : Tables → ℕ → ℕ → Bool
 premium_fits set i premium = (premium == 0) || is_premium (contract_at set.contracts i).style
 
--- the sum of the sizes of the live lots and holds of a unit in a contract
-abbrev pub unit_size : State → ℕ → List ℕ → ℤ
-unit_size s u contract = unit_sum u (account_size contract) s.accounts
-
--- where the account and the contract of a new lot stand
-unfoldable pub lot_places : Tables → State → List ℕ → ℕ → List ℕ → ℕ → Result (ℕ × ℕ) Refusal
-lot_places set s account lot contract premium = do
-  _ ← refuse_if s.closed Closed
-  k ← place_of s account
-  _ ← refuse_if (has_number (account_at s.accounts k).lots lot) Duplicate
-  i ← contract_of set contract
-  _ ← refuse_if (not (premium_fits set i premium)) Premium
-  _ ← refuse_if (is_full (account_at s.accounts k).lots) Limit
-  Ok (k, i)
-
--- a quantity more of a contract would be more than 10,000,000 in the unit of the account
+-- the live lots and holds of the account's unit would come to more than 10,000,000 in a contract with a quantity more
 abbrev pub is_over : State → ℕ → List ℕ → ℤ → Bool
 is_over s k contract quantity =
-    int_lt (pos (10 ^ 7)) (unit_size s (account_at s.accounts k).unit contract +ℤ pos (unsigned_abs quantity))
+    int_lt (pos (10 ^ 7))
+    (unit_sum (account_at s.accounts k).unit (account_size contract) s.accounts +ℤ pos (unsigned_abs quantity))
 
-unfoldable pub trade_places : Tables → State → List ℕ → ℕ → List ℕ → ℤ → ℕ → Result (ℕ × ℕ) Refusal
-trade_places set s account lot contract quantity premium = do
-  at ← lot_places set s account lot contract premium
-  _ ← refuse_if (is_over s at.0 contract quantity) Limit
-  Ok at
+-- where the account and the contract of a new lot stand
+unfoldable pub trade_places : Tables → State → Trade → Result (ℕ × ℕ) Refusal
+trade_places set s t = do
+  _ ← refuse_if s.closed Closed
+  k ← place_of s t.account
+  _ ← refuse_if (has_number (account_at s.accounts k).lots t.lot) Duplicate
+  i ← contract_of set t.contract
+  _ ← refuse_if (not (premium_fits set i t.premium)) Premium
+  _ ← refuse_if (is_full (account_at s.accounts k).lots) Limit
+  _ ← refuse_if (is_over s k t.contract t.quantity) Limit
+  Ok (k, i)
 
 -- BUST
 

@@ -17,8 +17,8 @@ pub record AccountState : Type 0 where
   pub lots : List Lot
   pub holds : List Held
 
--- origins, accounts in order of opening, how many margin units were made, whether the day is over, and the version of the
--- set in force
+-- origins, accounts in order of opening, how many margin units were made, whether the day is over, and the version of
+-- the set in force
 pub record State : Type 0 where
   pub origins : List Origin
   pub accounts : List AccountState
@@ -30,8 +30,13 @@ pub record State : Type 0 where
 abbrev pub start : State
 start = record { origins = []; accounts = []; units = 0; closed = false; version = 0 }
 
+-- an account as it is opened
+abbrev pub fresh : List ℕ → ℕ → ℕ → AccountState
+fresh name origin unit =
+    record { name = name; origin = origin; unit = unit; collateral = nothing; lots = []; holds = [] }
+
 abbrev pub no_account : AccountState
-no_account = record { name = []; origin = 0; unit = 0; collateral = nothing; lots = []; holds = [] }
+no_account = fresh [] 0 0
 
 abbrev pub account_at : List AccountState → ℕ → AccountState
 account_at accounts k = slice_index_or accounts k no_account
@@ -50,13 +55,10 @@ pub record IsAccount (a : AccountState) : Type 0 where
 
 -- Changes of one account.
 
--- as it is opened
-abbrev pub fresh : List ℕ → ℕ → ℕ → AccountState
-fresh name origin unit = record { name = name; origin = origin; unit = unit; collateral = nothing; lots = []; holds = [] }
-
 -- a lot as it is traded
 abbrev pub traded_lot : ℕ → List ℕ → ℤ → ℕ → Lot
-traded_lot number contract quantity premium = record { number = number; contract = contract; quantity = quantity; premium = premium; mark = Traded }
+traded_lot number contract quantity premium =
+    record { number = number; contract = contract; quantity = quantity; premium = premium; mark = Traded }
 
 abbrev pub with_lot : AccountState → Lot → AccountState
 with_lot a lot = record a { lots = a.lots ++ lot ∷ [] }

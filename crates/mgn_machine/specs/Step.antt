@@ -1,11 +1,12 @@
 -- One step of the machine: what a request does to the state, and what it is answered (own profile).
-use Rattle.std.specs.Prelude.{ℕ, ◌+◌, true, Option, None, Some, ℤ, List, [], ◌∷◌, ◌++◌, Result, Ok, Err}
+use Rattle.std.specs.Prelude.{ℕ, ◌+◌, true, Option, None, Some, List, [], ◌∷◌, ◌++◌, Result, Ok, Err}
 use Rattle.mgn_params.specs.Shelves.{set_at}
 use Rattle.mgn_params.specs.Tables.{Tables}
 use Rattle.mgn_machine.specs.declared.command.Command.{Command}
-use Rattle.mgn_machine.specs.declared.command.Command.TheVariants.{NewOrigin, NewAccount, Trade, Bust, Post, Draw, Ask, EndDay, Hold, Fill, Release}
+use Rattle.mgn_machine.specs.declared.command.Command.TheVariants.{NewOrigin, NewAccount, Trade as OfTrade, Bust, Post, Draw, Ask, EndDay, Hold, Fill, Release}
 use Rattle.mgn_machine.specs.declared.command.Mode.{Mode}
 use Rattle.mgn_machine.specs.declared.command.Mode.TheVariants.{Gross, Net}
+use Rattle.mgn_machine.specs.declared.command.Trade.{Trade}
 use Rattle.mgn_machine.specs.declared.reply.Refusal.{Refusal}
 use Rattle.mgn_machine.specs.declared.reply.Refusal.TheVariants.{Closed}
 use Rattle.mgn_machine.specs.declared.reply.Reply.{Reply}
@@ -21,7 +22,8 @@ use Rattle.mgn_machine.specs.NewSet.{set_fits, on_call}
 -- an origin more; a netted one makes its unit
 abbrev pub with_origin : State → List ℕ → Mode → State
 with_origin s name Gross = record s { origins = s.origins ++ record { name = name; unit = None } ∷ [] }
-with_origin s name Net = record s { origins = s.origins ++ record { name = name; unit = Some s.units } ∷ []; units = s.units + 1 }
+with_origin s name Net =
+    record s { origins = s.origins ++ record { name = name; unit = Some s.units } ∷ []; units = s.units + 1 }
 
 abbrev pub originated : State → List ℕ → Mode → Result State Refusal
 originated s name mode = do
@@ -30,7 +32,8 @@ originated s name mode = do
 
 -- an account more, in a unit of its own or in the origin's
 abbrev pub with_account : State → List ℕ → ℕ × Option ℕ → State
-with_account s name (origin, None) = record s { accounts = s.accounts ++ fresh name origin s.units ∷ []; units = s.units + 1 }
+with_account s name (origin, None) =
+    record s { accounts = s.accounts ++ fresh name origin s.units ∷ []; units = s.units + 1 }
 with_account s name (origin, Some u) = record s { accounts = s.accounts ++ fresh name origin u ∷ [] }
 
 abbrev pub opened : State → List ℕ → List ℕ → Result State Refusal
@@ -39,10 +42,10 @@ opened s account origin = do
   Ok (with_account s account home)
 
 -- a lot more, as it is traded
-abbrev pub traded : Tables → State → List ℕ → ℕ → List ℕ → ℤ → ℕ → Result State Refusal
-traded set s account number contract quantity premium = do
-  at ← trade_places set s account number contract quantity premium
-  Ok (put s at.0 (with_lot (account_at s.accounts at.0) (traded_lot number contract quantity premium)))
+abbrev pub traded : Tables → State → Trade → Result State Refusal
+traded set s t = do
+  at ← trade_places set s t
+  Ok (put s at.0 (with_lot (account_at s.accounts at.0) (traded_lot t.lot t.contract t.quantity t.premium)))
 
 -- a lot busted: it stays in the list, and counts for nothing
 abbrev pub undone : State → List ℕ → ℕ → Result State Refusal
@@ -62,11 +65,10 @@ drawn set s account class units = do
   at ← draw_place set s account class units
   if_room set (account_at s.accounts at.0).unit (put s at.0 (with_amount (account_at s.accounts at.0) class at.1))
 
--- the figures of the account's unit
-abbrev pub asked : Tables → State → List ℕ → Result Reply Refusal
-asked set s account = do
-  k ← place_of s account
-  Ok (Figures (figures_of set s.accounts (account_at s.accounts k).unit))
+-- the figures of the unit of the account at a place
+abbrev pub asked : Tables → State → Result ℕ Refusal → Reply
+asked set s (Ok k) = Figures (figures_of set s.accounts (account_at s.accounts k).unit)
+asked set s (Err why) = Refused why
 
 abbrev pub ended : State → Result State Refusal
 ended s = do
@@ -78,28 +80,24 @@ abbrev pub answered : State → Result State Refusal → State × Reply
 answered s (Ok now) = (now, Done)
 answered s (Err why) = (s, Refused why)
 
--- what a question is answered
-abbrev pub told : Result Reply Refusal → Reply
-told (Ok reply) = reply
-told (Err why) = Refused why
-
 -- a command under the set in force
 abbrev pub step_under : Tables → State → Command → State × Reply
 step_under set s (NewOrigin name mode) = answered s (originated s name mode)
 step_under set s (NewAccount account origin) = answered s (opened s account origin)
-step_under set s (Trade account lot contract quantity premium) = answered s (traded set s account lot contract quantity premium)
+step_under set s (OfTrade t) = answered s (traded set s t)
 step_under set s (Bust account lot) = answered s (undone s account lot)
-step_under set s (Hold account order contract quantity limit) = answered s (entered set s account order contract quantity limit)
-step_under set s (Fill account order lot quantity premium) = answered s (filled set s account order lot quantity premium)
+step_under set s (Hold h) = answered s (entered set s h)
+step_under set s (Fill f) = answered s (filled set s f)
 step_under set s (Release account order) = answered s (released s account order)
 step_under set s (Post account class units) = answered s (posted set s account class units)
 step_under set s (Draw account class units) = answered s (drawn set s account class units)
-step_under set s (Ask account) = (s, told (asked set s account))
+step_under set s (Ask account) = (s, asked set s (place_of s account))
 step_under set s EndDay = answered s (ended s)
 
 -- a set comes into force under the next version, or is refused
 abbrev pub switched : State → ℕ → Result (Unit {0}) Refusal → State × Reply
-switched s calls (Ok _) = (record s { version = s.version + 1 }, NewSet record { version = s.version + 1; on_call = calls })
+switched s calls (Ok _) =
+    (record s { version = s.version + 1 }, NewSet record { version = s.version + 1; on_call = calls })
 switched s calls (Err why) = (s, Refused why)
 
 -- one step, where these are the sets by version

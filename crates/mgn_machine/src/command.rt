@@ -11,6 +11,51 @@ pub enum Mode {
     Net,
 }
 
+/// A lot that is to be entered.
+#[derive(Clone, Copy)]
+pub struct Trade {
+    /// The account.
+    pub account: AccountName,
+    /// The lot's number, 1 to 999,999,999, new in its account.
+    pub lot: LotId,
+    /// The contract.
+    pub contract: ContractName,
+    /// How many contracts, 1 to 1,000,000 in size: above 0 is bought, below 0 is sold.
+    pub quantity: LotQuantity,
+    /// The premium for each contract, in cents, 0 to 100,000,000; other than 0 for options of the premium style alone.
+    pub premium: Premium,
+}
+
+/// An order for which room is to be held.
+#[derive(Clone, Copy)]
+pub struct Hold {
+    /// The account.
+    pub account: AccountName,
+    /// The order's number, 1 to 999,999,999, new among those held in its account.
+    pub order: OrderId,
+    /// The contract.
+    pub contract: ContractName,
+    /// How many contracts, 1 to 1,000,000 in size: above 0 buys, below 0 sells.
+    pub quantity: LotQuantity,
+    /// The limit for each contract, in cents, 0 to 100,000,000; other than 0 for options of the premium style alone.
+    pub limit: Premium,
+}
+
+/// A lot that fills a held order, in part or whole.
+#[derive(Clone, Copy)]
+pub struct Fill {
+    /// The account.
+    pub account: AccountName,
+    /// The order's number, 1 to 999,999,999.
+    pub order: OrderId,
+    /// The lot's number, 1 to 999,999,999, new in its account.
+    pub lot: LotId,
+    /// How many contracts, 1 to 1,000,000 in size, of the sign that is held.
+    pub quantity: LotQuantity,
+    /// The premium for each contract, in cents, 0 to 100,000,000: within the order's limit.
+    pub premium: Premium,
+}
+
 /// What a session asks of the book.
 #[derive(Clone, Copy)]
 pub enum Command {
@@ -18,14 +63,14 @@ pub enum Command {
     NewOrigin(OriginName, Mode),
     /// `OPEN`: an account in an origin.
     NewAccount(AccountName, OriginName),
-    /// `TRADE`: a lot of an account, with the premium for each contract.
-    Trade(AccountName, LotId, ContractName, LotQuantity, Premium),
+    /// `TRADE`: a lot of an account.
+    Trade(Trade),
     /// `BUST`: a traded lot of an account is busted: it counts no more.
     Bust(AccountName, LotId),
-    /// `HOLD`: room held for an order of an account, with the limit for each contract.
-    Hold(AccountName, OrderId, ContractName, LotQuantity, Premium),
-    /// `FILL`: a lot of a held order, with the premium for each contract.
-    Fill(AccountName, OrderId, LotId, LotQuantity, Premium),
+    /// `HOLD`: room held for an order of an account.
+    Hold(Hold),
+    /// `FILL`: a lot of a held order.
+    Fill(Fill),
     /// `RELEASE`: an order is held no more.
     Release(AccountName, OrderId),
     /// `POST`: units of a collateral class, or cents where the class is CASH.

@@ -1,4 +1,5 @@
-//! The machine of one thread: requests, replies, the state of the book, what is asked of it, and the definition of a step.
+//! The machine of one thread: requests, replies, the state of the book, what is asked of it, and the definition of a
+//! step.
 #![tactic(auto)]
 
 pub mod command;
@@ -9,7 +10,7 @@ pub mod request;
 #[cfg(test)]
 mod tests;
 
-pub use command::{Command, Mode};
+pub use command::{Command, Fill, Hold, Mode, Trade};
 pub use entry::{Entry, Item};
 pub use origin::Origin;
 pub use reply::{Answer, Figures, NewSet, Refusal, Reply};

@@ -15,7 +15,8 @@ use Rattle.std.proofs.Math.IntN.{zero-*ℤ}
 use Rattle.std.proofs.lemmas.List.{get_or_default, length-set}
 use Rattle.mgn_unit.specs.declared.change.Change.{Change}
 use Rattle.mgn_machine.specs.State.{AccountState, IsAccount, with_lot, with_bust, with_amount, traded_lot}
-use Rattle.mgn_machine.specs.Portfolios.{Portfolio, OnlyLots, WithBuys, WithSales, WithAll, held_in, held_size, account_worth}
+use Rattle.mgn_machine.specs.Portfolios.{Portfolio, OnlyLots, WithBuys, WithSales, WithAll, held_size, account_worth}
+use Rattle.mgn_machine.proofs.Names.{held_in}
 use Rattle.mgn_unit.specs.Changes.{Moves, MovesWorth, gain_of, lot_change, bust_change}
 
 -- every portfolio gains the same

@@ -1,5 +1,5 @@
 -- A fill at the limit of its hold.
-use Rattle.std.proofs.Common.{◌≡◌, ℕ, ◌<◌, List, length, map, set, Bool, true, false, refl, arith}
+use Rattle.std.proofs.Common.{◌≡◌, ℕ, ◌<◌, List, length, map, set, Bool, true, false, refl, arith, subst}
 use Rattle.std.specs.Prelude.{ℤ, pos, neg_ℤ, ◌+ℤ◌, ◌*ℤ◌, if◌then◌else◌}
 use Rattle.std.specs.Str.{bytes_eq}
 use Rattle.std.proofs.lemmas.Int.{ints}
@@ -43,10 +43,10 @@ nothing-in true z e = e
 nothing-in false z e = refl
 
 pub fill_at_limit-keeps : FillAtLimitKeeps
-fill_at_limit-keeps set' accounts k j lot quantity p u inside held covered counted =
+fill_at_limit-keeps set' accounts k j f p u inside held covered counted at_limit =
     side-stays set' accounts k u b p inside refl
-    (λ c. omega (arith, ints, moves.net p c, nothing-in (bytes_eq (hold_at a.holds j).contract c) (gain_of (fill_change 0 quantity limit limit) p).quantity (gains-quantity p (is_buy quantity) quantity limit counted)))
-    (omega (arith, ints, moves.worth p, gains-worth p (is_buy quantity) quantity limit counted))
+    (λ c. omega (arith, ints, moves.net p c, nothing-in (bytes_eq (hold_at a.holds j).contract c) (gain_of (fill_change 0 f.quantity limit limit) p).quantity (gains-quantity p (is_buy f.quantity) f.quantity limit counted)))
+    (omega (arith, ints, moves.worth p, gains-worth p (is_buy f.quantity) f.quantity limit counted))
   where
     a : AccountState
     a = account_at accounts k
@@ -55,7 +55,9 @@ fill_at_limit-keeps set' accounts k j lot quantity p u inside held covered count
     limit = (hold_at a.holds j).limit
 
     b : AccountState
-    b = fill_of a j lot quantity limit
+    b = fill_of a j f
 
-    moves : Moves set' (hold_at a.holds j).contract (fill_change 0 quantity limit limit) a b
-    moves = fill-moves set' a 0 j lot quantity limit held covered
+    moves : Moves set' (hold_at a.holds j).contract (fill_change 0 f.quantity limit limit) a b
+    moves =
+        let P : ℕ → Type 0 = λ (premium : ℕ). Moves set' (hold_at a.holds j).contract (fill_change 0 f.quantity limit premium) a b in
+        subst P at_limit (fill-moves set' a 0 j f held covered)

@@ -23,10 +23,11 @@ use Rattle.mgn_holds.specs.declared.held.Held.{Held}
 use Rattle.mgn_coll.specs.Posted.{value}
 use Rattle.mgn_lots.specs.Lots.{cost}
 use Rattle.mgn_machine.specs.State.{AccountState, IsAccount}
-use Rattle.mgn_machine.specs.Portfolios.{Portfolio, OnlyLots, WithBuys, WithSales, WithAll, held_size, premium_in, account_net, account_size, account_worth, in_unit, unit_sum, row_by}
+use Rattle.mgn_machine.specs.Portfolios.{Portfolio, OnlyLots, WithBuys, WithSales, WithAll, held_size, account_net, account_size, account_worth, in_unit, unit_sum, row_by}
 use Rattle.mgn_machine.specs.Refusals.{has_contract, IsKnown}
 use Rattle.mgn_machine.specs.NewSet.{is_on_call, on_call}
 use Rattle.mgn_machine.specs.Room.{worth_of, requirement_of}
+use Rattle.mgn_machine.proofs.Names.{premium_in}
 use Rattle.mgn_unit.specs.declared.row.Row.{Row}
 use Rattle.mgn_unit.specs.Rows.{priced, portfolio_of, row_of, row_with_worth}
 use Rattle.mgn_unit.specs.NewSets.{AreWorths, carried, number_at, portfolio_under, row_on_call, row_under, unit_gain, value_gain}

@@ -20,6 +20,7 @@ use Rattle.mgn_holds.proofs.Costs.{same-side, premium-lessened, lessened-IsHeld}
 use Rattle.mgn_unit.specs.declared.change.Change.{Change}
 use Rattle.mgn_machine.specs.State.{AccountState, IsAccount, traded_lot}
 use Rattle.mgn_unit.specs.Changes.{held_change, fill_change, Moves, gain, gain_of, lot_change}
+use Rattle.mgn_machine.specs.declared.command.Fill.{Fill}
 use Rattle.mgn_machine.specs.Holding.{fill_of}
 use Rattle.mgn_machine.specs.Portfolios.{Portfolio, OnlyLots, WithBuys, WithSales, WithAll, account_net, account_worth}
 use Rattle.mgn_unit.proofs.AccountMoves.{traded-moves}
@@ -105,37 +106,37 @@ filled-moves old j q inside c = by (int_eq q x.quantity) refl
 
 -- FILL
 
-pub fill-moves : (set' : Tables) (a : AccountState) (i j lot : ℕ) (q : ℤ) (premium : ℕ) → j < length a.holds → covers (hold_at a.holds j) q ≡ true → Moves set' (hold_at a.holds j).contract (fill_change i q (hold_at a.holds j).limit premium) a (fill_of a j lot q premium)
-fill-moves set' a i j lot q premium inside c = record {
+pub fill-moves : (set' : Tables) (a : AccountState) (i j : ℕ) (f : Fill) → j < length a.holds → covers (hold_at a.holds j) f.quantity ≡ true → Moves set' (hold_at a.holds j).contract (fill_change i f.quantity (hold_at a.holds j).limit f.premium) a (fill_of a j f)
+fill-moves set' a i j f inside c = record {
   unit = refl;
-  size = λ d. omega (arith, ints, off.size d, on.size d, negated (bytes_eq x.contract d) (pos (unsigned_abs q)), none (bytes_eq x.contract d));
-  net = λ p d. nets p d (is_buy q) (bytes_eq x.contract d) (off.net p d) (on.net p d);
-  worth = λ p. worths p (is_buy q) (off.worth p) (on.worth p);
+  size = λ d. omega (arith, ints, off.size d, on.size d, negated (bytes_eq x.contract d) (pos (unsigned_abs f.quantity)), none (bytes_eq x.contract d));
+  net = λ p d. nets p d (is_buy f.quantity) (bytes_eq x.contract d) (off.net p d) (on.net p d);
+  worth = λ p. worths p (is_buy f.quantity) (off.worth p) (on.worth p);
 }
   where
     x : Held
     x = hold_at a.holds j
 
     between : AccountState
-    between = record a { holds = filled_at a.holds j q }
+    between = record a { holds = filled_at a.holds j f.quantity }
 
     after : AccountState
-    after = fill_of a j lot q premium
+    after = fill_of a j f
 
     paid : ℤ
-    paid = neg_ℤ (q *ℤ pos premium)
+    paid = neg_ℤ (f.quantity *ℤ pos f.premium)
 
     less : Bool → Change
-    less t = held_change i (neg_ℤ (pos (unsigned_abs q))) t (gain (pos 0) (pos 0)) (gain (neg_ℤ q) (q *ℤ pos x.limit))
+    less t = held_change i (neg_ℤ (pos (unsigned_abs f.quantity))) t (gain (pos 0) (pos 0)) (gain (neg_ℤ f.quantity) (f.quantity *ℤ pos x.limit))
 
     whole : Bool → Change
-    whole t = held_change i (pos 0) t (gain q paid) (gain (pos 0) (paid +ℤ q *ℤ pos x.limit))
+    whole t = held_change i (pos 0) t (gain f.quantity paid) (gain (pos 0) (paid +ℤ f.quantity *ℤ pos x.limit))
 
-    off : Moves set' x.contract (held_change i (neg_ℤ (pos (unsigned_abs q))) (is_buy q) (gain (pos 0) (pos 0)) (gain (neg_ℤ q) (q *ℤ pos x.limit))) a between
-    off = holds-moves set' a x.contract i (is_buy q) (neg_ℤ q) (q *ℤ pos x.limit) (neg_ℤ (pos (unsigned_abs q))) (filled_at a.holds j q) (filled-moves a.holds j q inside c)
+    off : Moves set' x.contract (held_change i (neg_ℤ (pos (unsigned_abs f.quantity))) (is_buy f.quantity) (gain (pos 0) (pos 0)) (gain (neg_ℤ f.quantity) (f.quantity *ℤ pos x.limit))) a between
+    off = holds-moves set' a x.contract i (is_buy f.quantity) (neg_ℤ f.quantity) (f.quantity *ℤ pos x.limit) (neg_ℤ (pos (unsigned_abs f.quantity))) (filled_at a.holds j f.quantity) (filled-moves a.holds j f.quantity inside c)
 
-    on : Moves set' x.contract (lot_change i q premium) between after
-    on = traded-moves set' between lot x.contract i q premium
+    on : Moves set' x.contract (lot_change i f.quantity f.premium) between after
+    on = traded-moves set' between f.lot x.contract i f.quantity f.premium
 
     none : (b : Bool) → (if b then pos 0 else pos 0) ≡ pos 0
     none true = refl
@@ -145,7 +146,7 @@ fill-moves set' a i j lot q premium inside c = record {
     sum-by true e f g is = is
     sum-by false e f g is = refl
 
-    each : (p : Portfolio) (t : Bool) → (gain_of (whole t) p).quantity ≡ (gain_of (less t) p).quantity +ℤ (gain_of (lot_change i q premium) p).quantity
+    each : (p : Portfolio) (t : Bool) → (gain_of (whole t) p).quantity ≡ (gain_of (less t) p).quantity +ℤ (gain_of (lot_change i f.quantity f.premium) p).quantity
     each OnlyLots t = omega (arith, ints)
     each WithBuys true = omega (arith, ints)
     each WithBuys false = omega (arith, ints)
@@ -153,7 +154,7 @@ fill-moves set' a i j lot q premium inside c = record {
     each WithSales false = omega (arith, ints)
     each WithAll t = omega (arith, ints)
 
-    each-worth : (p : Portfolio) (t : Bool) → (gain_of (whole t) p).worth ≡ (gain_of (less t) p).worth +ℤ (gain_of (lot_change i q premium) p).worth
+    each-worth : (p : Portfolio) (t : Bool) → (gain_of (whole t) p).worth ≡ (gain_of (less t) p).worth +ℤ (gain_of (lot_change i f.quantity f.premium) p).worth
     each-worth OnlyLots t = omega (arith, ints)
     each-worth WithBuys true = omega (arith, ints)
     each-worth WithBuys false = omega (arith, ints)
@@ -161,11 +162,11 @@ fill-moves set' a i j lot q premium inside c = record {
     each-worth WithSales false = omega (arith, ints)
     each-worth WithAll t = omega (arith, ints)
 
-    nets : (p : Portfolio) (d : List ℕ) (t b : Bool) → account_net p d between ≡ account_net p d a +ℤ (if b then (gain_of (less t) p).quantity else pos 0) → account_net p d after ≡ account_net p d between +ℤ (if b then (gain_of (lot_change i q premium) p).quantity else pos 0)
+    nets : (p : Portfolio) (d : List ℕ) (t b : Bool) → account_net p d between ≡ account_net p d a +ℤ (if b then (gain_of (less t) p).quantity else pos 0) → account_net p d after ≡ account_net p d between +ℤ (if b then (gain_of (lot_change i f.quantity f.premium) p).quantity else pos 0)
         → account_net p d after ≡ account_net p d a +ℤ (if b then (gain_of (whole t) p).quantity else pos 0)
-    nets p d t b first second = omega (arith, ints, first, second, sum-by b (gain_of (less t) p).quantity (gain_of (lot_change i q premium) p).quantity (gain_of (whole t) p).quantity (each p t))
+    nets p d t b first second = omega (arith, ints, first, second, sum-by b (gain_of (less t) p).quantity (gain_of (lot_change i f.quantity f.premium) p).quantity (gain_of (whole t) p).quantity (each p t))
 
-    worths : (p : Portfolio) (t : Bool) → account_worth set' p between ≡ account_worth set' p a +ℤ (gain_of (less t) p).worth → account_worth set' p after ≡ account_worth set' p between +ℤ (gain_of (lot_change i q premium) p).worth
+    worths : (p : Portfolio) (t : Bool) → account_worth set' p between ≡ account_worth set' p a +ℤ (gain_of (less t) p).worth → account_worth set' p after ≡ account_worth set' p between +ℤ (gain_of (lot_change i f.quantity f.premium) p).worth
         → account_worth set' p after ≡ account_worth set' p a +ℤ (gain_of (whole t) p).worth
     worths p t first second = omega (arith, ints, first, second, each-worth p t)
 
@@ -184,11 +185,11 @@ few-filled holds j q inside = by (int_eq q (hold_at holds j).quantity)
     by true = omega (arith, length-remove holds j inside)
     by false = omega (arith, length-set holds j (lessened (hold_at holds j) q))
 
-pub fill-limits : (a : AccountState) (j lot : ℕ) (q : ℤ) (premium : ℕ) → IsAccount a → j < length a.holds → covers (hold_at a.holds j) q ≡ true → IsLot (traded_lot lot (hold_at a.holds j).contract q premium) → length a.lots < 65536 → IsAccount (fill_of a j lot q premium)
-fill-limits a j lot q premium limits inside c is few = record {
+pub fill-limits : (a : AccountState) (j : ℕ) (f : Fill) → IsAccount a → j < length a.holds → covers (hold_at a.holds j) f.quantity ≡ true → IsLot (traded_lot f.lot (hold_at a.holds j).contract f.quantity f.premium) → length a.lots < 65536 → IsAccount (fill_of a j f)
+fill-limits a j f limits inside c is few = record {
   collateral = limits.collateral;
-  lots = All-push IsLot a.lots (traded_lot lot (hold_at a.holds j).contract q premium) limits.lots is;
-  few_lots = omega (arith, length-append a.lots (traded_lot lot (hold_at a.holds j).contract q premium ∷ []));
-  holds = All-filled IsHeld a.holds j q limits.holds (λ part. lessened-IsHeld (hold_at a.holds j) q (All-get_or IsHeld a.holds j no_hold inside limits.holds) c part);
-  few_holds = omega (arith, limits.few_holds, few-filled a.holds j q inside);
+  lots = All-push IsLot a.lots (traded_lot f.lot (hold_at a.holds j).contract f.quantity f.premium) limits.lots is;
+  few_lots = omega (arith, length-append a.lots (traded_lot f.lot (hold_at a.holds j).contract f.quantity f.premium ∷ []));
+  holds = All-filled IsHeld a.holds j f.quantity limits.holds (λ part. lessened-IsHeld (hold_at a.holds j) f.quantity (All-get_or IsHeld a.holds j no_hold inside limits.holds) c part);
+  few_holds = omega (arith, limits.few_holds, few-filled a.holds j f.quantity inside);
 }

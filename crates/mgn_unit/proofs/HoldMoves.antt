@@ -14,6 +14,7 @@ use Rattle.mgn_holds.specs.declared.side.Side.TheVariants.{Buys, Sales}
 use Rattle.mgn_holds.specs.Holds.{IsHeld, is_buy, held_cost, held_share, held_net, premium}
 use Rattle.mgn_machine.specs.State.{AccountState, IsAccount}
 use Rattle.mgn_unit.specs.Changes.{held_change, hold_change, release_change, Moves, gain, gain_of}
+use Rattle.mgn_machine.specs.declared.command.Hold.{Hold}
 use Rattle.mgn_machine.specs.Holding.{with_hold, without_hold, new_hold}
 use Rattle.mgn_machine.specs.Portfolios.{Portfolio, OnlyLots, WithBuys, WithSales, WithAll, held_size, account_net, account_worth}
 
@@ -130,10 +131,10 @@ remove-moves old j x inside is = record {
 
 -- The commands.
 
-pub hold-moves : (set' : Tables) (a : AccountState) (order : ℕ) (contract : List ℕ) (i : ℕ) (quantity : ℤ) (limit : ℕ) → Moves set' contract (hold_change i quantity limit) a (with_hold a (new_hold order contract quantity limit))
-hold-moves set' a order contract i quantity limit =
-    holds-moves set' a contract i (is_buy quantity) quantity (neg_ℤ (quantity *ℤ pos limit)) (pos (unsigned_abs quantity)) (a.holds ++ new_hold order contract quantity limit ∷ [])
-    (push-moves a.holds (new_hold order contract quantity limit))
+pub hold-moves : (set' : Tables) (a : AccountState) (i : ℕ) (h : Hold) → Moves set' h.contract (hold_change i h.quantity h.limit) a (with_hold a (new_hold h))
+hold-moves set' a i h =
+    holds-moves set' a h.contract i (is_buy h.quantity) h.quantity (neg_ℤ (h.quantity *ℤ pos h.limit)) (pos (unsigned_abs h.quantity)) (a.holds ++ new_hold h ∷ [])
+    (push-moves a.holds (new_hold h))
 
 pub release-moves : (set' : Tables) (a : AccountState) (i j : ℕ) (x : Held) → j < length a.holds → x ≡ get_or a.holds j x → Moves set' x.contract (release_change i x.quantity x.limit) a (without_hold a j)
 release-moves set' a i j x inside is =

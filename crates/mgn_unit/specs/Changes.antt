@@ -30,13 +30,17 @@ lot_change i quantity premium =
 abbrev pub bust_change : ℕ → Lot → Change
 bust_change i x =
     let each = gain (neg_ℤ x.quantity) (x.quantity *ℤ pos x.premium) in
-    record { contract = i; size = neg_ℤ (pos (unsigned_abs x.quantity)); lots = each; buys = each; sales = each; all = each }
+    let size = neg_ℤ (pos (unsigned_abs x.quantity)) in
+    record { contract = i; size = size; lots = each; buys = each; sales = each; all = each }
 
 -- one account changed as the change says, by the name of its contract
 pub record Moves (set : Tables) (contract : List ℕ) (change : Change) (a b : AccountState) : Type 0 where
   pub unit : b.unit ≡ a.unit
-  pub size : (c : List ℕ) → account_size c b ≡ account_size c a +ℤ (if bytes_eq contract c then change.size else pos 0)
-  pub net : (p : Portfolio) (c : List ℕ) → account_net p c b ≡ account_net p c a +ℤ (if bytes_eq contract c then (gain_of change p).quantity else pos 0)
+  pub size : (c : List ℕ)
+      → account_size c b ≡ account_size c a +ℤ (if bytes_eq contract c then change.size else pos 0)
+  pub net : (p : Portfolio) (c : List ℕ)
+      → account_net p c b
+      ≡ account_net p c a +ℤ (if bytes_eq contract c then (gain_of change p).quantity else pos 0)
   pub worth : (p : Portfolio) → account_worth set p b ≡ account_worth set p a +ℤ (gain_of change p).worth
 
 -- one account changed in nothing but its worth
@@ -60,12 +64,14 @@ held_change i size buys apart own = record {
 -- what a hold more changes: where it counts it is a lot at its limit
 abbrev pub hold_change : ℕ → ℤ → ℕ → Change
 hold_change i quantity limit =
-    held_change i (pos (unsigned_abs quantity)) (is_buy quantity) (gain (pos 0) (pos 0)) (gain quantity (neg_ℤ (quantity *ℤ pos limit)))
+    let own = gain quantity (neg_ℤ (quantity *ℤ pos limit)) in
+    held_change i (pos (unsigned_abs quantity)) (is_buy quantity) (gain (pos 0) (pos 0)) own
 
 -- what a hold less changes
 abbrev pub release_change : ℕ → ℤ → ℕ → Change
 release_change i quantity limit =
-    held_change i (neg_ℤ (pos (unsigned_abs quantity))) (is_buy quantity) (gain (pos 0) (pos 0)) (gain (neg_ℤ quantity) (quantity *ℤ pos limit))
+    let own = gain (neg_ℤ quantity) (quantity *ℤ pos limit) in
+    held_change i (neg_ℤ (pos (unsigned_abs quantity))) (is_buy quantity) (gain (pos 0) (pos 0)) own
 
 -- what a fill changes: a lot more, and where its hold counts as much less of it
 abbrev pub fill_change : ℕ → ℤ → ℕ → ℕ → Change

@@ -1,9 +1,10 @@
 -- A fill at the limit of its hold.
-use Rattle.std.specs.Prelude.{ℕ, ◌≡◌, ◌<◌, Bool, true, false, not, ℤ, List, length, slice_set}
+use Rattle.std.specs.Prelude.{ℕ, ◌≡◌, ◌<◌, Bool, true, false, not, List, length, slice_set}
 use Rattle.mgn_params.specs.Tables.{Tables}
 use Rattle.mgn_holds.specs.Holds.{is_buy, hold_at, covers}
 use Rattle.mgn_machine.specs.State.{AccountState, account_at}
 use Rattle.mgn_machine.specs.Portfolios.{Portfolio, OnlyLots, WithBuys, WithSales, WithAll}
+use Rattle.mgn_machine.specs.declared.command.Fill.{Fill}
 use Rattle.mgn_machine.specs.Holding.{fill_of}
 use Rattle.mgn_unit.specs.Rows.{portfolio_of}
 
@@ -18,6 +19,9 @@ counts WithAll buys = true
 -- requires, and so its room
 abbrev pub FillAtLimitKeeps : Type 0
 FillAtLimitKeeps =
-    (set : Tables) (accounts : List AccountState) (k j lot : ℕ) (quantity : ℤ) (p : Portfolio) (u : ℕ) → k < length accounts → j < length (account_at accounts k).holds
-    → covers (hold_at (account_at accounts k).holds j) quantity ≡ true → counts p (is_buy quantity) ≡ true
-    → portfolio_of set (slice_set accounts k (fill_of (account_at accounts k) j lot quantity (hold_at (account_at accounts k).holds j).limit)) u p ≡ portfolio_of set accounts u p
+    (set : Tables) (accounts : List AccountState) (k j : ℕ) (f : Fill) (p : Portfolio) (u : ℕ)
+    → k < length accounts → j < length (account_at accounts k).holds
+    → covers (hold_at (account_at accounts k).holds j) f.quantity ≡ true → counts p (is_buy f.quantity) ≡ true
+    → f.premium ≡ (hold_at (account_at accounts k).holds j).limit
+    → portfolio_of set (slice_set accounts k (fill_of (account_at accounts k) j f)) u p
+    ≡ portfolio_of set accounts u p

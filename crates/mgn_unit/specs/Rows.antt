@@ -100,7 +100,13 @@ abbrev pub no_portfolio : Tables → PortfolioRow
 no_portfolio set = record { nets = replicate (length set.contracts) (pos 0); worth = pos 0; requirement = pos 0 }
 
 abbrev pub no_row : Tables → Row
-no_row set = record { sizes = replicate (length set.contracts) (pos 0); lots = no_portfolio set; buys = no_portfolio set; sales = no_portfolio set; all = no_portfolio set }
+no_row set = record {
+  sizes = replicate (length set.contracts) (pos 0);
+  lots = no_portfolio set;
+  buys = no_portfolio set;
+  sales = no_portfolio set;
+  all = no_portfolio set;
+}
 
 -- Sizes.
 

@@ -29,7 +29,14 @@ impl Model for Account {
 
     ghost Value = { AccountState };
 
-    ghost view = { λ a. record { name = a.name; origin = a.origin; unit = a.unit; collateral = a.collateral; lots = a.lots.lots; holds = a.holds } };
+    ghost view = { λ a. record {
+      name = a.name;
+      origin = a.origin;
+      unit = a.unit;
+      collateral = a.collateral;
+      lots = a.lots.lots;
+      holds = a.holds;
+    } };
 }
 
 impl Account {

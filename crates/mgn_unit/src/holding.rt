@@ -76,7 +76,7 @@ impl Account {
         requires limits { IsLot lot.now }
         requires fresh { has_number self.old.lots lot.now.number ≡ false }
         requires room { is_full self.old.lots ≡ false }
-        ensures ok { OnOk result (self.new ≡ with_fill self.old place lot.now.quantity lot.now) }
+        ensures ok { OnOk result (self.new ≡ with_fill self.old place lot.now) }
         ensures err { OnErr result (self.new ≡ self.old) }
     {
         self.lots.add(lot)?;
@@ -247,8 +247,8 @@ fn lesser_room(first: Cents, second: Cents) -> Cents
     if second < first { second } else { first }
 }
 
-/// A law, and no work: a fill at the limit of its hold leaves the portfolio with the holds of its side, and the one with
-/// all holds, as they were, what they require, their worth and their room.
+/// A law, and no work: a fill at the limit of its hold leaves the portfolio with the holds of its side, and the one
+/// with all holds, as they were, what they require, their worth and their room.
 pub fn filling_at_limit_keeps_room()
     ensures { FillAtLimitKeeps }
 {}

@@ -1,5 +1,5 @@
-//! Margin units as the book keeps them: accounts, the rows of the four portfolios of a unit, and what a command changes in
-//! them, and rows under another set.
+//! Margin units as the book keeps them: accounts, the rows of the four portfolios of a unit, and what a command changes
+//! in them, and rows under another set.
 #![tactic(auto)]
 
 mod account;

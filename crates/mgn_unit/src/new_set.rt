@@ -14,8 +14,8 @@ use mgn_plain::requirement;
 use std::alloc::{AllocError, Global};
 use std::marker::Model;
 
-/// A switch from the set in force to another one: where each contract of the new set stands in the old one, looked up once
-/// for all rows. Contracts see the two sets.
+/// A switch from the set in force to another one: where each contract of the new set stands in the old one, looked up
+/// once for all rows. Contracts see the two sets.
 #[derive(Drop)]
 pub struct Switch<'a> {
     old: &'a ParamSet,
@@ -52,8 +52,8 @@ impl<'a> Switch<'a> {
         Ok(Switch { old, new, places })
     }
 
-    /// How much more the collateral of a unit's accounts is worth under the new set, in cents; below 0 where it is worth
-    /// less.
+    /// How much more the collateral of a unit's accounts is worth under the new set, in cents; below 0 where it is
+    /// worth less.
     pub fn gain(&self, accounts: &[Account], unit: usize) -> Cents
         requires { length accounts.now ≤ 1024 }
         ensures { result ≡ unit_gain self.now.old self.now.new accounts.now unit }

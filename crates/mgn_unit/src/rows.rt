@@ -49,8 +49,8 @@ impl PortfolioRow {
         priced
     }
 
-    /// The same beside another portfolio, for which it was worked out already: where nets and gain are equal, so is what
-    /// they require.
+    /// The same beside another portfolio, for which it was worked out already: where nets and gain are equal, so is
+    /// what they require.
     pub fn priced_beside(
         &mut self,
         alloc: Global,

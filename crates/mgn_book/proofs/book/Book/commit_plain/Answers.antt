@@ -1,4 +1,4 @@
-use Rattle.std.proofs.Common.{arith, ◌≡◌, ◌+◌, ◌<◌, ◌≤◌, ◌++◌, ◌∷◌, [], rules, length, List, ap, ◌∙◌, refl}
+use Rattle.std.proofs.Common.{arith, ◌≡◌, ◌+◌, ◌-◌, ◌<◌, ◌≤◌, ◌++◌, ◌∷◌, [], rules, length, List, ap, ◌∙◌, refl}
 use Rattle.mgn_params.specs.Shelves.{set_at}
 use Rattle.mgn_params.specs.Tables.{Tables}
 use Rattle.mgn_machine.specs.declared.request.Recorded.TheVariants.{Asked}
@@ -34,7 +34,8 @@ invariant_of-self-2 g c =
     let pushed : c.write.new.history.entries ≡ b.history.entries ++ entry c.args.session c.args.number (Asked c.args.command.now) c.in-Ok.reply ∷ [] = search rules in
     let low : 1 ≤ c.args.session = search rules in
     let high : c.args.session ≤ 16 = search rules in
-    rw c.number.ensures.value (is_book-next b.counts (g.S.Shelf.sets c.args.shelf.now) old c.step.new.register (entry c.args.session c.args.number (Asked c.args.command.now) c.in-Ok.reply) c.write.new.history.entries are c.self.invariant.long low high number pushed (returns-clause-stands g c))
+    let place : c.count_place.result ≡ c.args.session - 1 = omega (arith, c.count_place.ensures.place) in
+    rw place (is_book-next b.counts (g.S.Shelf.sets c.args.shelf.now) old c.step.new.register (entry c.args.session c.args.number (Asked c.args.command.now) c.in-Ok.reply) c.write.new.history.entries are c.self.invariant.long low high number pushed (returns-clause-stands g c))
 
 pub write-requires-clause-number : goal.write-requires-clause-number
 write-requires-clause-number g c =

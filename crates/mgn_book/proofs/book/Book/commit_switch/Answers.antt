@@ -1,4 +1,4 @@
-use Rattle.std.proofs.Common.{◌≡◌, ◌+◌, ◌<◌, ◌≤◌, ◌++◌, ◌∷◌, [], arith, rules, length, List}
+use Rattle.std.proofs.Common.{◌≡◌, ◌+◌, ◌-◌, ◌<◌, ◌≤◌, ◌++◌, ◌∷◌, [], arith, rules, length, List}
 use Rattle.mgn_params.specs.Tables.{Tables}
 use Rattle.mgn_machine.specs.declared.request.Request.TheVariants.{Switch}
 use Rattle.mgn_machine.specs.History.{entry, calls, recorded}
@@ -37,4 +37,5 @@ invariant_of-self-2 g c =
     let pushed : c.switch_set-switched.new.history.entries ≡ b.history.entries ++ entry c.args.session c.args.number (recorded (Switch c.args.set) c.in-Ok.reply) c.in-Ok.reply ∷ [] = search rules in
     let low : 1 ≤ c.args.session = search rules in
     let high : c.args.session ≤ 16 = search rules in
-    rw c.number.ensures.value (is_book-next b.counts (g.S.Shelf.sets c.switch_set-switched.new.shelf) old c.switch_set-switched.new.register (entry c.args.session c.args.number (recorded (Switch c.args.set) c.in-Ok.reply) c.in-Ok.reply) c.switch_set-switched.new.history.entries are c.self.invariant.long low high number pushed (returns-clause-stands g c))
+    let place : c.count_place-own.result ≡ c.args.session - 1 = omega (arith, c.count_place-own.ensures.place) in
+    rw place (is_book-next b.counts (g.S.Shelf.sets c.switch_set-switched.new.shelf) old c.switch_set-switched.new.register (entry c.args.session c.args.number (recorded (Switch c.args.set) c.in-Ok.reply) c.in-Ok.reply) c.switch_set-switched.new.history.entries are c.self.invariant.long low high number pushed (returns-clause-stands g c))

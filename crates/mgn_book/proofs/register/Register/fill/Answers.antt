@@ -42,10 +42,10 @@ fill_hold-requires-clause-roomy c =
       stands = stands;
     } in
     let x = hold_at a.holds at.1 in
-    let change = fill_change c.held_contract-i.result c.args.quantity x.limit c.args.premium in
-    let is : c.of_fill-change.result ≡ change = c.of_fill-change.ensures.change ∙ ap (λ (y : Held). fill_change c.held_contract-i.result c.args.quantity y.limit c.args.premium) c.hold_at-held.ensures.held in
-    let c_is : covers x c.args.quantity ≡ true = ap (λ (y : AccountState). covers (hold_at y.holds at.1) c.args.quantity) account ∙ c.in-Ok.ensures.covers in
-    subst (λ (change : Change). IsRoomy change row) (sym is) (fill-roomy set' f at.0 c.held_contract-i.result at.1 c.args.number a row c.args.quantity c.args.premium reads inside c_is)
+    let change = fill_change c.held_contract-i.result c.args.fill.now.quantity x.limit c.args.fill.now.premium in
+    let is : c.of_fill-change.result ≡ change = c.of_fill-change.ensures.change ∙ ap (λ (y : Held). fill_change c.held_contract-i.result c.args.fill.now.quantity y.limit c.args.fill.now.premium) c.hold_at-held.ensures.held in
+    let c_is : covers x c.args.fill.now.quantity ≡ true = ap (λ (y : AccountState). covers (hold_at y.holds at.1) c.args.fill.now.quantity) account ∙ c.in-Ok.ensures.covers in
+    subst (λ (change : Change). IsRoomy change row) (sym is) (fill-roomy set' f at.0 c.held_contract-i.result at.1 a row c.args.fill.now reads inside c_is)
 
 pub returns-in-Err-fill_hold-clause-kept : goal.returns-in-Err-fill_hold-clause-kept
 returns-in-Err-fill_hold-clause-kept c =
@@ -79,9 +79,9 @@ returns-in-Err-fill_hold-clause-kept c =
 pub invariant_of-self-2 : goal.invariant_of-self-2
 invariant_of-self-2 c =
     let a = c.index_mut-owner.result.now in
-    let added : c.fill_hold.new.owner ≡ with_fill a c.in-Ok.places.1 c.traded_lot-lot.result.quantity c.traded_lot-lot.result = search rules in
+    let added : c.fill_hold.new.owner ≡ with_fill a c.in-Ok.places.1 c.traded_lot-lot.result = search rules in
     names-kept c.self.inside.names c.self.inside.accounts.items c.in-Ok.places.0 c.fill_hold.new.owner a c.self.invariant
-    (ap (λ (x : AccountState). x.name) (added ∙ ap (λ (x : AccountState). with_fill x c.in-Ok.places.1 c.traded_lot-lot.result.quantity c.traded_lot-lot.result) c.index_mut-owner.ensures.value))
+    (ap (λ (x : AccountState). x.name) (added ∙ ap (λ (x : AccountState). with_fill x c.in-Ok.places.1 c.traded_lot-lot.result) c.index_mut-owner.ensures.value))
 
 pub returns-clause-kept : goal.returns-clause-kept
 returns-clause-kept c =
@@ -108,17 +108,17 @@ returns-clause-kept c =
       stands = stands;
     } in
     let x = hold_at a.holds at.1 in
-    let change = fill_change c.held_contract-i.result c.args.quantity x.limit c.args.premium in
-    let is : c.of_fill-change.result ≡ change = c.of_fill-change.ensures.change ∙ ap (λ (y : Held). fill_change c.held_contract-i.result c.args.quantity y.limit c.args.premium) c.hold_at-held.ensures.held in
-    let c_is : covers x c.args.quantity ≡ true = ap (λ (y : AccountState). covers (hold_at y.holds at.1) c.args.quantity) account ∙ c.in-Ok.ensures.covers in
-    let lot = traded_lot c.args.number x.contract c.args.quantity c.args.premium in
-    let lot_is : c.traded_lot-lot.result ≡ lot = c.traded_lot-lot.ensures.lot ∙ ap (λ (y : Held). traded_lot c.args.number y.contract c.args.quantity c.args.premium) c.hold_at-held.ensures.held in
+    let change = fill_change c.held_contract-i.result c.args.fill.now.quantity x.limit c.args.fill.now.premium in
+    let is : c.of_fill-change.result ≡ change = c.of_fill-change.ensures.change ∙ ap (λ (y : Held). fill_change c.held_contract-i.result c.args.fill.now.quantity y.limit c.args.fill.now.premium) c.hold_at-held.ensures.held in
+    let c_is : covers x c.args.fill.now.quantity ≡ true = ap (λ (y : AccountState). covers (hold_at y.holds at.1) c.args.fill.now.quantity) account ∙ c.in-Ok.ensures.covers in
+    let lot = traded_lot c.args.fill.now.lot x.contract c.args.fill.now.quantity c.args.fill.now.premium in
+    let lot_is : c.traded_lot-lot.result ≡ lot = c.traded_lot-lot.ensures.lot ∙ ap (λ (y : Held). traded_lot c.args.fill.now.lot y.contract c.args.fill.now.quantity c.args.fill.now.premium) c.hold_at-held.ensures.held in
     let said : (priced : Priced) × Prices set' c.of_fill-change.result row priced = search rules in
     let prices : Prices set' change row said.0 = subst (λ (y : Change). Prices set' y row said.0) is said.1 in
     let changed : c.fill_hold.new.row ≡ row_with set' c.of_fill-change.result row = search rules in
-    let filled : c.fill_hold.new.owner ≡ with_fill a at.1 c.traded_lot-lot.result.quantity c.traded_lot-lot.result = search rules in
+    let filled : c.fill_hold.new.owner ≡ with_fill a at.1 c.traded_lot-lot.result = search rules in
     let limits : IsLot lot = subst IsLot lot_is c.traded_lot-lot.ensures.limits in
     let few : is_full a.lots ≡ false = ap (λ (y : AccountState). is_full y.lots) account ∙ c.in-Ok.ensures.few in
-    let room : IsRoomy change row = fill-roomy set' f at.0 c.held_contract-i.result at.1 c.args.number a row c.args.quantity c.args.premium reads inside c_is in
+    let room : IsRoomy change row = fill-roomy set' f at.0 c.held_contract-i.result at.1 a row c.args.fill.now reads inside c_is in
     subst (λ (u : _). IsKept set' (book_state r.origins.items (set r.accounts.items at.0 c.fill_hold.new.owner) (set r.rows.items u c.fill_hold.new.row) r.closed r.version)) (sym c.unit.ensures)
-    (fill-kept set' r.origins.items r.accounts.items r.rows.items r.closed r.version at.0 c.held_contract-i.result at.1 c.args.number a c.fill_hold.new.owner row c.fill_hold.new.row c.args.quantity c.args.premium said.0 reads inside c_is room prices limits few (changed ∙ ap (λ (y : Change). row_with set' y row) is) (filled ∙ ap (λ (y : Lot). with_fill a at.1 y.quantity y) lot_is))
+    (fill-kept set' r.origins.items r.accounts.items r.rows.items r.closed r.version at.0 c.held_contract-i.result at.1 a c.fill_hold.new.owner row c.fill_hold.new.row c.args.fill.now said.0 reads inside c_is room prices limits few (changed ∙ ap (λ (y : Change). row_with set' y row) is) (filled ∙ ap (λ (y : Lot). with_fill a at.1 y) lot_is))

@@ -23,7 +23,7 @@ enter_hold-requires-clause-roomy c =
     let at = c.in-Ok.places in
     let a = c.index_mut-owner.result.now in
     let row = c.index_mut-row.result.now in
-    let reads : Reads set' f at.0 c.in-Ok.places.1 a row c.args.contract = record {
+    let reads : Reads set' f at.0 c.in-Ok.places.1 a row c.args.hold.now.contract = record {
       within = c.limits.ensures;
       kept = search rules;
       account = search rules;
@@ -31,9 +31,9 @@ enter_hold-requires-clause-roomy c =
       row = c.index_mut-row.ensures.value ∙ ap (λ (u : _). get_or r.rows.items u row) c.unit.ensures;
       stands = search rules;
     } in
-    let over : is_over f.state at.0 c.args.contract c.args.quantity ≡ false = ap (λ (g : BookState). is_over g.state at.0 c.args.contract c.args.quantity) c.self.view_is ∙ c.in-Ok.ensures.room in
+    let over : is_over f.state at.0 c.args.hold.now.contract c.args.hold.now.quantity ≡ false = ap (λ (g : BookState). is_over g.state at.0 c.args.hold.now.contract c.args.hold.now.quantity) c.self.view_is ∙ c.in-Ok.ensures.room in
     subst (λ (change : Change). IsRoomy change row) (sym c.of_hold-change.ensures.change)
-    (hold-roomy set' f at.0 at.1 a row c.args.order c.args.contract c.args.quantity c.args.limit reads over)
+    (hold-roomy set' f at.0 at.1 a row c.args.hold.now reads over)
 
 pub returns-in-Err-enter_hold-clause-kept : goal.returns-in-Err-enter_hold-clause-kept
 returns-in-Err-enter_hold-clause-kept c =
@@ -43,7 +43,7 @@ returns-in-Err-enter_hold-clause-kept c =
     let at = c.in-Ok.places in
     let a = c.index_mut-owner.result.now in
     let row = c.index_mut-row.result.now in
-    let reads : Reads set' f at.0 c.in-Ok.places.1 a row c.args.contract = record {
+    let reads : Reads set' f at.0 c.in-Ok.places.1 a row c.args.hold.now.contract = record {
       within = c.limits.ensures;
       kept = search rules;
       account = search rules;
@@ -64,7 +64,7 @@ returns-in-Err-enter_hold-clause-steps c =
     let at = c.in-Ok.places in
     let a = c.index_mut-owner.result.now in
     let row = c.index_mut-row.result.now in
-    let reads : Reads set' f at.0 c.in-Ok.places.1 a row c.args.contract = record {
+    let reads : Reads set' f at.0 c.in-Ok.places.1 a row c.args.hold.now.contract = record {
       within = c.limits.ensures;
       kept = search rules;
       account = search rules;
@@ -72,11 +72,11 @@ returns-in-Err-enter_hold-clause-steps c =
       row = c.index_mut-row.ensures.value ∙ ap (λ (u : _). get_or r.rows.items u row) c.unit.ensures;
       stands = search rules;
     } in
-    let asks : AsksRoom {X = Unit {0}} (row_with set' (hold_change at.1 c.args.quantity c.args.limit) row) (Err c.in-Err-enter_hold.why) =
+    let asks : AsksRoom {X = Unit {0}} (row_with set' (hold_change at.1 c.args.hold.now.quantity c.args.hold.now.limit) row) (Err c.in-Err-enter_hold.why) =
     subst (λ (change : Change). AsksRoom {X = Unit {0}} (row_with set' change row) (Err c.in-Err-enter_hold.why)) c.of_hold-change.ensures.change (search rules)
     in
-    let places : hold_places set' f.state c.args.account c.args.order c.args.contract c.args.quantity c.args.limit ≡ Ok at =
-    subst (λ (g : BookState). hold_places set' g.state c.args.account c.args.order c.args.contract c.args.quantity c.args.limit ≡ Ok at) (sym c.self.view_is) (sym c.in-Ok.ensures.places)
+    let places : hold_places set' f.state c.args.hold.now ≡ Ok at =
+    subst (λ (g : BookState). hold_places set' g.state c.args.hold.now ≡ Ok at) (sym c.self.view_is) (sym c.in-Ok.ensures.places)
     in
     let same : c.enter_hold.new.owner ≡ a = search rules in
     let same_row : c.enter_hold.new.row ≡ row = search rules in
@@ -84,8 +84,8 @@ returns-in-Err-enter_hold-clause-steps c =
     let stays : new ≡ f =
     same-state r.origins.items r.accounts.items r.rows.items r.closed r.version at.0 c.unit.result a c.enter_hold.new.owner row c.enter_hold.new.row c.index_mut-owner.ensures.value c.index_mut-row.ensures.value same same_row
     in
-    subst (λ (g : BookState). Steps {X = Unit {0}} (entered set' g.state c.args.account c.args.order c.args.contract c.args.quantity c.args.limit) (Err c.in-Err-enter_hold.why) g new) c.self.view_is
-    (hold-refused set' f new at a row c.args.account c.args.order c.args.contract c.args.quantity c.args.limit c.in-Err-enter_hold.why reads places asks stays)
+    subst (λ (g : BookState). Steps {X = Unit {0}} (entered set' g.state c.args.hold.now) (Err c.in-Err-enter_hold.why) g new) c.self.view_is
+    (hold-refused set' f new at a row c.args.hold.now c.in-Err-enter_hold.why reads places asks stays)
 
 pub invariant_of-self-2 : goal.invariant_of-self-2
 invariant_of-self-2 c =
@@ -102,7 +102,7 @@ returns-clause-kept c =
     let at = c.in-Ok.places in
     let a = c.index_mut-owner.result.now in
     let row = c.index_mut-row.result.now in
-    let reads : Reads set' f at.0 c.in-Ok.places.1 a row c.args.contract = record {
+    let reads : Reads set' f at.0 c.in-Ok.places.1 a row c.args.hold.now.contract = record {
       within = c.limits.ensures;
       kept = search rules;
       account = search rules;
@@ -110,21 +110,21 @@ returns-clause-kept c =
       row = c.index_mut-row.ensures.value ∙ ap (λ (u : _). get_or r.rows.items u row) c.unit.ensures;
       stands = search rules;
     } in
-    let over : is_over f.state at.0 c.args.contract c.args.quantity ≡ false = ap (λ (g : BookState). is_over g.state at.0 c.args.contract c.args.quantity) c.self.view_is ∙ c.in-Ok.ensures.room in
-    let change = hold_change at.1 c.args.quantity c.args.limit in
-    let x = new_hold c.args.order c.args.contract c.args.quantity c.args.limit in
+    let over : is_over f.state at.0 c.args.hold.now.contract c.args.hold.now.quantity ≡ false = ap (λ (g : BookState). is_over g.state at.0 c.args.hold.now.contract c.args.hold.now.quantity) c.self.view_is ∙ c.in-Ok.ensures.room in
+    let change = hold_change at.1 c.args.hold.now.quantity c.args.hold.now.limit in
+    let x = new_hold c.args.hold.now in
     let said : (priced : Priced) × Prices set' c.of_hold-change.result row priced = search rules in
     let prices : Prices set' change row said.0 = subst (λ (x : Change). Prices set' x row said.0) c.of_hold-change.ensures.change said.1 in
     let changed : c.enter_hold.new.row ≡ row_with set' c.of_hold-change.result row = search rules in
     let added : c.enter_hold.new.owner ≡ with_hold a c.new_hold-held.result = search rules in
     let held : IsHeld x = subst IsHeld c.new_hold-held.ensures.held c.new_hold-held.ensures.limits in
     let few : holds_full a.holds ≡ false =
-    ap (λ (x : AccountState). holds_full x.holds) (account-read set' f at.0 at.1 a row c.args.contract reads)
+    ap (λ (x : AccountState). holds_full x.holds) (account-read set' f at.0 at.1 a row c.args.hold.now.contract reads)
     ∙ ap (λ (g : BookState). holds_full (account_at g.state.accounts at.0).holds) c.self.view_is ∙ c.in-Ok.ensures.few
     in
-    let room : IsRoomy change row = hold-roomy set' f at.0 at.1 a row c.args.order c.args.contract c.args.quantity c.args.limit reads over in
+    let room : IsRoomy change row = hold-roomy set' f at.0 at.1 a row c.args.hold.now reads over in
     subst (λ (u : _). IsKept set' (book_state r.origins.items (set r.accounts.items at.0 c.enter_hold.new.owner) (set r.rows.items u c.enter_hold.new.row) r.closed r.version)) (sym c.unit.ensures)
-    (hold-kept set' r.origins.items r.accounts.items r.rows.items r.closed r.version at.0 at.1 a c.enter_hold.new.owner row c.enter_hold.new.row c.args.order c.args.contract c.args.quantity c.args.limit said.0 reads room prices held few (changed ∙ ap (λ (x : Change). row_with set' x row) c.of_hold-change.ensures.change) (added ∙ ap (λ (y : Held). with_hold a y) c.new_hold-held.ensures.held))
+    (hold-kept set' r.origins.items r.accounts.items r.rows.items r.closed r.version at.0 at.1 a c.enter_hold.new.owner row c.enter_hold.new.row c.args.hold.now said.0 reads room prices held few (changed ∙ ap (λ (x : Change). row_with set' x row) c.of_hold-change.ensures.change) (added ∙ ap (λ (y : Held). with_hold a y) c.new_hold-held.ensures.held))
 
 pub returns-clause-steps : goal.returns-clause-steps
 returns-clause-steps c =
@@ -134,7 +134,7 @@ returns-clause-steps c =
     let at = c.in-Ok.places in
     let a = c.index_mut-owner.result.now in
     let row = c.index_mut-row.result.now in
-    let reads : Reads set' f at.0 c.in-Ok.places.1 a row c.args.contract = record {
+    let reads : Reads set' f at.0 c.in-Ok.places.1 a row c.args.hold.now.contract = record {
       within = c.limits.ensures;
       kept = search rules;
       account = search rules;
@@ -142,14 +142,14 @@ returns-clause-steps c =
       row = c.index_mut-row.ensures.value ∙ ap (λ (u : _). get_or r.rows.items u row) c.unit.ensures;
       stands = search rules;
     } in
-    let asks : AsksRoom {X = Unit {0}} (row_with set' (hold_change at.1 c.args.quantity c.args.limit) row) (Ok tt) =
+    let asks : AsksRoom {X = Unit {0}} (row_with set' (hold_change at.1 c.args.hold.now.quantity c.args.hold.now.limit) row) (Ok tt) =
     subst (λ (change : Change). AsksRoom {X = Unit {0}} (row_with set' change row) (Ok tt)) c.of_hold-change.ensures.change (search rules)
     in
-    let places : hold_places set' f.state c.args.account c.args.order c.args.contract c.args.quantity c.args.limit ≡ Ok at =
-    subst (λ (g : BookState). hold_places set' g.state c.args.account c.args.order c.args.contract c.args.quantity c.args.limit ≡ Ok at) (sym c.self.view_is) (sym c.in-Ok.ensures.places)
+    let places : hold_places set' f.state c.args.hold.now ≡ Ok at =
+    subst (λ (g : BookState). hold_places set' g.state c.args.hold.now ≡ Ok at) (sym c.self.view_is) (sym c.in-Ok.ensures.places)
     in
     let added : c.enter_hold.new.owner ≡ with_hold a c.new_hold-held.result = search rules in
     let new : BookState = book_state r.origins.items (set r.accounts.items at.0 c.enter_hold.new.owner) (set r.rows.items c.unit.result c.enter_hold.new.row) r.closed r.version in
-    subst (λ (g : BookState). entered set' g.state c.args.account c.args.order c.args.contract c.args.quantity c.args.limit ≡ Ok new.state) c.self.view_is
-    (hold-done set' r.origins.items r.accounts.items r.rows.items r.closed r.version at c.unit.result a c.enter_hold.new.owner row c.enter_hold.new.row c.args.account c.args.order c.args.contract c.args.quantity c.args.limit reads places asks
+    subst (λ (g : BookState). entered set' g.state c.args.hold.now ≡ Ok new.state) c.self.view_is
+    (hold-done set' r.origins.items r.accounts.items r.rows.items r.closed r.version at c.unit.result a c.enter_hold.new.owner row c.enter_hold.new.row c.args.hold.now reads places asks
     (added ∙ ap (λ (y : Held). with_hold a y) c.new_hold-held.ensures.held))

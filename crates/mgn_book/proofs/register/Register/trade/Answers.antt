@@ -16,7 +16,7 @@ enter_lot-requires-clause-roomy c =
     let r = c.self.inside in
     let f = book_state r.origins.items r.accounts.items r.rows.items r.closed r.version in
     let a = c.index_mut-owner.result.now in
-    let trading : Trading c.args.set.now f c.in-Ok.places.0 c.in-Ok.places.1 a c.index_mut-row.result.now c.args.number c.args.contract c.args.quantity c.args.premium = record {
+    let trading : Trading c.args.set.now f c.in-Ok.places.0 c.in-Ok.places.1 a c.index_mut-row.result.now c.args.trade.now = record {
       within = c.limits.ensures;
       kept = search rules;
       account = search rules;
@@ -26,7 +26,7 @@ enter_lot-requires-clause-roomy c =
       room = search rules;
     } in
     subst (λ (change : Change). IsRoomy change c.index_mut-row.result.now) (sym c.of_lot-change.ensures.change)
-    (trade-roomy c.args.set.now f c.in-Ok.places.0 c.in-Ok.places.1 a c.index_mut-row.result.now c.args.number c.args.contract c.args.quantity c.args.premium trading)
+    (trade-roomy c.args.set.now f c.in-Ok.places.0 c.in-Ok.places.1 a c.index_mut-row.result.now c.args.trade.now trading)
 
 pub invariant_of-self-2 : goal.invariant_of-self-2
 invariant_of-self-2 c =
@@ -42,7 +42,7 @@ returns-clause-kept c =
     let f = book_state r.origins.items r.accounts.items r.rows.items r.closed r.version in
     let a = c.index_mut-owner.result.now in
     let row = c.index_mut-row.result.now in
-    let trading : Trading c.args.set.now f c.in-Ok.places.0 c.in-Ok.places.1 a row c.args.number c.args.contract c.args.quantity c.args.premium = record {
+    let trading : Trading c.args.set.now f c.in-Ok.places.0 c.in-Ok.places.1 a row c.args.trade.now = record {
       within = c.limits.ensures;
       kept = search rules;
       account = search rules;
@@ -51,8 +51,9 @@ returns-clause-kept c =
       stands = search rules;
       room = search rules;
     } in
-    let change = lot_change c.in-Ok.places.1 c.args.quantity c.args.premium in
-    let lot = traded_lot c.args.number c.args.contract c.args.quantity c.args.premium in
+    let t = c.args.trade.now in
+    let change = lot_change c.in-Ok.places.1 t.quantity t.premium in
+    let lot = traded_lot t.lot t.contract t.quantity t.premium in
     let said : (priced : Priced) × Prices c.args.set.now c.of_lot-change.result row priced = search rules in
     let prices : Prices c.args.set.now change row said.0 = subst (λ (x : Change). Prices c.args.set.now x row said.0) c.of_lot-change.ensures.change said.1 in
     let changed : c.enter_lot.new.row ≡ row_with c.args.set.now c.of_lot-change.result row = search rules in
@@ -63,6 +64,6 @@ returns-clause-kept c =
     ap (λ (x : AccountState). is_full x.lots) (c.index_mut-owner.ensures.value ∙ get_or_default r.accounts.items k a no_account trading.account)
     ∙ ap (λ (g : BookState). is_full (account_at g.state.accounts k).lots) c.self.view_is ∙ c.in-Ok.ensures.few
     in
-    let kept = trade-kept c.args.set.now r.origins.items r.accounts.items r.rows.items r.closed r.version c.in-Ok.places.0 c.in-Ok.places.1 a c.enter_lot.new.owner row c.enter_lot.new.row c.args.number c.args.contract c.args.quantity c.args.premium said.0
+    let kept = trade-kept c.args.set.now r.origins.items r.accounts.items r.rows.items r.closed r.version c.in-Ok.places.0 c.in-Ok.places.1 a c.enter_lot.new.owner row c.enter_lot.new.row c.args.trade.now said.0
     trading prices (changed ∙ ap (λ (x : Change). row_with c.args.set.now x row) c.of_lot-change.ensures.change) (added ∙ ap (λ (x : _). with_lot a x) c.traded_lot-lot.ensures.lot) limits few in
     subst (λ (u : _). IsKept c.args.set.now (book_state r.origins.items (set r.accounts.items c.in-Ok.places.0 c.enter_lot.new.owner) (set r.rows.items u c.enter_lot.new.row) r.closed r.version)) (sym c.unit.ensures) kept
