@@ -16,7 +16,7 @@ pub enum Mode {
 pub struct Trade {
     /// The account.
     pub account: AccountName,
-    /// The lot's number, 1 to 999,999,999, new in its account.
+    /// The lot's number, 1 to 10^12, new in its account.
     pub lot: LotId,
     /// The contract.
     pub contract: ContractName,
@@ -31,7 +31,7 @@ pub struct Trade {
 pub struct Hold {
     /// The account.
     pub account: AccountName,
-    /// The order's number, 1 to 999,999,999, new among those held in its account.
+    /// The order's number, 1 to 10^12, new among those held in its account.
     pub order: OrderId,
     /// The contract.
     pub contract: ContractName,
@@ -46,9 +46,9 @@ pub struct Hold {
 pub struct Fill {
     /// The account.
     pub account: AccountName,
-    /// The order's number, 1 to 999,999,999.
+    /// The order's number, 1 to 10^12.
     pub order: OrderId,
-    /// The lot's number, 1 to 999,999,999, new in its account.
+    /// The lot's number, 1 to 10^12, new in its account.
     pub lot: LotId,
     /// How many contracts, 1 to 1,000,000 in size, of the sign that is held.
     pub quantity: LotQuantity,

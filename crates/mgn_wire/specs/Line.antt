@@ -1,5 +1,5 @@
 -- What a line asks for, or the first fault that applies (own format).
-use Rattle.std.specs.Prelude.{ℕ, Bool, nat_lt, if◌then◌else◌, List, [], ◌∷◌, length, Result, Ok, Err, codes}
+use Rattle.std.specs.Prelude.{ℕ, ℤ, Bool, nat_lt, if◌then◌else◌, List, [], ◌∷◌, length, Result, Ok, Err, codes}
 use Rattle.std.specs.List.{list_all}
 use Rattle.std.specs.Str.{bytes_eq}
 use Rattle.mgn_ids.specs.Amounts.{premium_in, quantity_in, units_in}
@@ -22,15 +22,28 @@ abbrev pub ◌<*>◌ : {A B : Type 0} → Result (A → B) IdFault → Result A 
 (Ok f) <*> (Err fault) = Err fault
 (Err fault) <*> x = Err fault
 
--- a command of two, three and five words
+-- a command of two, three and five words after the first
 abbrev pub reads2 : {A B C : Type 0} → (A → B → C) → Result A IdFault → Result B IdFault → Result C IdFault
 reads2 f a b = Ok f <*> a <*> b
 
 abbrev pub reads3 : {A B C D : Type 0} → (A → B → C → D) → Result A IdFault → Result B IdFault → Result C IdFault → Result D IdFault
 reads3 f a b c = Ok f <*> a <*> b <*> c
 
-abbrev pub reads5 : {A B C D E F : Type 0} → (A → B → C → D → E → F) → Result A IdFault → Result B IdFault → Result C IdFault → Result D IdFault → Result E IdFault → Result F IdFault
+abbrev pub reads5 : {A B C D E F : Type 0} → (A → B → C → D → E → F)
+    → Result A IdFault → Result B IdFault → Result C IdFault → Result D IdFault → Result E IdFault → Result F IdFault
 reads5 f a b c d e = Ok f <*> a <*> b <*> c <*> d <*> e
+
+abbrev pub trade_of : List ℕ → ℕ → List ℕ → ℤ → ℕ → Command
+trade_of account lot contract quantity premium =
+    Trade record { account = account; lot = lot; contract = contract; quantity = quantity; premium = premium }
+
+abbrev pub hold_of : List ℕ → ℕ → List ℕ → ℤ → ℕ → Command
+hold_of account order contract quantity limit =
+    Hold record { account = account; order = order; contract = contract; quantity = quantity; limit = limit }
+
+abbrev pub fill_of : List ℕ → ℕ → ℕ → ℤ → ℕ → Command
+fill_of account order lot quantity premium =
+    Fill record { account = account; order = order; lot = lot; quantity = quantity; premium = premium }
 
 -- The first word names the command, which has as many words after it.
 
@@ -59,9 +72,9 @@ with_three verb a b c =
 
 unfoldable pub with_five : List ℕ → List ℕ → List ℕ → List ℕ → List ℕ → List ℕ → Result Command IdFault
 with_five verb a b c d e =
-    if bytes_eq verb (codes "TRADE") then reads5 Trade (name_in a) (number_in b) (name_in c) (quantity_in d) (premium_in e)
-    else if bytes_eq verb (codes "HOLD") then reads5 Hold (name_in a) (number_in b) (name_in c) (quantity_in d) (premium_in e)
-    else if bytes_eq verb (codes "FILL") then reads5 Fill (name_in a) (number_in b) (number_in c) (quantity_in d) (premium_in e)
+    if bytes_eq verb (codes "TRADE") then reads5 trade_of (name_in a) (number_in b) (name_in c) (quantity_in d) (premium_in e)
+    else if bytes_eq verb (codes "HOLD") then reads5 hold_of (name_in a) (number_in b) (name_in c) (quantity_in d) (premium_in e)
+    else if bytes_eq verb (codes "FILL") then reads5 fill_of (name_in a) (number_in b) (number_in c) (quantity_in d) (premium_in e)
     else Err Syntax
 
 unfoldable pub line_in : List (List ℕ) → Result Line IdFault

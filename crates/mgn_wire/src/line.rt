@@ -5,7 +5,7 @@ ghost use Rattle.mgn_ids.specs.Name.{name_in};
 ghost use Rattle.mgn_ids.specs.Number.{number_in};
 ghost use Rattle.mgn_machine.specs.declared.command.Command.TheVariants as command;
 ghost use Rattle.mgn_wire.specs.Word.{mode_in};
-ghost use Rattle.mgn_wire.specs.Line.{◌<*>◌, line_in, line_of, of_words, reads2, reads3, reads5, with_none, with_one, with_two, with_three, with_five};
+ghost use Rattle.mgn_wire.specs.Line.{◌<*>◌, fill_of, hold_of, line_in, line_of, of_words, reads2, reads3, reads5, trade_of, with_none, with_one, with_two, with_three, with_five};
 
 use crate::fault::LineFault;
 use crate::words::{read_mode, split_words};
@@ -13,7 +13,7 @@ use mgn_ids::{
     AccountName, ClassName, ContractName, IdFault, LotId, LotQuantity, OrderId, OriginName,
     Premium, SetName, Units,
 };
-use mgn_machine::Command;
+use mgn_machine::{Command, Fill, Hold, Trade};
 
 const LONGEST_LINE: usize = 256;
 
@@ -85,7 +85,7 @@ fn read_trade(
     quantity: &[u8],
     premium: &[u8],
 ) -> Result<Command, IdFault>
-    ensures { result ≡ reads5 command.Trade (name_in account.now) (number_in lot.now) (name_in contract.now)
+    ensures { result ≡ reads5 trade_of (name_in account.now) (number_in lot.now) (name_in contract.now)
         (quantity_in quantity.now) (premium_in premium.now) }
 {
     let account = AccountName::read(account)?;
@@ -93,7 +93,13 @@ fn read_trade(
     let contract = ContractName::read(contract)?;
     let quantity = LotQuantity::read(quantity)?;
     let premium = Premium::read(premium)?;
-    Ok(Command::Trade(account, lot, contract, quantity, premium))
+    Ok(Command::Trade(Trade {
+        account,
+        lot,
+        contract,
+        quantity,
+        premium,
+    }))
 }
 
 fn read_hold(
@@ -103,7 +109,7 @@ fn read_hold(
     quantity: &[u8],
     limit: &[u8],
 ) -> Result<Command, IdFault>
-    ensures { result ≡ reads5 command.Hold (name_in account.now) (number_in order.now) (name_in contract.now)
+    ensures { result ≡ reads5 hold_of (name_in account.now) (number_in order.now) (name_in contract.now)
         (quantity_in quantity.now) (premium_in limit.now) }
 {
     let account = AccountName::read(account)?;
@@ -111,7 +117,13 @@ fn read_hold(
     let contract = ContractName::read(contract)?;
     let quantity = LotQuantity::read(quantity)?;
     let limit = Premium::read(limit)?;
-    Ok(Command::Hold(account, order, contract, quantity, limit))
+    Ok(Command::Hold(Hold {
+        account,
+        order,
+        contract,
+        quantity,
+        limit,
+    }))
 }
 
 fn read_fill(
@@ -121,7 +133,7 @@ fn read_fill(
     quantity: &[u8],
     premium: &[u8],
 ) -> Result<Command, IdFault>
-    ensures { result ≡ reads5 command.Fill (name_in account.now) (number_in order.now) (number_in lot.now)
+    ensures { result ≡ reads5 fill_of (name_in account.now) (number_in order.now) (number_in lot.now)
         (quantity_in quantity.now) (premium_in premium.now) }
 {
     let account = AccountName::read(account)?;
@@ -129,7 +141,13 @@ fn read_fill(
     let lot = LotId::read(lot)?;
     let quantity = LotQuantity::read(quantity)?;
     let premium = Premium::read(premium)?;
-    Ok(Command::Fill(account, order, lot, quantity, premium))
+    Ok(Command::Fill(Fill {
+        account,
+        order,
+        lot,
+        quantity,
+        premium,
+    }))
 }
 
 // The commands of no word, one, two, three and five words after the verb.

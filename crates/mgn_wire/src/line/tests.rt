@@ -24,12 +24,12 @@ fn fault_in(line: &[u8]) -> Option<LineFault> {
 
 fn is_trade(command: &Command) -> bool {
     match command {
-        Command::Trade(account, lot, contract, quantity, premium) => {
-            account.as_bytes() == b"A1".as_slice()
-                && lot.number() == 1
-                && contract.as_bytes() == b"AAA1".as_slice()
-                && quantity.quantity().contracts() == -2
-                && premium.cents() == 0
+        Command::Trade(trade) => {
+            trade.account.as_bytes() == b"A1".as_slice()
+                && trade.lot.number() == 1
+                && trade.contract.as_bytes() == b"AAA1".as_slice()
+                && trade.quantity.quantity().contracts() == -2
+                && trade.premium.cents() == 0
         }
         _ => false,
     }
@@ -48,9 +48,9 @@ fn reads_commands(rt: HostRuntime) {
     let bust = command_in(b"BUST A1 1");
     assert!(rt; matches!(&bust, Some(Command::Bust(_, _))));
     let hold = command_in(b"HOLD A1 1 AAA1 -2 50");
-    assert!(rt; matches!(&hold, Some(Command::Hold(_, _, _, _, _))));
+    assert!(rt; matches!(&hold, Some(Command::Hold(_))));
     let fill = command_in(b"FILL A1 1 1 -2 50");
-    assert!(rt; matches!(&fill, Some(Command::Fill(_, _, _, _, _))));
+    assert!(rt; matches!(&fill, Some(Command::Fill(_))));
     let release = command_in(b"RELEASE A1 1");
     assert!(rt; matches!(&release, Some(Command::Release(_, _))));
     let end = command_in(b"END");
