@@ -17,8 +17,10 @@ from collections import namedtuple
 
 import source
 
-# What the session's contract may stand on: what it did when new sets during the day became part of the machine. The aim is 800.
-MOST = 1220
+# What the session's contract may stand on: what it did when lines could ask for new sets. The aim is 800 without what a set's
+# file says, which is read apart.
+MOST = 1450
+APART = ("mgn_setfile",)
 HEAD = re.compile(r"(?:(?:pub|abbrev|unfoldable|opaque|data|record)\s+)+([^\s:({]+)")
 FIXITY = re.compile(r"infix[lr]?\s+\d+\s+(\S+)")
 # key: (crate, file, name); scope: the use lines that its words are read by
@@ -177,11 +179,12 @@ class Definitions:
             if it:
                 yield it
 
-    def closure(self, crate, words, scope):
+    def closure(self, crate, words, scope, apart=()):
+        """Returns the definitions that these words stand on, without those of the crates that are apart."""
         found, left = {}, list(self.cited(crate, words, "", scope, True))
         while left:
             it = left.pop()
-            if (it.file, it.name) in found:
+            if (it.file, it.name) in found or it.crate in apart:
                 continue
             found[it.file, it.name] = it
             left += self.cited(it.crate, it.words, *it.scope, it.file.endswith(".rt"))
@@ -227,6 +230,9 @@ def main():
     stated = sum(it.lines for it in of_specs)
     print(f"the contract of {given.function} ({os.path.relpath(file, source.TOP)}) stands on {len(of_specs)} definitions, {stated} lines in {len({it.file for it in of_specs})} files of specs/,")
     print(f"and on {len(found) - len(of_specs)} types and constants, {total - stated} lines")
+    if crate not in APART:
+        rest = [it for it in definitions.closure(crate, words, scope, APART) if it.file.endswith(".antt")]
+        print(f"without what a set's file says: {len(rest)} definitions, {sum(it.lines for it in rest)} lines")
     is_well = most is None or stated <= most
     if not is_well:
         print(f"that is more than {most} lines of specs/")

@@ -1,5 +1,5 @@
 -- How a book keeps its history: the figures of replies, and the sets that were refused, stand in lists of their own.
-use Rattle.std.specs.Prelude.{ℕ, pos, ◌+◌, ◌≤◌, All, Bool, List, [], ◌∷◌, slice_index_or}
+use Rattle.std.specs.Prelude.{◌≡◌, ℕ, pos, ◌+◌, ◌++◌, ◌≤◌, All, Bool, List, [], ◌∷◌, slice_index_or}
 use Rattle.mgn_params.specs.Tables.{Tables, no_tables}
 use Rattle.mgn_machine.specs.declared.entry.Entry.{Entry}
 use Rattle.mgn_machine.specs.declared.reply.Figures.{Figures}
@@ -26,11 +26,9 @@ figures_of (Told figures) = figures ∷ []
 figures_of (NewSet told) = []
 figures_of (Refused why) = []
 
--- the sets that a request adds to the list of refused ones
-abbrev pub sets_of : Recorded → List Tables
-sets_of (Asked command) = []
-sets_of (InForce version) = []
-sets_of (SetRefused set) = set ∷ []
+-- sets were added to a list, or none
+abbrev pub Grows : List Tables → List Tables → Type 0
+Grows old new = (more : List Tables) × (new ≡ old ++ more)
 
 -- stands for the figures past the end of the list, which no one asks for
 abbrev pub no_figures : Figures

@@ -1,7 +1,8 @@
-ghost use Rattle.std.specs.Prelude.{◌≡◌, ◌<◌, ◌≤◌, ◌++◌, ◌∷◌, [], length, vec_capacity, vec_len, IfOk, IsOk, OnErr, OnOk, ℕ, true};
+ghost use Rattle.std.specs.Prelude.{◌≡◌, ◌<◌, ◌≤◌, ◌++◌, ◌∷◌, [], length, slice_index_or, vec_capacity, vec_len, IfOk, IfSome, IsOk, OnErr, OnOk, ℕ, true};
 ghost use Rattle.mgn_machine.specs.declared.request.Recorded.TheVariants.{Asked, InForce};
 ghost use Rattle.mgn_machine.specs.History.{entry};
-ghost use Rattle.mgn_book.specs.History.{figures_needed, figures_of, recorded_of, reply_of, sets_needed, sets_of};
+ghost use Rattle.mgn_params.specs.Tables.{no_tables};
+ghost use Rattle.mgn_book.specs.History.{Grows, figures_needed, figures_of, recorded_of, reply_of, sets_needed};
 
 use mgn_ids::SessionNo;
 use mgn_machine::{Command, Figures, NewSet, Recorded, Refusal, Reply};
@@ -131,12 +132,24 @@ impl History {
     }
 }
 
-// Puts a set that was refused at the end of a list. Without memory for that the list is as it was.
+// Where a list has a set.
+fn place_of(sets: &[ParamSet], set: &ParamSet) -> Option<usize>
+    ensures { IfSome result (λ i. (i < length sets.now) × (slice_index_or sets.now i (no_tables []) ≡ set.now)) }
+{
+    for place in 0..sets.len() {
+        if sets[place].is_same(set) {
+            return Some(place);
+        }
+    }
+    None
+}
+
+// Puts a set that was refused at the end of a list, unless the list has it. Without memory for that the list is as it was.
 fn store_request(
     refused: &mut Vec<ParamSet>,
     request: Recorded,
 ) -> Result<StoredRequest, AllocError>
-    ensures grown { OnOk result (refused.new.items ≡ refused.old.items ++ sets_of request) }
+    ensures grown { OnOk result (Grows refused.old.items refused.new.items) }
     ensures needed { IfOk result (λ stored. sets_needed stored ≤ length refused.new.items) }
     ensures request { IfOk result (λ stored. recorded_of refused.new.items stored ≡ request) }
     ensures err { OnErr result (refused.new.items ≡ refused.old.items) }
@@ -146,6 +159,9 @@ fn store_request(
         Recorded::Asked(command) => Ok(StoredRequest::Asked(command)),
         Recorded::InForce(version) => Ok(StoredRequest::InForce(version)),
         Recorded::SetRefused(set) => {
+            if let Some(place) = place_of(refused.as_slice(), &set) {
+                return Ok(StoredRequest::SetRefused(place));
+            }
             refused.push(set)?;
             Ok(StoredRequest::SetRefused(refused.len() - 1))
         }

@@ -4,7 +4,7 @@ use Rattle.mgn_machine.specs.declared.entry.Entry.{Entry}
 use Rattle.mgn_machine.specs.declared.reply.Figures.{Figures}
 use Rattle.mgn_machine.specs.History.{entry}
 use Rattle.mgn_book.specs.declared.history.StoredEntry.{StoredEntry}
-use Rattle.mgn_book.specs.History.{AreShown, entry_of, figures_of, recorded_of, reply_of, sets_of}
+use Rattle.mgn_book.specs.History.{AreShown, entry_of, figures_of, recorded_of, reply_of}
 use Rattle.mgn_book.proofs.StoredReplies.{entries-pushed, shown-more}
 use Rattle.mgn_book.proofs.history.History.push_switch.Goals as goal
 
@@ -20,7 +20,7 @@ invariant_of-self-2 c =
     (
     shown-more (length before) (length sets) (length figures) (length refused) stored next c.self.invariant
     (omega (arith, ap length c.store-reply.ensures.grown, length-append before (figures_of c.args.reply.now)))
-    (omega (arith, ap length c.in_ok-request.ensures.grown, length-append sets (sets_of c.args.request)))
+    (omega (arith, ap length c.in_ok-request.ensures.grown.1, length-append sets c.in_ok-request.ensures.grown.0))
     c.store-reply.ensures.needed
     c.in_ok-request.ensures.needed
     )
@@ -30,13 +30,13 @@ returns-clause-ok c =
     let before : List Figures = c.self.inside.figures.items in
     let more : List Figures = figures_of c.args.reply.now in
     let sets : List Tables = c.self.inside.refused.items in
-    let others : List Tables = sets_of c.args.request in
+    let others : List Tables = c.in_ok-request.ensures.grown.0 in
     let stored : List StoredEntry = c.self.inside.entries.items in
     let next : StoredEntry = record { session = c.args.session; number = c.args.number; request = c.in_ok-request.request; reply = c.store-reply.result } in
-    let asked : recorded_of (sets ++ others) next.request ≡ c.args.request = ap (λ (ts : List Tables). recorded_of ts next.request) (sym c.in_ok-request.ensures.grown) ∙ c.in_ok-request.ensures.request in
+    let asked : recorded_of (sets ++ others) next.request ≡ c.args.request = ap (λ (ts : List Tables). recorded_of ts next.request) (sym c.in_ok-request.ensures.grown.1) ∙ c.in_ok-request.ensures.request in
     let replied : reply_of (before ++ more) next.reply ≡ c.args.reply.now = ap (λ (figures : List Figures). reply_of figures next.reply) (sym c.store-reply.ensures.grown) ∙ c.store-reply.ensures.reply in
     ap (λ (xs : List StoredEntry). map (entry_of c.store-reply.new.figures.items c.store_request.new.refused.items) xs) c.push_reserved.ensures.items
     ∙ ap (λ (figures : List Figures). map (entry_of figures c.store_request.new.refused.items) (stored ++ next ∷ [])) c.store-reply.ensures.grown
-    ∙ ap (λ (ts : List Tables). map (entry_of (before ++ more) ts) (stored ++ next ∷ [])) c.in_ok-request.ensures.grown
+    ∙ ap (λ (ts : List Tables). map (entry_of (before ++ more) ts) (stored ++ next ∷ [])) c.in_ok-request.ensures.grown.1
     ∙ entries-pushed before more sets others stored next c.args.request c.args.reply.now c.self.invariant asked replied
     ∙ ap (λ (es : List Entry). es ++ entry c.args.session c.args.number c.args.request c.args.reply.now ∷ []) (ap (λ v. v.entries) c.self.view_is)
