@@ -43,18 +43,12 @@ impl Register {
         ensures steps { Steps (traded set.now self.old.state trade.now) result self.old self.new }
     {
         set.limits();
-        let (place, i) = match self.trade_places(set, trade) {
-            Ok(places) => places,
-            Err(why) => return Err(Fault::Refused(why)),
-        };
+        let (place, i) = self.trade_places(set, trade)?;
         let change = Change::of_lot(i, trade.quantity, trade.premium);
         let lot = traded_lot(trade.lot, trade.contract, trade.quantity, trade.premium);
         let owner = &mut self.accounts[place];
         let row = &mut self.rows[owner.unit()];
-        match enter_lot(alloc, set, owner, row, &change, &lot) {
-            Ok(()) => {}
-            Err(_) => return Err(Fault::Memory),
-        }
+        enter_lot(alloc, set, owner, row, &change, &lot)?;
         Ok(())
     }
 
@@ -71,18 +65,12 @@ impl Register {
         ensures steps { Steps (undone self.old.state account number) result self.old self.new }
     {
         set.limits();
-        let (place, at) = match self.bust_places(account, number) {
-            Ok(found) => found,
-            Err(why) => return Err(Fault::Refused(why)),
-        };
+        let (place, at) = self.bust_places(account, number)?;
         let contract = self.contract_of_lot(set, place, at);
         let owner = &mut self.accounts[place];
         let row = &mut self.rows[owner.unit()];
         let change = Change::of_bust(contract, owner.lot_at(at));
-        match bust_lot(alloc, set, owner, row, &change, at) {
-            Ok(()) => {}
-            Err(_) => return Err(Fault::Memory),
-        }
+        bust_lot(alloc, set, owner, row, &change, at)?;
         Ok(())
     }
 
@@ -98,14 +86,9 @@ impl Register {
         ensures kept { IsKept set.now self.new }
         ensures steps { Steps (posted set.now self.old.state account class.now units) result self.old self.new }
     {
-        let (place, amount) = match self.post_place(set, account, class, units) {
-            Ok(found) => found,
-            Err(why) => return Err(Fault::Refused(why)),
-        };
-        match self.write_amount(set, place, class, amount) {
-            Ok(()) => Ok(()),
-            Err(_) => Err(Fault::Memory),
-        }
+        let (place, amount) = self.post_place(set, account, class, units)?;
+        self.write_amount(set, place, class, amount)?;
+        Ok(())
     }
 
     /// Cash or units of a class are drawn, where the unit has room without them. It takes no memory.
@@ -121,10 +104,7 @@ impl Register {
         ensures steps { Steps (drawn set.now self.old.state account class.now units) result self.old self.new }
         ensures no_memory { result ≢ Err Fault.Memory }
     {
-        let (place, amount) = match self.draw_place(set, account, class, units) {
-            Ok(found) => found,
-            Err(why) => return Err(Fault::Refused(why)),
-        };
+        let (place, amount) = self.draw_place(set, account, class, units)?;
         if self.lacks_room_with(set, place, class, amount) {
             return Err(Fault::Refused(Refusal::NoRoom));
         }

@@ -39,10 +39,7 @@ fn order_place(owner: &Account, order: OrderId) -> Result<usize, Refusal>
     ensures place { result ≡ found (place_of_order owner.now.holds order) Refusal.NoOrder }
     ensures within { IfOk result (λ j. j < length owner.now.holds) }
 {
-    match owner.order_place(order) {
-        Some(place) => Ok(place),
-        None => Err(Refusal::NoOrder),
-    }
+    owner.order_place(order).ok_or(Refusal::NoOrder)
 }
 
 // A premium other than 0 is for options of the premium style alone, by the place of their contract.
@@ -119,18 +116,12 @@ impl Register {
         ensures steps { Steps (entered set.now self.old.state hold.now) result self.old self.new }
     {
         set.limits();
-        let (place, i) = match self.hold_places(set, hold) {
-            Ok(places) => places,
-            Err(why) => return Err(Fault::Refused(why)),
-        };
+        let (place, i) = self.hold_places(set, hold)?;
         let change = Change::of_hold(i, hold.quantity, hold.limit);
         let held = new_hold(hold);
         let owner = &mut self.accounts[place];
         let row = &mut self.rows[owner.unit()];
-        match enter_hold(alloc, set, owner, row, &change, &held) {
-            Ok(()) => {}
-            Err(why) => return Err(why),
-        }
+        enter_hold(alloc, set, owner, row, &change, &held)?;
         Ok(())
     }
 
@@ -167,20 +158,14 @@ impl Register {
         ensures steps { Steps (filled set.now self.old.state fill.now) result self.old self.new }
     {
         set.limits();
-        let (place, hold) = match self.fill_places(set, fill) {
-            Ok(places) => places,
-            Err(why) => return Err(Fault::Refused(why)),
-        };
+        let (place, hold) = self.fill_places(set, fill)?;
         let i = self.held_contract(set, place, hold);
         let owner = &mut self.accounts[place];
         let held = *owner.hold_at(hold);
         let change = Change::of_fill(i, fill.quantity, held.limit, fill.premium);
         let lot = traded_lot(fill.lot, held.contract, fill.quantity, fill.premium);
         let row = &mut self.rows[owner.unit()];
-        match fill_hold(alloc, set, owner, row, &change, hold, &lot) {
-            Ok(()) => {}
-            Err(_) => return Err(Fault::Memory),
-        }
+        fill_hold(alloc, set, owner, row, &change, hold, &lot)?;
         Ok(())
     }
 
@@ -197,18 +182,12 @@ impl Register {
         ensures steps { Steps (released self.old.state account order) result self.old self.new }
     {
         set.limits();
-        let (place, hold) = match self.release_places(account, order) {
-            Ok(places) => places,
-            Err(why) => return Err(Fault::Refused(why)),
-        };
+        let (place, hold) = self.release_places(account, order)?;
         let i = self.held_contract(set, place, hold);
         let owner = &mut self.accounts[place];
         let change = Change::of_release(i, owner.hold_at(hold));
         let row = &mut self.rows[owner.unit()];
-        match release_hold(alloc, set, owner, row, &change, hold) {
-            Ok(()) => {}
-            Err(_) => return Err(Fault::Memory),
-        }
+        release_hold(alloc, set, owner, row, &change, hold)?;
         Ok(())
     }
 }
@@ -236,15 +215,11 @@ fn enter_hold(
     ensures same_account { OnErr result (owner.new ≡ owner.old) }
     ensures same_row { OnErr result (row.new ≡ row.old) }
 {
-    let Ok(priced) = row.priced_with(alloc, set, change, &mut Work::new()) else {
-        return Err(Fault::Memory);
-    };
+    let priced = row.priced_with(alloc, set, change, &mut Work::new())?;
     if row.lacks_room_after(set, change, &priced) {
         return Err(Fault::Refused(Refusal::NoRoom));
     }
-    if owner.add_hold(held).is_err() {
-        return Err(Fault::Memory);
-    }
+    owner.add_hold(held)?;
     row.apply(set, change, &priced);
     Ok(())
 }

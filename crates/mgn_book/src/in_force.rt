@@ -80,10 +80,8 @@ fn refuse_set(
     ensures same_history { OnErr result (history.new.entries ≡ history.old.entries) }
 {
     let reply = Reply::Refused(why);
-    match history.push_switch(session, number, Recorded::SetRefused(set), &reply) {
-        Ok(()) => Ok(reply),
-        Err(_) => Err(Fault::Memory),
-    }
+    history.push_switch(session, number, Recorded::SetRefused(set), &reply)?;
+    Ok(reply)
 }
 
 /// One switch to a set: it comes into force, or is refused, and the history tells which. Where memory is refused

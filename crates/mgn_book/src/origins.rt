@@ -119,22 +119,15 @@ impl Register {
         ensures kept { IsKept set.now self.new }
         ensures steps { Steps (originated self.old.state name mode) result self.old self.new }
     {
-        match self.origin_fits(name, mode) {
-            Ok(()) => {}
-            Err(why) => return Err(Fault::Refused(why)),
-        }
-        if self.origins.reserve(1).is_err() {
-            return Err(Fault::Memory);
-        }
+        self.origin_fits(name, mode)?;
+        self.origins.reserve(1)?;
         match mode {
             Mode::Gross => {
                 self.origins.push_reserved(Origin { name, unit: None });
                 Ok(())
             }
             Mode::Net => {
-                let Ok(unit) = push_flat(&mut self.rows, alloc, set) else {
-                    return Err(Fault::Memory);
-                };
+                let unit = push_flat(&mut self.rows, alloc, set)?;
                 self.origins.push_reserved(Origin {
                     name,
                     unit: Some(unit),
@@ -156,18 +149,12 @@ impl Register {
         ensures kept { IsKept set.now self.new }
         ensures steps { Steps (opened self.old.state name origin) result self.old self.new }
     {
-        let (place, unit) = match self.open_home(name, origin) {
-            Ok(home) => home,
-            Err(why) => return Err(Fault::Refused(why)),
-        };
-        let opened = match unit {
-            Some(unit) => self.open_in(alloc, set, name, place, unit),
-            None => self.open_own(alloc, set, name, place),
-        };
-        match opened {
-            Ok(()) => Ok(()),
-            Err(_) => Err(Fault::Memory),
+        let (place, unit) = self.open_home(name, origin)?;
+        match unit {
+            Some(unit) => self.open_in(alloc, set, name, place, unit)?,
+            None => self.open_own(alloc, set, name, place)?,
         }
+        Ok(())
     }
 
     // An account more in a unit that is there.

@@ -62,10 +62,7 @@ pub(crate) fn contract_of(set: &ParamSet, contract: ContractName) -> Result<usiz
     ensures place { result ≡ contract_of set.now contract }
     ensures within { IfOk result (λ i. i < length set.now.contracts) }
 {
-    match set.contract(contract) {
-        Some(place) => Ok(place),
-        None => Err(Refusal::NoContract),
-    }
+    set.contract(contract).ok_or(Refusal::NoContract)
 }
 
 // Where a contract stands that the set has.
@@ -102,10 +99,7 @@ fn lot_place(owner: &Account, number: LotId) -> Result<usize, Refusal>
     ensures place { result ≡ found (place_of_lot owner.now.lots number) NoTrade }
     ensures within { IfOk result (λ i. i < length owner.now.lots) }
 {
-    match owner.lot_place(number) {
-        Some(place) => Ok(place),
-        None => Err(Refusal::NoTrade),
-    }
+    owner.lot_place(number).ok_or(Refusal::NoTrade)
 }
 
 fn is_busted(mark: Mark) -> bool
@@ -148,10 +142,7 @@ impl Register {
         ensures place { result ≡ place_of self.now.state account }
         ensures within { IfOk result (λ k. k < length self.now.state.accounts) }
     {
-        match self.names.place(account) {
-            Some(place) => Ok(place),
-            None => Err(Refusal::NoAccount),
-        }
+        self.names.place(account).ok_or(Refusal::NoAccount)
     }
 
     // The row of an account's unit.

@@ -30,10 +30,7 @@ impl Register {
         ensures steps { Steps (ended self.old.state) result self.old self.new }
         ensures no_memory { result ≢ Err Fault.Memory }
     {
-        match refuse_if(self.closed, Refusal::Closed) {
-            Ok(()) => {}
-            Err(why) => return Err(Fault::Refused(why)),
-        }
+        refuse_if(self.closed, Refusal::Closed)?;
         self.closed = true;
         Ok(())
     }

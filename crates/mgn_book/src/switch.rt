@@ -99,14 +99,8 @@ impl Register {
         ensures rows { IfOk result (λ rows. (u : ℕ) (d : UnitRow) → u < length rows.items →
             IsUnitRow new.now self.now.state.accounts u (slice_index_or rows.items u d)) }
     {
-        match self.set_fits(old, new) {
-            Ok(()) => {}
-            Err(why) => return Err(Fault::Refused(why)),
-        }
-        match self.rows_of(alloc, old, new) {
-            Ok(rows) => Ok(rows),
-            Err(_) => Err(Fault::Memory),
-        }
+        self.set_fits(old, new)?;
+        Ok(self.rows_of(alloc, old, new)?)
     }
 
     /// Another set is in force, under which these are the rows of all units. Gives how many of these are on call.

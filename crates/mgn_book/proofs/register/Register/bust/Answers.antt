@@ -20,8 +20,8 @@ bust_lot-requires-clause-roomy c =
     let f = book_state r.origins.items r.accounts.items r.rows.items r.closed r.version in
     let a = c.index_mut-owner.result.now in
     let row = c.index_mut-row.result.now in
-    let k = c.in-Ok.found.0 in
-    let at = c.in-Ok.found.1 in
+    let k = c.in_ok-place.place in
+    let at = c.in_ok-place.at in
     let within : k < length r.accounts.items = search rules in
     let there : account_at c.args.self.now.state.accounts k ≡ a =
     sym (c.index_mut-owner.ensures.value ∙ get_or_default r.accounts.items k a no_account within ∙ ap (λ (g : BookState). account_at g.state.accounts k) c.self.view_is)
@@ -32,8 +32,8 @@ bust_lot-requires-clause-roomy c =
       account = within;
       was = c.index_mut-owner.ensures.value;
       row = c.index_mut-row.ensures.value ∙ ap (λ (u : _). get_or r.rows.items u row) c.unit.ensures;
-      lot = subst (λ (x : AccountState). at < length x.lots) there c.in-Ok.ensures.lot;
-      live = subst (λ (x : AccountState). is_live (lot_at x.lots at).mark ≡ true) there c.in-Ok.ensures.live;
+      lot = subst (λ (x : AccountState). at < length x.lots) there c.in_ok-place.ensures.lot;
+      live = subst (λ (x : AccountState). is_live (lot_at x.lots at).mark ≡ true) there c.in_ok-place.ensures.live;
       stands = subst (λ (x : AccountState). contract_of set (lot_at x.lots at).contract ≡ Ok c.contract_of_lot-contract.result) there c.contract_of_lot-contract.ensures.stands;
     } in
     let change_is : c.of_bust-change.result ≡ bust_change c.contract_of_lot-contract.result (lot_at a.lots at) =
@@ -41,21 +41,21 @@ bust_lot-requires-clause-roomy c =
     in
     subst (λ (change : Change). IsRoomy change row) (sym change_is) (bust-roomy set f k at c.contract_of_lot-contract.result a row busting)
 
-pub returns-in-Err-bust_lot-clause-kept : goal.returns-in-Err-bust_lot-clause-kept
-returns-in-Err-bust_lot-clause-kept c =
+pub returns-in_err-bust_lot-clause-kept : goal.returns-in_err-bust_lot-clause-kept
+returns-in_err-bust_lot-clause-kept c =
     let r = c.self.inside in
     let a = c.index_mut-owner.result.now in
     let kept : IsKept c.args.set.now (book_state r.origins.items r.accounts.items r.rows.items r.closed r.version) = search rules in
     let same : c.bust_lot.new.owner ≡ a = search rules in
     let row : c.bust_lot.new.row ≡ c.index_mut-row.result.now = search rules in
-    kept-same c.args.set.now r.origins.items r.accounts.items r.rows.items r.closed r.version c.in-Ok.found.0 c.unit.result a c.bust_lot.new.owner c.index_mut-row.result.now c.bust_lot.new.row kept c.index_mut-owner.ensures.value same c.index_mut-row.ensures.value row
+    kept-same c.args.set.now r.origins.items r.accounts.items r.rows.items r.closed r.version c.in_ok-place.place c.unit.result a c.bust_lot.new.owner c.index_mut-row.result.now c.bust_lot.new.row kept c.index_mut-owner.ensures.value same c.index_mut-row.ensures.value row
 
 pub invariant_of-self-2 : goal.invariant_of-self-2
 invariant_of-self-2 c =
     let a = c.index_mut-owner.result.now in
-    let done : c.bust_lot.new.owner ≡ with_bust a c.in-Ok.found.1 = search rules in
-    names-kept c.self.inside.names c.self.inside.accounts.items c.in-Ok.found.0 c.bust_lot.new.owner a c.self.invariant
-    (ap (λ (x : AccountState). x.name) (done ∙ ap (λ (x : AccountState). with_bust x c.in-Ok.found.1) c.index_mut-owner.ensures.value))
+    let done : c.bust_lot.new.owner ≡ with_bust a c.in_ok-place.at = search rules in
+    names-kept c.self.inside.names c.self.inside.accounts.items c.in_ok-place.place c.bust_lot.new.owner a c.self.invariant
+    (ap (λ (x : AccountState). x.name) (done ∙ ap (λ (x : AccountState). with_bust x c.in_ok-place.at) c.index_mut-owner.ensures.value))
 
 pub returns-clause-kept : goal.returns-clause-kept
 returns-clause-kept c =
@@ -64,8 +64,8 @@ returns-clause-kept c =
     let f = book_state r.origins.items r.accounts.items r.rows.items r.closed r.version in
     let a = c.index_mut-owner.result.now in
     let row = c.index_mut-row.result.now in
-    let k = c.in-Ok.found.0 in
-    let at = c.in-Ok.found.1 in
+    let k = c.in_ok-place.place in
+    let at = c.in_ok-place.at in
     let within : k < length r.accounts.items = search rules in
     let there : account_at c.args.self.now.state.accounts k ≡ a =
     sym (c.index_mut-owner.ensures.value ∙ get_or_default r.accounts.items k a no_account within ∙ ap (λ (g : BookState). account_at g.state.accounts k) c.self.view_is)
@@ -76,8 +76,8 @@ returns-clause-kept c =
       account = within;
       was = c.index_mut-owner.ensures.value;
       row = c.index_mut-row.ensures.value ∙ ap (λ (u : _). get_or r.rows.items u row) c.unit.ensures;
-      lot = subst (λ (x : AccountState). at < length x.lots) there c.in-Ok.ensures.lot;
-      live = subst (λ (x : AccountState). is_live (lot_at x.lots at).mark ≡ true) there c.in-Ok.ensures.live;
+      lot = subst (λ (x : AccountState). at < length x.lots) there c.in_ok-place.ensures.lot;
+      live = subst (λ (x : AccountState). is_live (lot_at x.lots at).mark ≡ true) there c.in_ok-place.ensures.live;
       stands = subst (λ (x : AccountState). contract_of set (lot_at x.lots at).contract ≡ Ok c.contract_of_lot-contract.result) there c.contract_of_lot-contract.ensures.stands;
     } in
     let change_is : c.of_bust-change.result ≡ bust_change c.contract_of_lot-contract.result (lot_at a.lots at) =

@@ -8,6 +8,3 @@ returns-clause-kept c =
     let r = c.self.inside in
     let kept : IsKept c.args.set.now (book_state r.origins.items r.accounts.items r.rows.items r.closed r.version) = search rules in
     kept-closed c.args.set.now (book_state r.origins.items r.accounts.items r.rows.items r.closed r.version) kept
-
-pub returns-in-Err-clause-no_memory : goal.returns-in-Err-clause-no_memory
-returns-in-Err-clause-no_memory c = λ same. cc

@@ -1,4 +1,4 @@
-use Rattle.std.proofs.Common.{◌≡◌, ◌<◌, ap, ◌∙◌, sym, subst, rules, get_or, set, length, true, false}
+use Rattle.std.proofs.Common.{◌≡◌, ℕ, ◌<◌, ap, ◌∙◌, sym, subst, rules, get_or, set, length, true, false}
 use Rattle.std.specs.Prelude.{Ok}
 use Rattle.std.proofs.lemmas.List.{get_or_default}
 use Rattle.mgn_holds.specs.declared.held.Held.{Held}
@@ -22,16 +22,16 @@ fill_hold-requires-clause-roomy c =
     let r = c.self.inside in
     let set' = c.args.set.now in
     let f = book_state r.origins.items r.accounts.items r.rows.items r.closed r.version in
-    let at = c.in-Ok.places in
+    let at : ℕ × ℕ = (c.in_ok-place.place, c.in_ok-place.hold) in
     let a = c.index_mut-owner.result.now in
-    let account : a ≡ account_at c.args.self.now.state.accounts c.in-Ok.places.0 =
-    c.index_mut-owner.ensures.value ∙ get_or_default c.self.inside.accounts.items c.in-Ok.places.0 a no_account (search rules)
-    ∙ ap (λ (g : BookState). account_at g.state.accounts c.in-Ok.places.0) c.self.view_is
+    let account : a ≡ account_at c.args.self.now.state.accounts c.in_ok-place.place =
+    c.index_mut-owner.ensures.value ∙ get_or_default c.self.inside.accounts.items c.in_ok-place.place a no_account (search rules)
+    ∙ ap (λ (g : BookState). account_at g.state.accounts c.in_ok-place.place) c.self.view_is
     in
-    let stands : contract_of c.args.set.now (hold_at a.holds c.in-Ok.places.1).contract ≡ Ok c.held_contract-i.result =
-    ap (λ (x : AccountState). contract_of c.args.set.now (hold_at x.holds c.in-Ok.places.1).contract) account ∙ c.held_contract-i.ensures.stands
+    let stands : contract_of c.args.set.now (hold_at a.holds c.in_ok-place.hold).contract ≡ Ok c.held_contract-i.result =
+    ap (λ (x : AccountState). contract_of c.args.set.now (hold_at x.holds c.in_ok-place.hold).contract) account ∙ c.held_contract-i.ensures.stands
     in
-    let inside : c.in-Ok.places.1 < length a.holds = subst (λ (x : AccountState). c.in-Ok.places.1 < length x.holds) (sym account) (c.in-Ok.ensures.hold) in
+    let inside : c.in_ok-place.hold < length a.holds = subst (λ (x : AccountState). c.in_ok-place.hold < length x.holds) (sym account) (c.in_ok-place.ensures.hold) in
     let row = c.index_mut-row.result.now in
     let reads : Reads set' f at.0 c.held_contract-i.result a row (hold_at a.holds at.1).contract = record {
       within = c.limits.ensures;
@@ -44,24 +44,24 @@ fill_hold-requires-clause-roomy c =
     let x = hold_at a.holds at.1 in
     let change = fill_change c.held_contract-i.result c.args.fill.now.quantity x.limit c.args.fill.now.premium in
     let is : c.of_fill-change.result ≡ change = c.of_fill-change.ensures.change ∙ ap (λ (y : Held). fill_change c.held_contract-i.result c.args.fill.now.quantity y.limit c.args.fill.now.premium) c.hold_at-held.ensures.held in
-    let c_is : covers x c.args.fill.now.quantity ≡ true = ap (λ (y : AccountState). covers (hold_at y.holds at.1) c.args.fill.now.quantity) account ∙ c.in-Ok.ensures.covers in
+    let c_is : covers x c.args.fill.now.quantity ≡ true = ap (λ (y : AccountState). covers (hold_at y.holds at.1) c.args.fill.now.quantity) account ∙ c.in_ok-place.ensures.covers in
     subst (λ (change : Change). IsRoomy change row) (sym is) (fill-roomy set' f at.0 c.held_contract-i.result at.1 a row c.args.fill.now reads inside c_is)
 
-pub returns-in-Err-fill_hold-clause-kept : goal.returns-in-Err-fill_hold-clause-kept
-returns-in-Err-fill_hold-clause-kept c =
+pub returns-in_err-fill_hold-clause-kept : goal.returns-in_err-fill_hold-clause-kept
+returns-in_err-fill_hold-clause-kept c =
     let r = c.self.inside in
     let set' = c.args.set.now in
     let f = book_state r.origins.items r.accounts.items r.rows.items r.closed r.version in
-    let at = c.in-Ok.places in
+    let at : ℕ × ℕ = (c.in_ok-place.place, c.in_ok-place.hold) in
     let a = c.index_mut-owner.result.now in
-    let account : a ≡ account_at c.args.self.now.state.accounts c.in-Ok.places.0 =
-    c.index_mut-owner.ensures.value ∙ get_or_default c.self.inside.accounts.items c.in-Ok.places.0 a no_account (search rules)
-    ∙ ap (λ (g : BookState). account_at g.state.accounts c.in-Ok.places.0) c.self.view_is
+    let account : a ≡ account_at c.args.self.now.state.accounts c.in_ok-place.place =
+    c.index_mut-owner.ensures.value ∙ get_or_default c.self.inside.accounts.items c.in_ok-place.place a no_account (search rules)
+    ∙ ap (λ (g : BookState). account_at g.state.accounts c.in_ok-place.place) c.self.view_is
     in
-    let stands : contract_of c.args.set.now (hold_at a.holds c.in-Ok.places.1).contract ≡ Ok c.held_contract-i.result =
-    ap (λ (x : AccountState). contract_of c.args.set.now (hold_at x.holds c.in-Ok.places.1).contract) account ∙ c.held_contract-i.ensures.stands
+    let stands : contract_of c.args.set.now (hold_at a.holds c.in_ok-place.hold).contract ≡ Ok c.held_contract-i.result =
+    ap (λ (x : AccountState). contract_of c.args.set.now (hold_at x.holds c.in_ok-place.hold).contract) account ∙ c.held_contract-i.ensures.stands
     in
-    let inside : c.in-Ok.places.1 < length a.holds = subst (λ (x : AccountState). c.in-Ok.places.1 < length x.holds) (sym account) (c.in-Ok.ensures.hold) in
+    let inside : c.in_ok-place.hold < length a.holds = subst (λ (x : AccountState). c.in_ok-place.hold < length x.holds) (sym account) (c.in_ok-place.ensures.hold) in
     let row = c.index_mut-row.result.now in
     let reads : Reads set' f at.0 c.held_contract-i.result a row (hold_at a.holds at.1).contract = record {
       within = c.limits.ensures;
@@ -79,25 +79,25 @@ returns-in-Err-fill_hold-clause-kept c =
 pub invariant_of-self-2 : goal.invariant_of-self-2
 invariant_of-self-2 c =
     let a = c.index_mut-owner.result.now in
-    let added : c.fill_hold.new.owner ≡ with_fill a c.in-Ok.places.1 c.traded_lot-lot.result = search rules in
-    names-kept c.self.inside.names c.self.inside.accounts.items c.in-Ok.places.0 c.fill_hold.new.owner a c.self.invariant
-    (ap (λ (x : AccountState). x.name) (added ∙ ap (λ (x : AccountState). with_fill x c.in-Ok.places.1 c.traded_lot-lot.result) c.index_mut-owner.ensures.value))
+    let added : c.fill_hold.new.owner ≡ with_fill a c.in_ok-place.hold c.traded_lot-lot.result = search rules in
+    names-kept c.self.inside.names c.self.inside.accounts.items c.in_ok-place.place c.fill_hold.new.owner a c.self.invariant
+    (ap (λ (x : AccountState). x.name) (added ∙ ap (λ (x : AccountState). with_fill x c.in_ok-place.hold c.traded_lot-lot.result) c.index_mut-owner.ensures.value))
 
 pub returns-clause-kept : goal.returns-clause-kept
 returns-clause-kept c =
     let r = c.self.inside in
     let set' = c.args.set.now in
     let f = book_state r.origins.items r.accounts.items r.rows.items r.closed r.version in
-    let at = c.in-Ok.places in
+    let at : ℕ × ℕ = (c.in_ok-place.place, c.in_ok-place.hold) in
     let a = c.index_mut-owner.result.now in
-    let account : a ≡ account_at c.args.self.now.state.accounts c.in-Ok.places.0 =
-    c.index_mut-owner.ensures.value ∙ get_or_default c.self.inside.accounts.items c.in-Ok.places.0 a no_account (search rules)
-    ∙ ap (λ (g : BookState). account_at g.state.accounts c.in-Ok.places.0) c.self.view_is
+    let account : a ≡ account_at c.args.self.now.state.accounts c.in_ok-place.place =
+    c.index_mut-owner.ensures.value ∙ get_or_default c.self.inside.accounts.items c.in_ok-place.place a no_account (search rules)
+    ∙ ap (λ (g : BookState). account_at g.state.accounts c.in_ok-place.place) c.self.view_is
     in
-    let stands : contract_of c.args.set.now (hold_at a.holds c.in-Ok.places.1).contract ≡ Ok c.held_contract-i.result =
-    ap (λ (x : AccountState). contract_of c.args.set.now (hold_at x.holds c.in-Ok.places.1).contract) account ∙ c.held_contract-i.ensures.stands
+    let stands : contract_of c.args.set.now (hold_at a.holds c.in_ok-place.hold).contract ≡ Ok c.held_contract-i.result =
+    ap (λ (x : AccountState). contract_of c.args.set.now (hold_at x.holds c.in_ok-place.hold).contract) account ∙ c.held_contract-i.ensures.stands
     in
-    let inside : c.in-Ok.places.1 < length a.holds = subst (λ (x : AccountState). c.in-Ok.places.1 < length x.holds) (sym account) (c.in-Ok.ensures.hold) in
+    let inside : c.in_ok-place.hold < length a.holds = subst (λ (x : AccountState). c.in_ok-place.hold < length x.holds) (sym account) (c.in_ok-place.ensures.hold) in
     let row = c.index_mut-row.result.now in
     let reads : Reads set' f at.0 c.held_contract-i.result a row (hold_at a.holds at.1).contract = record {
       within = c.limits.ensures;
@@ -110,7 +110,7 @@ returns-clause-kept c =
     let x = hold_at a.holds at.1 in
     let change = fill_change c.held_contract-i.result c.args.fill.now.quantity x.limit c.args.fill.now.premium in
     let is : c.of_fill-change.result ≡ change = c.of_fill-change.ensures.change ∙ ap (λ (y : Held). fill_change c.held_contract-i.result c.args.fill.now.quantity y.limit c.args.fill.now.premium) c.hold_at-held.ensures.held in
-    let c_is : covers x c.args.fill.now.quantity ≡ true = ap (λ (y : AccountState). covers (hold_at y.holds at.1) c.args.fill.now.quantity) account ∙ c.in-Ok.ensures.covers in
+    let c_is : covers x c.args.fill.now.quantity ≡ true = ap (λ (y : AccountState). covers (hold_at y.holds at.1) c.args.fill.now.quantity) account ∙ c.in_ok-place.ensures.covers in
     let lot = traded_lot c.args.fill.now.lot x.contract c.args.fill.now.quantity c.args.fill.now.premium in
     let lot_is : c.traded_lot-lot.result ≡ lot = c.traded_lot-lot.ensures.lot ∙ ap (λ (y : Held). traded_lot c.args.fill.now.lot y.contract c.args.fill.now.quantity c.args.fill.now.premium) c.hold_at-held.ensures.held in
     let said : (priced : Priced) × Prices set' c.of_fill-change.result row priced = search rules in
@@ -118,7 +118,7 @@ returns-clause-kept c =
     let changed : c.fill_hold.new.row ≡ row_with set' c.of_fill-change.result row = search rules in
     let filled : c.fill_hold.new.owner ≡ with_fill a at.1 c.traded_lot-lot.result = search rules in
     let limits : IsLot lot = subst IsLot lot_is c.traded_lot-lot.ensures.limits in
-    let few : is_full a.lots ≡ false = ap (λ (y : AccountState). is_full y.lots) account ∙ c.in-Ok.ensures.few in
+    let few : is_full a.lots ≡ false = ap (λ (y : AccountState). is_full y.lots) account ∙ c.in_ok-place.ensures.few in
     let room : IsRoomy change row = fill-roomy set' f at.0 c.held_contract-i.result at.1 a row c.args.fill.now reads inside c_is in
     subst (λ (u : _). IsKept set' (book_state r.origins.items (set r.accounts.items at.0 c.fill_hold.new.owner) (set r.rows.items u c.fill_hold.new.row) r.closed r.version)) (sym c.unit.ensures)
     (fill-kept set' r.origins.items r.accounts.items r.rows.items r.closed r.version at.0 c.held_contract-i.result at.1 a c.fill_hold.new.owner row c.fill_hold.new.row c.args.fill.now said.0 reads inside c_is room prices limits few (changed ∙ ap (λ (y : Change). row_with set' y row) is) (filled ∙ ap (λ (y : Lot). with_fill a at.1 y) lot_is))

@@ -1,5 +1,5 @@
-use Rattle.std.proofs.Common.{◌≡◌, ap, ◌∙◌, sym, subst, rules, get_or, set, false}
-use Rattle.std.specs.Prelude.{Ok, Err}
+use Rattle.std.proofs.Common.{◌≡◌, ℕ, ap, ◌∙◌, sym, subst, rules, get_or, set, false}
+use Rattle.std.specs.Prelude.{Result, Ok, Err}
 use Rattle.mgn_holds.specs.declared.held.Held.{Held}
 use Rattle.mgn_holds.specs.Holds.{IsHeld, is_full as holds_full}
 use Rattle.mgn_unit.specs.declared.change.Change.{Change}
@@ -9,6 +9,7 @@ use Rattle.mgn_machine.specs.Refusals.{is_over}
 use Rattle.mgn_machine.specs.Holding.{entered, hold_places, new_hold, with_hold}
 use Rattle.mgn_unit.specs.Changes.{hold_change}
 use Rattle.mgn_machine.specs.State.{AccountState, account_at}
+use Rattle.mgn_book.specs.declared.fault.Fault.{Fault}
 use Rattle.mgn_book.specs.BookStates.{BookState, IsKept, Steps, book_state}
 use Rattle.mgn_book.specs.RoomAsked.{AsksRoom}
 use Rattle.mgn_book.proofs.Kept.{names-kept}
@@ -20,10 +21,10 @@ enter_hold-requires-clause-roomy c =
     let r = c.self.inside in
     let set' = c.args.set.now in
     let f = book_state r.origins.items r.accounts.items r.rows.items r.closed r.version in
-    let at = c.in-Ok.places in
+    let at : ℕ × ℕ = (c.in_ok-place.place, c.in_ok-place.i) in
     let a = c.index_mut-owner.result.now in
     let row = c.index_mut-row.result.now in
-    let reads : Reads set' f at.0 c.in-Ok.places.1 a row c.args.hold.now.contract = record {
+    let reads : Reads set' f at.0 c.in_ok-place.i a row c.args.hold.now.contract = record {
       within = c.limits.ensures;
       kept = search rules;
       account = search rules;
@@ -31,19 +32,19 @@ enter_hold-requires-clause-roomy c =
       row = c.index_mut-row.ensures.value ∙ ap (λ (u : _). get_or r.rows.items u row) c.unit.ensures;
       stands = search rules;
     } in
-    let over : is_over f.state at.0 c.args.hold.now.contract c.args.hold.now.quantity ≡ false = ap (λ (g : BookState). is_over g.state at.0 c.args.hold.now.contract c.args.hold.now.quantity) c.self.view_is ∙ c.in-Ok.ensures.room in
+    let over : is_over f.state at.0 c.args.hold.now.contract c.args.hold.now.quantity ≡ false = ap (λ (g : BookState). is_over g.state at.0 c.args.hold.now.contract c.args.hold.now.quantity) c.self.view_is ∙ c.in_ok-place.ensures.room in
     subst (λ (change : Change). IsRoomy change row) (sym c.of_hold-change.ensures.change)
     (hold-roomy set' f at.0 at.1 a row c.args.hold.now reads over)
 
-pub returns-in-Err-enter_hold-clause-kept : goal.returns-in-Err-enter_hold-clause-kept
-returns-in-Err-enter_hold-clause-kept c =
+pub returns-in_err-enter_hold-clause-kept : goal.returns-in_err-enter_hold-clause-kept
+returns-in_err-enter_hold-clause-kept c =
     let r = c.self.inside in
     let set' = c.args.set.now in
     let f = book_state r.origins.items r.accounts.items r.rows.items r.closed r.version in
-    let at = c.in-Ok.places in
+    let at : ℕ × ℕ = (c.in_ok-place.place, c.in_ok-place.i) in
     let a = c.index_mut-owner.result.now in
     let row = c.index_mut-row.result.now in
-    let reads : Reads set' f at.0 c.in-Ok.places.1 a row c.args.hold.now.contract = record {
+    let reads : Reads set' f at.0 c.in_ok-place.i a row c.args.hold.now.contract = record {
       within = c.limits.ensures;
       kept = search rules;
       account = search rules;
@@ -56,15 +57,15 @@ returns-in-Err-enter_hold-clause-kept c =
     subst (IsKept set') (sym (same-state r.origins.items r.accounts.items r.rows.items r.closed r.version at.0 c.unit.result a c.enter_hold.new.owner row c.enter_hold.new.row c.index_mut-owner.ensures.value c.index_mut-row.ensures.value same same_row))
     reads.kept
 
-pub returns-in-Err-enter_hold-clause-steps : goal.returns-in-Err-enter_hold-clause-steps
-returns-in-Err-enter_hold-clause-steps c =
+pub returns-in_err-enter_hold-clause-steps : goal.returns-in_err-enter_hold-clause-steps
+returns-in_err-enter_hold-clause-steps c =
     let r = c.self.inside in
     let set' = c.args.set.now in
     let f = book_state r.origins.items r.accounts.items r.rows.items r.closed r.version in
-    let at = c.in-Ok.places in
+    let at : ℕ × ℕ = (c.in_ok-place.place, c.in_ok-place.i) in
     let a = c.index_mut-owner.result.now in
     let row = c.index_mut-row.result.now in
-    let reads : Reads set' f at.0 c.in-Ok.places.1 a row c.args.hold.now.contract = record {
+    let reads : Reads set' f at.0 c.in_ok-place.i a row c.args.hold.now.contract = record {
       within = c.limits.ensures;
       kept = search rules;
       account = search rules;
@@ -72,11 +73,11 @@ returns-in-Err-enter_hold-clause-steps c =
       row = c.index_mut-row.ensures.value ∙ ap (λ (u : _). get_or r.rows.items u row) c.unit.ensures;
       stands = search rules;
     } in
-    let asks : AsksRoom {X = Unit {0}} (row_with set' (hold_change at.1 c.args.hold.now.quantity c.args.hold.now.limit) row) (Err c.in-Err-enter_hold.why) =
-    subst (λ (change : Change). AsksRoom {X = Unit {0}} (row_with set' change row) (Err c.in-Err-enter_hold.why)) c.of_hold-change.ensures.change (search rules)
+    let asks : AsksRoom {X = Unit {0}} (row_with set' (hold_change at.1 c.args.hold.now.quantity c.args.hold.now.limit) row) (Err c.in_err-enter_hold.field-0.0) =
+    subst (λ (change : Change). AsksRoom {X = Unit {0}} (row_with set' change row) (Err c.in_err-enter_hold.field-0.0)) c.of_hold-change.ensures.change (search rules)
     in
     let places : hold_places set' f.state c.args.hold.now ≡ Ok at =
-    subst (λ (g : BookState). hold_places set' g.state c.args.hold.now ≡ Ok at) (sym c.self.view_is) (sym c.in-Ok.ensures.places)
+    subst (λ (g : BookState). hold_places set' g.state c.args.hold.now ≡ Ok at) (sym c.self.view_is) (sym c.in_ok-place.ensures.places)
     in
     let same : c.enter_hold.new.owner ≡ a = search rules in
     let same_row : c.enter_hold.new.row ≡ row = search rules in
@@ -84,14 +85,16 @@ returns-in-Err-enter_hold-clause-steps c =
     let stays : new ≡ f =
     same-state r.origins.items r.accounts.items r.rows.items r.closed r.version at.0 c.unit.result a c.enter_hold.new.owner row c.enter_hold.new.row c.index_mut-owner.ensures.value c.index_mut-row.ensures.value same same_row
     in
-    subst (λ (g : BookState). Steps {X = Unit {0}} (entered set' g.state c.args.hold.now) (Err c.in-Err-enter_hold.why) g new) c.self.view_is
-    (hold-refused set' f new at a row c.args.hold.now c.in-Err-enter_hold.why reads places asks stays)
+    let returned : c.from_residual-in_err-enter_hold.result ≡ Err c.in_err-enter_hold.field-0.0 = search rules in
+    subst (λ (x : Result (Unit {0}) Fault). Steps (entered set' c.args.self.now.state c.args.hold.now) x c.args.self.now new) (sym returned)
+    (subst (λ (g : BookState). Steps {X = Unit {0}} (entered set' g.state c.args.hold.now) (Err c.in_err-enter_hold.field-0.0) g new) c.self.view_is
+    (hold-refused set' f new at a row c.args.hold.now c.in_err-enter_hold.field-0.0 reads places asks stays))
 
 pub invariant_of-self-2 : goal.invariant_of-self-2
 invariant_of-self-2 c =
     let a = c.index_mut-owner.result.now in
     let added : c.enter_hold.new.owner ≡ with_hold a c.new_hold-held.result = search rules in
-    names-kept c.self.inside.names c.self.inside.accounts.items c.in-Ok.places.0 c.enter_hold.new.owner a c.self.invariant
+    names-kept c.self.inside.names c.self.inside.accounts.items c.in_ok-place.place c.enter_hold.new.owner a c.self.invariant
     (ap (λ (x : AccountState). x.name) (added ∙ ap (λ (x : AccountState). with_hold x c.new_hold-held.result) c.index_mut-owner.ensures.value))
 
 pub returns-clause-kept : goal.returns-clause-kept
@@ -99,10 +102,10 @@ returns-clause-kept c =
     let r = c.self.inside in
     let set' = c.args.set.now in
     let f = book_state r.origins.items r.accounts.items r.rows.items r.closed r.version in
-    let at = c.in-Ok.places in
+    let at : ℕ × ℕ = (c.in_ok-place.place, c.in_ok-place.i) in
     let a = c.index_mut-owner.result.now in
     let row = c.index_mut-row.result.now in
-    let reads : Reads set' f at.0 c.in-Ok.places.1 a row c.args.hold.now.contract = record {
+    let reads : Reads set' f at.0 c.in_ok-place.i a row c.args.hold.now.contract = record {
       within = c.limits.ensures;
       kept = search rules;
       account = search rules;
@@ -110,7 +113,7 @@ returns-clause-kept c =
       row = c.index_mut-row.ensures.value ∙ ap (λ (u : _). get_or r.rows.items u row) c.unit.ensures;
       stands = search rules;
     } in
-    let over : is_over f.state at.0 c.args.hold.now.contract c.args.hold.now.quantity ≡ false = ap (λ (g : BookState). is_over g.state at.0 c.args.hold.now.contract c.args.hold.now.quantity) c.self.view_is ∙ c.in-Ok.ensures.room in
+    let over : is_over f.state at.0 c.args.hold.now.contract c.args.hold.now.quantity ≡ false = ap (λ (g : BookState). is_over g.state at.0 c.args.hold.now.contract c.args.hold.now.quantity) c.self.view_is ∙ c.in_ok-place.ensures.room in
     let change = hold_change at.1 c.args.hold.now.quantity c.args.hold.now.limit in
     let x = new_hold c.args.hold.now in
     let said : (priced : Priced) × Prices set' c.of_hold-change.result row priced = search rules in
@@ -120,7 +123,7 @@ returns-clause-kept c =
     let held : IsHeld x = subst IsHeld c.new_hold-held.ensures.held c.new_hold-held.ensures.limits in
     let few : holds_full a.holds ≡ false =
     ap (λ (x : AccountState). holds_full x.holds) (account-read set' f at.0 at.1 a row c.args.hold.now.contract reads)
-    ∙ ap (λ (g : BookState). holds_full (account_at g.state.accounts at.0).holds) c.self.view_is ∙ c.in-Ok.ensures.few
+    ∙ ap (λ (g : BookState). holds_full (account_at g.state.accounts at.0).holds) c.self.view_is ∙ c.in_ok-place.ensures.few
     in
     let room : IsRoomy change row = hold-roomy set' f at.0 at.1 a row c.args.hold.now reads over in
     subst (λ (u : _). IsKept set' (book_state r.origins.items (set r.accounts.items at.0 c.enter_hold.new.owner) (set r.rows.items u c.enter_hold.new.row) r.closed r.version)) (sym c.unit.ensures)
@@ -131,10 +134,10 @@ returns-clause-steps c =
     let r = c.self.inside in
     let set' = c.args.set.now in
     let f = book_state r.origins.items r.accounts.items r.rows.items r.closed r.version in
-    let at = c.in-Ok.places in
+    let at : ℕ × ℕ = (c.in_ok-place.place, c.in_ok-place.i) in
     let a = c.index_mut-owner.result.now in
     let row = c.index_mut-row.result.now in
-    let reads : Reads set' f at.0 c.in-Ok.places.1 a row c.args.hold.now.contract = record {
+    let reads : Reads set' f at.0 c.in_ok-place.i a row c.args.hold.now.contract = record {
       within = c.limits.ensures;
       kept = search rules;
       account = search rules;
@@ -146,7 +149,7 @@ returns-clause-steps c =
     subst (λ (change : Change). AsksRoom {X = Unit {0}} (row_with set' change row) (Ok tt)) c.of_hold-change.ensures.change (search rules)
     in
     let places : hold_places set' f.state c.args.hold.now ≡ Ok at =
-    subst (λ (g : BookState). hold_places set' g.state c.args.hold.now ≡ Ok at) (sym c.self.view_is) (sym c.in-Ok.ensures.places)
+    subst (λ (g : BookState). hold_places set' g.state c.args.hold.now ≡ Ok at) (sym c.self.view_is) (sym c.in_ok-place.ensures.places)
     in
     let added : c.enter_hold.new.owner ≡ with_hold a c.new_hold-held.result = search rules in
     let new : BookState = book_state r.origins.items (set r.accounts.items at.0 c.enter_hold.new.owner) (set r.rows.items c.unit.result c.enter_hold.new.row) r.closed r.version in

@@ -15,14 +15,14 @@ returns-in-Gross-clause-kept c =
     subst (λ (origins : List Origin). IsKept c.args.set.now (book_state origins r.accounts.items r.rows.items r.closed r.version)) (sym origins)
     (kept-origin c.args.set.now r.origins.items r.accounts.items r.rows.items r.closed r.version o kept tt)
 
-pub returns-in-Ok-push_flat-clause-kept : goal.returns-in-Ok-push_flat-clause-kept
-returns-in-Ok-push_flat-clause-kept c =
+pub returns-in_ok-unit-in-Net-clause-kept : goal.returns-in_ok-unit-in-Net-clause-kept
+returns-in_ok-unit-in-Net-clause-kept c =
     let r = c.self.inside in
     let set = c.args.set.now in
     let kept : IsKept set (book_state r.origins.items r.accounts.items r.rows.items r.closed r.version) = search rules in
     let few : length r.rows.items < 1024 = search rules in
-    let unit : c.in-Ok-push_flat.unit ≡ length r.rows.items = search rules in
-    let o : Origin = record { name = c.args.name; unit = Some c.in-Ok-push_flat.unit } in
+    let unit : c.in_ok-unit-in-Net.unit ≡ length r.rows.items = search rules in
+    let o : Origin = record { name = c.args.name; unit = Some c.in_ok-unit-in-Net.unit } in
     let origins : c.push_reserved-in-Net.new.self.items ≡ r.origins.items ++ o ∷ [] = search rules in
     let rows : c.push_flat.new.rows.items ≡ r.rows.items ++ no_row set ∷ [] = search rules in
     subst (λ (x : List Origin × List Row). IsKept set (book_state x.0 r.accounts.items x.1 r.closed r.version)) (λ i. (sym origins i, sym rows i))

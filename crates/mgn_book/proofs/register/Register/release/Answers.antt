@@ -1,4 +1,4 @@
-use Rattle.std.proofs.Common.{◌≡◌, ◌<◌, ap, ◌∙◌, sym, subst, rules, get_or, set, length}
+use Rattle.std.proofs.Common.{◌≡◌, ℕ, ◌<◌, ap, ◌∙◌, sym, subst, rules, get_or, set, length}
 use Rattle.std.specs.Prelude.{Ok}
 use Rattle.std.proofs.lemmas.List.{get_or_default}
 use Rattle.mgn_holds.specs.declared.held.Held.{Held}
@@ -20,16 +20,16 @@ release_hold-requires-clause-roomy c =
     let r = c.self.inside in
     let set' = c.args.set.now in
     let f = book_state r.origins.items r.accounts.items r.rows.items r.closed r.version in
-    let at = c.in-Ok.places in
+    let at : ℕ × ℕ = (c.in_ok-place.place, c.in_ok-place.hold) in
     let a = c.index_mut-owner.result.now in
-    let account : a ≡ account_at c.args.self.now.state.accounts c.in-Ok.places.0 =
-    c.index_mut-owner.ensures.value ∙ get_or_default c.self.inside.accounts.items c.in-Ok.places.0 a no_account (search rules)
-    ∙ ap (λ (g : BookState). account_at g.state.accounts c.in-Ok.places.0) c.self.view_is
+    let account : a ≡ account_at c.args.self.now.state.accounts c.in_ok-place.place =
+    c.index_mut-owner.ensures.value ∙ get_or_default c.self.inside.accounts.items c.in_ok-place.place a no_account (search rules)
+    ∙ ap (λ (g : BookState). account_at g.state.accounts c.in_ok-place.place) c.self.view_is
     in
-    let stands : contract_of c.args.set.now (hold_at a.holds c.in-Ok.places.1).contract ≡ Ok c.held_contract-i.result =
-    ap (λ (x : AccountState). contract_of c.args.set.now (hold_at x.holds c.in-Ok.places.1).contract) account ∙ c.held_contract-i.ensures.stands
+    let stands : contract_of c.args.set.now (hold_at a.holds c.in_ok-place.hold).contract ≡ Ok c.held_contract-i.result =
+    ap (λ (x : AccountState). contract_of c.args.set.now (hold_at x.holds c.in_ok-place.hold).contract) account ∙ c.held_contract-i.ensures.stands
     in
-    let inside : c.in-Ok.places.1 < length a.holds = subst (λ (x : AccountState). c.in-Ok.places.1 < length x.holds) (sym account) (c.in-Ok.ensures.hold) in
+    let inside : c.in_ok-place.hold < length a.holds = subst (λ (x : AccountState). c.in_ok-place.hold < length x.holds) (sym account) (c.in_ok-place.ensures.hold) in
     let row = c.index_mut-row.result.now in
     let reads : Reads set' f at.0 c.held_contract-i.result a row (hold_at a.holds at.1).contract = record {
       within = c.limits.ensures;
@@ -44,21 +44,21 @@ release_hold-requires-clause-roomy c =
     let is : c.of_release-change.result ≡ change = c.of_release-change.ensures.change ∙ ap (λ (y : Held). release_change c.held_contract-i.result y.quantity y.limit) c.hold_at.ensures.held in
     subst (λ (change : Change). IsRoomy change row) (sym is) (release-roomy set' f at.0 c.held_contract-i.result at.1 a row reads inside)
 
-pub returns-in-Err-release_hold-clause-kept : goal.returns-in-Err-release_hold-clause-kept
-returns-in-Err-release_hold-clause-kept c =
+pub returns-in_err-release_hold-clause-kept : goal.returns-in_err-release_hold-clause-kept
+returns-in_err-release_hold-clause-kept c =
     let r = c.self.inside in
     let set' = c.args.set.now in
     let f = book_state r.origins.items r.accounts.items r.rows.items r.closed r.version in
-    let at = c.in-Ok.places in
+    let at : ℕ × ℕ = (c.in_ok-place.place, c.in_ok-place.hold) in
     let a = c.index_mut-owner.result.now in
-    let account : a ≡ account_at c.args.self.now.state.accounts c.in-Ok.places.0 =
-    c.index_mut-owner.ensures.value ∙ get_or_default c.self.inside.accounts.items c.in-Ok.places.0 a no_account (search rules)
-    ∙ ap (λ (g : BookState). account_at g.state.accounts c.in-Ok.places.0) c.self.view_is
+    let account : a ≡ account_at c.args.self.now.state.accounts c.in_ok-place.place =
+    c.index_mut-owner.ensures.value ∙ get_or_default c.self.inside.accounts.items c.in_ok-place.place a no_account (search rules)
+    ∙ ap (λ (g : BookState). account_at g.state.accounts c.in_ok-place.place) c.self.view_is
     in
-    let stands : contract_of c.args.set.now (hold_at a.holds c.in-Ok.places.1).contract ≡ Ok c.held_contract-i.result =
-    ap (λ (x : AccountState). contract_of c.args.set.now (hold_at x.holds c.in-Ok.places.1).contract) account ∙ c.held_contract-i.ensures.stands
+    let stands : contract_of c.args.set.now (hold_at a.holds c.in_ok-place.hold).contract ≡ Ok c.held_contract-i.result =
+    ap (λ (x : AccountState). contract_of c.args.set.now (hold_at x.holds c.in_ok-place.hold).contract) account ∙ c.held_contract-i.ensures.stands
     in
-    let inside : c.in-Ok.places.1 < length a.holds = subst (λ (x : AccountState). c.in-Ok.places.1 < length x.holds) (sym account) (c.in-Ok.ensures.hold) in
+    let inside : c.in_ok-place.hold < length a.holds = subst (λ (x : AccountState). c.in_ok-place.hold < length x.holds) (sym account) (c.in_ok-place.ensures.hold) in
     let row = c.index_mut-row.result.now in
     let reads : Reads set' f at.0 c.held_contract-i.result a row (hold_at a.holds at.1).contract = record {
       within = c.limits.ensures;
@@ -76,25 +76,25 @@ returns-in-Err-release_hold-clause-kept c =
 pub invariant_of-self-2 : goal.invariant_of-self-2
 invariant_of-self-2 c =
     let a = c.index_mut-owner.result.now in
-    let added : c.release_hold.new.owner ≡ without_hold a c.in-Ok.places.1 = search rules in
-    names-kept c.self.inside.names c.self.inside.accounts.items c.in-Ok.places.0 c.release_hold.new.owner a c.self.invariant
-    (ap (λ (x : AccountState). x.name) (added ∙ ap (λ (x : AccountState). without_hold x c.in-Ok.places.1) c.index_mut-owner.ensures.value))
+    let added : c.release_hold.new.owner ≡ without_hold a c.in_ok-place.hold = search rules in
+    names-kept c.self.inside.names c.self.inside.accounts.items c.in_ok-place.place c.release_hold.new.owner a c.self.invariant
+    (ap (λ (x : AccountState). x.name) (added ∙ ap (λ (x : AccountState). without_hold x c.in_ok-place.hold) c.index_mut-owner.ensures.value))
 
 pub returns-clause-kept : goal.returns-clause-kept
 returns-clause-kept c =
     let r = c.self.inside in
     let set' = c.args.set.now in
     let f = book_state r.origins.items r.accounts.items r.rows.items r.closed r.version in
-    let at = c.in-Ok.places in
+    let at : ℕ × ℕ = (c.in_ok-place.place, c.in_ok-place.hold) in
     let a = c.index_mut-owner.result.now in
-    let account : a ≡ account_at c.args.self.now.state.accounts c.in-Ok.places.0 =
-    c.index_mut-owner.ensures.value ∙ get_or_default c.self.inside.accounts.items c.in-Ok.places.0 a no_account (search rules)
-    ∙ ap (λ (g : BookState). account_at g.state.accounts c.in-Ok.places.0) c.self.view_is
+    let account : a ≡ account_at c.args.self.now.state.accounts c.in_ok-place.place =
+    c.index_mut-owner.ensures.value ∙ get_or_default c.self.inside.accounts.items c.in_ok-place.place a no_account (search rules)
+    ∙ ap (λ (g : BookState). account_at g.state.accounts c.in_ok-place.place) c.self.view_is
     in
-    let stands : contract_of c.args.set.now (hold_at a.holds c.in-Ok.places.1).contract ≡ Ok c.held_contract-i.result =
-    ap (λ (x : AccountState). contract_of c.args.set.now (hold_at x.holds c.in-Ok.places.1).contract) account ∙ c.held_contract-i.ensures.stands
+    let stands : contract_of c.args.set.now (hold_at a.holds c.in_ok-place.hold).contract ≡ Ok c.held_contract-i.result =
+    ap (λ (x : AccountState). contract_of c.args.set.now (hold_at x.holds c.in_ok-place.hold).contract) account ∙ c.held_contract-i.ensures.stands
     in
-    let inside : c.in-Ok.places.1 < length a.holds = subst (λ (x : AccountState). c.in-Ok.places.1 < length x.holds) (sym account) (c.in-Ok.ensures.hold) in
+    let inside : c.in_ok-place.hold < length a.holds = subst (λ (x : AccountState). c.in_ok-place.hold < length x.holds) (sym account) (c.in_ok-place.ensures.hold) in
     let row = c.index_mut-row.result.now in
     let reads : Reads set' f at.0 c.held_contract-i.result a row (hold_at a.holds at.1).contract = record {
       within = c.limits.ensures;

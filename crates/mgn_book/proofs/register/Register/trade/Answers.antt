@@ -7,7 +7,7 @@ use Rattle.mgn_unit.specs.Rows.{IsRoomy, Prices, row_with}
 use Rattle.mgn_unit.specs.Changes.{lot_change}
 use Rattle.mgn_machine.specs.State.{AccountState, no_account, account_at, traded_lot, with_lot}
 use Rattle.mgn_book.specs.BookStates.{BookState, IsKept, book_state}
-use Rattle.mgn_book.proofs.Kept.{names-kept}
+use Rattle.mgn_book.proofs.Kept.{names-kept, kept-same}
 use Rattle.mgn_book.proofs.Trades.{Trading, trade-roomy, trade-kept}
 use Rattle.mgn_book.proofs.register.Register.trade.Goals as goal
 
@@ -16,7 +16,7 @@ enter_lot-requires-clause-roomy c =
     let r = c.self.inside in
     let f = book_state r.origins.items r.accounts.items r.rows.items r.closed r.version in
     let a = c.index_mut-owner.result.now in
-    let trading : Trading c.args.set.now f c.in-Ok.places.0 c.in-Ok.places.1 a c.index_mut-row.result.now c.args.trade.now = record {
+    let trading : Trading c.args.set.now f c.in_ok-place.place c.in_ok-place.i a c.index_mut-row.result.now c.args.trade.now = record {
       within = c.limits.ensures;
       kept = search rules;
       account = search rules;
@@ -26,14 +26,23 @@ enter_lot-requires-clause-roomy c =
       room = search rules;
     } in
     subst (λ (change : Change). IsRoomy change c.index_mut-row.result.now) (sym c.of_lot-change.ensures.change)
-    (trade-roomy c.args.set.now f c.in-Ok.places.0 c.in-Ok.places.1 a c.index_mut-row.result.now c.args.trade.now trading)
+    (trade-roomy c.args.set.now f c.in_ok-place.place c.in_ok-place.i a c.index_mut-row.result.now c.args.trade.now trading)
+
+pub returns-in_err-enter_lot-clause-kept : goal.returns-in_err-enter_lot-clause-kept
+returns-in_err-enter_lot-clause-kept c =
+    let r = c.self.inside in
+    let a = c.index_mut-owner.result.now in
+    let kept : IsKept c.args.set.now (book_state r.origins.items r.accounts.items r.rows.items r.closed r.version) = search rules in
+    let same : c.enter_lot.new.owner ≡ a = search rules in
+    let row : c.enter_lot.new.row ≡ c.index_mut-row.result.now = search rules in
+    kept-same c.args.set.now r.origins.items r.accounts.items r.rows.items r.closed r.version c.in_ok-place.place c.unit.result a c.enter_lot.new.owner c.index_mut-row.result.now c.enter_lot.new.row kept c.index_mut-owner.ensures.value same c.index_mut-row.ensures.value row
 
 pub invariant_of-self-2 : goal.invariant_of-self-2
 invariant_of-self-2 c =
     let a = c.index_mut-owner.result.now in
     let lot = c.traded_lot-lot.result in
     let added : c.enter_lot.new.owner ≡ with_lot a lot = search rules in
-    names-kept c.self.inside.names c.self.inside.accounts.items c.in-Ok.places.0 c.enter_lot.new.owner a c.self.invariant
+    names-kept c.self.inside.names c.self.inside.accounts.items c.in_ok-place.place c.enter_lot.new.owner a c.self.invariant
     (ap (λ (x : AccountState). x.name) (added ∙ ap (λ (x : AccountState). with_lot x lot) c.index_mut-owner.ensures.value))
 
 pub returns-clause-kept : goal.returns-clause-kept
@@ -42,7 +51,7 @@ returns-clause-kept c =
     let f = book_state r.origins.items r.accounts.items r.rows.items r.closed r.version in
     let a = c.index_mut-owner.result.now in
     let row = c.index_mut-row.result.now in
-    let trading : Trading c.args.set.now f c.in-Ok.places.0 c.in-Ok.places.1 a row c.args.trade.now = record {
+    let trading : Trading c.args.set.now f c.in_ok-place.place c.in_ok-place.i a row c.args.trade.now = record {
       within = c.limits.ensures;
       kept = search rules;
       account = search rules;
@@ -52,18 +61,18 @@ returns-clause-kept c =
       room = search rules;
     } in
     let t = c.args.trade.now in
-    let change = lot_change c.in-Ok.places.1 t.quantity t.premium in
+    let change = lot_change c.in_ok-place.i t.quantity t.premium in
     let lot = traded_lot t.lot t.contract t.quantity t.premium in
     let said : (priced : Priced) × Prices c.args.set.now c.of_lot-change.result row priced = search rules in
     let prices : Prices c.args.set.now change row said.0 = subst (λ (x : Change). Prices c.args.set.now x row said.0) c.of_lot-change.ensures.change said.1 in
     let changed : c.enter_lot.new.row ≡ row_with c.args.set.now c.of_lot-change.result row = search rules in
     let added : c.enter_lot.new.owner ≡ with_lot a c.traded_lot-lot.result = search rules in
     let limits : IsLot lot = subst IsLot c.traded_lot-lot.ensures.lot c.traded_lot-lot.ensures.limits in
-    let k = c.in-Ok.places.0 in
+    let k = c.in_ok-place.place in
     let few : is_full a.lots ≡ false =
     ap (λ (x : AccountState). is_full x.lots) (c.index_mut-owner.ensures.value ∙ get_or_default r.accounts.items k a no_account trading.account)
-    ∙ ap (λ (g : BookState). is_full (account_at g.state.accounts k).lots) c.self.view_is ∙ c.in-Ok.ensures.few
+    ∙ ap (λ (g : BookState). is_full (account_at g.state.accounts k).lots) c.self.view_is ∙ c.in_ok-place.ensures.few
     in
-    let kept = trade-kept c.args.set.now r.origins.items r.accounts.items r.rows.items r.closed r.version c.in-Ok.places.0 c.in-Ok.places.1 a c.enter_lot.new.owner row c.enter_lot.new.row c.args.trade.now said.0
+    let kept = trade-kept c.args.set.now r.origins.items r.accounts.items r.rows.items r.closed r.version c.in_ok-place.place c.in_ok-place.i a c.enter_lot.new.owner row c.enter_lot.new.row c.args.trade.now said.0
     trading prices (changed ∙ ap (λ (x : Change). row_with c.args.set.now x row) c.of_lot-change.ensures.change) (added ∙ ap (λ (x : _). with_lot a x) c.traded_lot-lot.ensures.lot) limits few in
-    subst (λ (u : _). IsKept c.args.set.now (book_state r.origins.items (set r.accounts.items c.in-Ok.places.0 c.enter_lot.new.owner) (set r.rows.items u c.enter_lot.new.row) r.closed r.version)) (sym c.unit.ensures) kept
+    subst (λ (u : _). IsKept c.args.set.now (book_state r.origins.items (set r.accounts.items c.in_ok-place.place c.enter_lot.new.owner) (set r.rows.items u c.enter_lot.new.row) r.closed r.version)) (sym c.unit.ensures) kept
