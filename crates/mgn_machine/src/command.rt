@@ -16,13 +16,13 @@ pub enum Mode {
 pub struct Trade {
     /// The account.
     pub account: AccountName,
-    /// The lot's number, 1 to 10^12, new in its account.
+    /// The lot's number, 1 to 10^12, which the account has not used.
     pub lot: LotId,
     /// The contract.
     pub contract: ContractName,
-    /// How many contracts, 1 to 1,000,000 in size: above 0 is bought, below 0 is sold.
+    /// How many contracts, 1 to 1,000,000 in size: above 0 bought, below 0 sold.
     pub quantity: LotQuantity,
-    /// The premium for each contract, in cents, 0 to 100,000,000; other than 0 for options of the premium style alone.
+    /// The premium in cents for each contract, 0 to 10^8; 0 but for options of the premium style.
     pub premium: Premium,
 }
 
@@ -31,13 +31,13 @@ pub struct Trade {
 pub struct Hold {
     /// The account.
     pub account: AccountName,
-    /// The order's number, 1 to 10^12, new among those held in its account.
+    /// The order's number, 1 to 10^12, of which the account holds nothing yet.
     pub order: OrderId,
     /// The contract.
     pub contract: ContractName,
-    /// How many contracts, 1 to 1,000,000 in size: above 0 buys, below 0 sells.
+    /// How many contracts, 1 to 1,000,000 in size: above 0 to buy, below 0 to sell.
     pub quantity: LotQuantity,
-    /// The limit for each contract, in cents, 0 to 100,000,000; other than 0 for options of the premium style alone.
+    /// The limit in cents for each contract, 0 to 10^8; 0 but for options of the premium style.
     pub limit: Premium,
 }
 
@@ -48,11 +48,11 @@ pub struct Fill {
     pub account: AccountName,
     /// The order's number, 1 to 10^12.
     pub order: OrderId,
-    /// The lot's number, 1 to 10^12, new in its account.
+    /// The lot's number, 1 to 10^12, which the account has not used.
     pub lot: LotId,
-    /// How many contracts, 1 to 1,000,000 in size, of the sign that is held.
+    /// How many contracts, 1 to 1,000,000 in size, of the held quantity's sign and at most as many.
     pub quantity: LotQuantity,
-    /// The premium for each contract, in cents, 0 to 100,000,000: within the order's limit.
+    /// The premium in cents for each contract, 0 to 10^8: within the order's limit.
     pub premium: Premium,
 }
 
