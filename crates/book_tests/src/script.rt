@@ -36,10 +36,8 @@ impl SetSource for Worked {
             return Err(SourceFault::Missing);
         };
         let mut bytes = Vec::new(self.alloc);
-        match bytes.extend_from_slice(text.as_bytes()) {
-            Ok(()) => Ok(bytes),
-            Err(_) => Err(SourceFault::Memory),
-        }
+        bytes.extend_from_slice(text.as_bytes())?;
+        Ok(bytes)
     }
 }
 

@@ -1,5 +1,4 @@
-ghost use Rattle.std.specs.Prelude.{◌≡◌, ◌⊎◌, ◌+◌, ◌<◌, ◌≤◌, ◌∷◌, [], ◌++◌, ℕ, List, take, length, None, Ok, IfOk, IfErr, OnOk, OnErr, position, ◌==◌, false};
-ghost use Rattle.mgn_machine.specs.declared.reply.Reply.TheVariants as Reply;
+ghost use Rattle.std.specs.Prelude.{◌≡◌, ◌⊎◌, ◌+◌, ◌<◌, ◌≤◌, ◌∷◌, [], ◌++◌, ℕ, List, take, length, Ok, IfOk, IfErr, OnOk, OnErr, position, ◌==◌, false};
 ghost use Rattle.mgn_wire.specs.Line.{line_of};
 ghost use Rattle.mgn_session.specs.Conversation.{ConversationView, KeepsDevices, line_ends};
 ghost use Rattle.mgn_session.specs.Session.{Answers, Calls, Switches, has_end};
@@ -22,12 +21,6 @@ const LONGEST: usize = 257;
 /// The most lines that a session answers.
 pub(crate) const MAX_LINES: u64 = 1_000_000;
 
-fn no_memory() -> LineReply
-    ensures { result ≡ LineReply.Answered record { place = None; reply = Reply.Refused Refusal.Memory } }
-{
-    LineReply::Answered(Answer::refused(Refusal::Memory))
-}
-
 // Has the executor answer the switch to the set of a file.
 fn switch<E: Exec>(alloc: Global, exec: &mut E, file: &[u8]) -> LineReply
     ensures { Switches (Calls E.entries E.is_full E.does) exec.old (Ok file.now) result exec.new }
@@ -35,7 +28,7 @@ fn switch<E: Exec>(alloc: Global, exec: &mut E, file: &[u8]) -> LineReply
     match read_set(alloc, file) {
         Ok(set) => LineReply::Answered(exec.exec(Request::Switch(set))),
         Err(fault) => match fault.cause {
-            Cause::Memory => no_memory(),
+            Cause::Memory => LineReply::Answered(Answer::refused(Refusal::Memory)),
             _ => LineReply::BadSet(fault.line),
         },
     }
@@ -52,7 +45,7 @@ fn answer_switch<E: Exec, S: SetSource>(
 {
     match source.fetch(name) {
         Ok(file) => switch(alloc, exec, file.as_slice()),
-        Err(SourceFault::Memory) => no_memory(),
+        Err(SourceFault::Memory) => LineReply::Answered(Answer::refused(Refusal::Memory)),
         Err(_) => LineReply::NoSet,
     }
 }

@@ -2,6 +2,7 @@ ghost use Rattle.std.specs.Prelude.{IfOk, IfErr, Ok, Err};
 ghost use Rattle.mgn_session.specs.Session.{Fetch};
 
 use mgn_ids::SetName;
+use std::alloc::AllocError;
 
 /// Why a source gives no file.
 #[derive(Clone, Copy, PartialEq, Eq, Debug)]
@@ -14,6 +15,12 @@ pub enum SourceFault {
     Long,
     /// Memory could not be had.
     Memory,
+}
+
+impl From<AllocError> for SourceFault {
+    fn from(_error: AllocError) -> SourceFault {
+        SourceFault::Memory
+    }
 }
 
 /// Where the files of parameter sets come from, by the sets' names.

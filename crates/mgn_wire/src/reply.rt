@@ -230,7 +230,7 @@ mod tests {
                 Reply::Refused(Refusal::NoAccount),
                 "ERR 1000000 20 NOACCT\n",
             ),
-            (None, Reply::Refused(Refusal::Memory), "ERR 90 MEMORY\n"),
+            (None, Reply::Refused(Refusal::Full), "ERR 91 FULL\n"),
         ];
         for (place, reply, text) in answers {
             let mut out = Vec::new(rt.alloc());

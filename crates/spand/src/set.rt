@@ -55,9 +55,7 @@ impl<R: Files + AllocGlobal> SetSource for Folder<'_, R> {
         let Ok(name) = str::from_utf8(name.as_bytes()) else {
             return Err(SourceFault::Missing);
         };
-        let Ok(path) = format!(in alloc; "{}/{name}.csv", self.dir) else {
-            return Err(SourceFault::Memory);
-        };
+        let path = format!(in alloc; "{}/{name}.csv", self.dir)?;
         match fs::open(self.rt, path.as_str()) {
             Ok(file) => read_whole(alloc, file),
             Err(error) => Err(fault_of(error.kind())),
