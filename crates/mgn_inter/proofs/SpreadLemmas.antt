@@ -15,7 +15,8 @@ use Rattle.mgn_span.specs.Scan.{value_at}
 use Rattle.mgn_span.specs.Stages.{used}
 use Rattle.mgn_params.specs.Tables.{legs_of}
 use Rattle.mgn_span.proofs.StageLemmas.{used_le_left}
-use Rattle.mgn_inter.specs.Rows.{AreNumbers, AreRests, IsCreditable, names}
+use Rattle.mgn_inter.specs.Rows.{AreNumbers, IsCreditable, names}
+use Rattle.mgn_span.specs.Words.{AreRests}
 use Rattle.mgn_inter.proofs.LegLemmas.{credits_after_out, credits_after_set, credits_after_small, forms_set, length-credits_after, length-rests_after, rests_after_near, rests_after_out, rests_after_set, spread_amount_least, spread_amount_set}
 
 -- the rests and credits where a spread forms, and where it does not

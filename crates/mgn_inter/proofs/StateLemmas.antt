@@ -13,7 +13,8 @@ use Rattle.mgn_span.specs.Credits.{formed}
 use Rattle.mgn_params.specs.Limits.{IsCreditSpread}
 use Rattle.mgn_params.specs.Tables.{credit_spread_at, legs_of, no_credit_spread, no_leg}
 use Rattle.mgn_inter.specs.declared.kept.Kept.{Kept}
-use Rattle.mgn_inter.specs.Rows.{AreFormed, AreNumbers, AreRests, Credited, IsKept, MissesBelow, kept_at, leg_at, names, nothing_kept, state_of, written}
+use Rattle.mgn_inter.specs.Rows.{AreFormed, AreNumbers, Credited, IsKept, MissesBelow, kept_at, leg_at, names, nothing_kept, state_of, written}
+use Rattle.mgn_span.specs.Words.{AreRests}
 use Rattle.mgn_inter.specs.Sizes.{IsRisk}
 use Rattle.mgn_inter.proofs.SpreadLemmas.{formed_long, formed_near, formed_out, formed_set, formed_small}
 use Rattle.mgn_span.specs.Sizes.{IsDelta}

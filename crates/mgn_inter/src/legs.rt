@@ -2,7 +2,8 @@
 
 ghost use Rattle.std.specs.Prelude.{◌≡◌, ℕ, ◌+◌, ◌*◌, ◌<◌, ◌≤◌, ◌^◌, length, All, unsigned_abs, slice_index, IsTrue};
 ghost use Rattle.std.specs.List.{list_all};
-ghost use Rattle.mgn_inter.specs.Rows.{AreNumbers, AreRests, IsCreditable};
+ghost use Rattle.mgn_inter.specs.Rows.{AreNumbers, IsCreditable};
+ghost use Rattle.mgn_span.specs.Words.{AreRests};
 ghost use Rattle.mgn_span.specs.Credits.{credits_after, fits, forms, is_long, leg_amount, leg_credit, rests_after, spread_amount};
 ghost use Rattle.mgn_span.specs.Scan.{value_at};
 ghost use Rattle.mgn_span.specs.Stages.{used};

@@ -1,7 +1,8 @@
 //! The rows of the commodities while a spread forms, and while it is undone.
 
 ghost use Rattle.std.specs.Prelude.{◌≡◌, ℕ, ℤ, ◌+◌, ◌*◌, ◌<◌, ◌≤◌, ◌^◌, ◌==◌, if◌then◌else◌, pos, length, replicate, All, slice_index, IfOk};
-ghost use Rattle.mgn_inter.specs.Rows.{AreNumbers, AreRests, IsKept, leg_at, names, written};
+ghost use Rattle.mgn_inter.specs.Rows.{AreNumbers, IsKept, leg_at, names, written};
+ghost use Rattle.mgn_span.specs.Words.{AreRests};
 ghost use Rattle.mgn_span.specs.Credits.{formed};
 ghost use Rattle.mgn_params.specs.Limits.{IsCreditSpread};
 ghost use Rattle.mgn_span.specs.Scan.{value_at};

@@ -1,7 +1,7 @@
 -- What a commodity adds in which nothing is held.
 use Rattle.std.proofs.Common.{◌≡◌, ◌≢◌, ℕ, ◌-◌, ◌*◌, ◌<◌, ◌≤◌, ◌==◌, Bool, true, false, Option, Some, None, List, [], ◌∷◌, length, get_or, ⊎_elim, ap, ◌∙◌, refl, arith, eq-eqb, ne_eqb, sym, take_all}
 use Rattle.std.specs.Prelude.{ℤ, pos, ◌*ℤ◌, ◌&&◌, nat_lt, if◌then◌else◌, slice_index}
-use Rattle.std.specs.Int.{div_ceil, int_max}
+use Rattle.std.specs.Int.{int_max}
 use Rattle.std.specs.List.{AllByRecursion, sum_by}
 use Rattle.std.proofs.Math.IntN.{zero-*ℤ}
 use Rattle.std.proofs.Math.Nat.{zero-div, zero-mul}
@@ -16,7 +16,8 @@ use Rattle.mgn_laws.proofs.CreditLemmas.{delta_of}
 use Rattle.mgn_laws.proofs.StageLemmas.{charges_by_turns, left_and_used, stages_in_limits, start_length}
 use Rattle.mgn_laws.proofs.SumLemmas.{signed_sum_below_none, sum_below_none}
 use Rattle.mgn_laws.specs.Absent.{HoldsNone}
-use Rattle.mgn_laws.specs.Turns.{charge_at, left_at, stage_at, stages_in, starts_in}
+use Rattle.mgn_laws.specs.Turns.{charge_at, left_at, stages_in, starts_in}
+use Rattle.mgn_span.specs.Words.{long_delta, long_share, month_share, net_delta, net_share, scenario_share, short_delta, short_share, short_share_of, stage_at, start_of}
 use Rattle.mgn_laws.specs.Uses.{deltas_in, risks_in}
 use Rattle.mgn_num.proofs.SignedLemmas.{signed_sum_by-cons}
 use Rattle.mgn_num.specs.Signed.{signed_sum_by}
@@ -26,7 +27,6 @@ use Rattle.mgn_params.specs.declared.tables.SpotCharge.{SpotCharge}
 use Rattle.mgn_span.specs.declared.stage.Stage.{Stage}
 use Rattle.mgn_span.specs.Deltas.{is_in_tier, month_delta, negative_part, positive_part, starts_from}
 use Rattle.mgn_params.specs.Limits.{IsContract, IsWithinLimits}
-use Rattle.mgn_span.specs.Words.{long_delta, long_share, month_share, net_delta, net_share, scenario_share, short_delta, short_share, short_share_of, start_of}
 use Rattle.mgn_span.specs.Positions.{Position, positions}
 use Rattle.mgn_span.specs.Requirement.{credit, credits, intra_charge, minimum, risk, scan_of, spot_charge}
 use Rattle.mgn_span.specs.Scan.{active, scenario_total, value_at}

@@ -8,13 +8,13 @@ use Rattle.std.proofs.lemmas.List.{get_or_past}
 use Rattle.std.proofs.lemmas.List.Elements.{All-append, All-filter, All-from_recursion, recursion_from_All}
 use Rattle.std.proofs.lemmas.List.FromFn.{get_or-map-range_with_len, length-map-range_with_len}
 use Rattle.std.proofs.lemmas.List.Sums.{fold_more}
-use Rattle.mgn_laws.specs.Turns.{charge_at, left_at, no_stage, stage_at, stages_in, starts_in, use_at}
+use Rattle.mgn_laws.specs.Turns.{charge_at, left_at, stages_in, starts_in, use_at}
+use Rattle.mgn_span.specs.Words.{long_delta, no_stage, short_delta, stage_at, start_of, used_by, used_of}
 use Rattle.mgn_num.specs.Signed.{sum_below}
 use Rattle.mgn_span.proofs.StageLemmas.{first_used_le, second_used_le}
 use Rattle.mgn_span.specs.Deltas.{starts_from}
 use Rattle.mgn_span.specs.declared.stage.Stage.{Stage}
 use Rattle.mgn_params.specs.declared.tables.Spread.{Spread}
-use Rattle.mgn_span.specs.Words.{long_delta, short_delta, start_of, used_by, used_of}
 use Rattle.mgn_params.specs.Limits.{IsSpread, IsWithinLimits}
 use Rattle.mgn_span.specs.Positions.{positions}
 use Rattle.mgn_span.specs.Stages.{IsStage, charges_of, left_after, left_by, long_leg, short_leg, stages_of_spread}

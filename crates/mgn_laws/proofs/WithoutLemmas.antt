@@ -1,7 +1,7 @@
 -- The requirement is the same without a commodity in which nothing is held.
 use Rattle.std.proofs.Common.{◌≡◌, ◌≢◌, ℕ, ◌-◌, ◌==◌, Bool, true, false, not, None, List, [], ◌∷◌, length, map, ⊎_elim, ap, ◌∙◌, sym, refl, arith, eq-eqb, ne_eqb, replicate}
-use Rattle.std.specs.Prelude.{ℤ, pos, if◌then◌else◌, nat_lt, slice_index, unsigned_abs}
-use Rattle.std.specs.List.{AllByRecursion, filter, find, flat_map, fold, list_any, range_with_len, sum_by}
+use Rattle.std.specs.Prelude.{ℤ, pos, if◌then◌else◌, slice_index, unsigned_abs}
+use Rattle.std.specs.List.{AllByRecursion, filter, find, flat_map, fold, list_any, sum_by}
 use Rattle.std.proofs.Math.Path.{fun_ext}
 use Rattle.std.proofs.lemmas.Bool.{cases_eq}
 use Rattle.std.proofs.lemmas.Int.{ints}
@@ -13,7 +13,7 @@ use Rattle.mgn_laws.proofs.SumLemmas.{signed_sum_below_along}
 use Rattle.mgn_laws.specs.Absent.{HoldsNone, other_nets, without}
 use Rattle.mgn_laws.specs.Uses.{deltas_in, risks_in}
 use Rattle.mgn_num.proofs.SignedLemmas.{signed_sum_by-cons}
-use Rattle.mgn_num.specs.Signed.{signed_sum_below, signed_sum_by, sum_below}
+use Rattle.mgn_num.specs.Signed.{signed_sum_below, signed_sum_by}
 use Rattle.mgn_span.proofs.FlatLemmas.{month_share_flat, share_flat, short_share_flat, value_share_flat}
 use Rattle.mgn_params.specs.declared.tables.Contract.{Contract}
 use Rattle.mgn_params.specs.declared.tables.CreditSpread.{CreditSpread}
@@ -23,7 +23,7 @@ use Rattle.mgn_params.specs.declared.tables.SpotCharge.{SpotCharge}
 use Rattle.mgn_params.specs.declared.tables.Spread.{Spread}
 use Rattle.mgn_span.specs.declared.stage.Stage.{Stage}
 use Rattle.mgn_span.specs.Credits.{formed, forms}
-use Rattle.mgn_span.specs.Deltas.{is_in_tier, month_delta, negative_part, positive_part, starts_from}
+use Rattle.mgn_span.specs.Deltas.{month_delta, starts_from}
 use Rattle.mgn_params.specs.Limits.{IsWithinLimits}
 use Rattle.mgn_span.specs.Options.{net_option_value}
 use Rattle.mgn_span.specs.Positions.{Position, positions}

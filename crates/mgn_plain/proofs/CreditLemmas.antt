@@ -9,7 +9,8 @@ use Rattle.mgn_params.specs.declared.tables.CreditSpread.{CreditSpread}
 use Rattle.mgn_params.specs.declared.tables.Leg.{Leg}
 use Rattle.mgn_span.specs.Credits.{fits, leg_amount, formed}
 use Rattle.mgn_span.specs.Scan.{value_at}
-use Rattle.mgn_plain.specs.Rests.{AreCreditNumbers, AreRests, IsCreditable}
+use Rattle.mgn_plain.specs.Rests.{AreCreditNumbers, IsCreditable}
+use Rattle.mgn_span.specs.Words.{AreRests}
 use Rattle.mgn_span.proofs.StageLemmas.{used_le_left}
 
 -- a leg that fits has a rest other than 0

@@ -10,7 +10,7 @@ use Rattle.std.proofs.lemmas.Int.{ints}
 use Rattle.std.proofs.lemmas.List.{get_or-replicate, get_or_default, get_or_past, length-replicate, nil_from_length}
 use Rattle.std.proofs.lemmas.List.FromFn.{fill_by_all, length-map-range_with_len}
 use Rattle.mgn_span.specs.Credits.{credits_of}
-use Rattle.mgn_span.specs.Words.{net_delta, price_risk2_of}
+use Rattle.mgn_span.specs.Words.{net_delta, price_risk2_of, total_of}
 use Rattle.mgn_params.specs.Limits.{IsWithinLimits}
 use Rattle.mgn_span.specs.Positions.{Position, positions}
 use Rattle.mgn_span.specs.Requirement.{credit, credits, intra_charge, minimum, risk, spot_charge}
@@ -20,7 +20,7 @@ use Rattle.mgn_span.specs.Stages.{charges_of, stages_of, left_by}
 use Rattle.mgn_params.specs.Tables.{Tables}
 use Rattle.mgn_plain.specs.declared.figure_rows.FigureRows.{FigureRows}
 use Rattle.mgn_plain.specs.declared.scanned.ScanFigures.{ScanFigures}
-use Rattle.mgn_plain.specs.Kept.{leg_of, legs_row, total_of}
+use Rattle.mgn_plain.specs.Kept.{leg_of, legs_row}
 use Rattle.mgn_plain.specs.Parts.{AreCharges, AreChargesFrom, AreCredits, AreCreditsFrom, AreDeltas, AreNetDeltas, AreFigureRows, AreRisks, AreStarts, AreTotals}
 use Rattle.mgn_plain.specs.Rests.{AreCreditNumbers}
 use Rattle.mgn_plain.specs.Scans.{AreScans, AreScansOf, scan_at, scanned}

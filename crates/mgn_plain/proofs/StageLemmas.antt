@@ -1,14 +1,12 @@
 -- Stages: what they use and charge, one after the other.
-use Rattle.std.proofs.Common.{◌≡◌, ◌≢◌, ℕ, suc, ◌+◌, ◌-◌, ◌*◌, ◌<◌, ◌≤◌, ◌^◌, List, [], ◌∷◌, ◌++◌, length, drop, get_or, ap, ◌∙◌, sym, arith, add-one, refl, eq-eqb, ne_eqb, All, length-set, length-append, true, false}
-use Rattle.std.specs.Int.{div_ceil}
-use Rattle.std.specs.Prelude.{Option, Some, None, ◌==◌, if◌then◌else◌, slice_index}
+use Rattle.std.proofs.Common.{◌≡◌, ◌≢◌, ℕ, suc, ◌+◌, ◌-◌, ◌*◌, ◌<◌, ◌≤◌, ◌^◌, List, [], ◌∷◌, ◌++◌, length, drop, get_or, ap, ◌∙◌, sym, arith, add-one, refl, eq-eqb, ne_eqb, All, length-append, true, false}
+use Rattle.std.specs.Prelude.{◌==◌, if◌then◌else◌, slice_index}
 use Rattle.std.specs.List.{filter, flat_map, count_by, AllByRecursion}
 use Rattle.std.proofs.Math.Nat.{mul-le-mul}
 use Rattle.std.proofs.Math.Seq.{drop-cons}
 use Rattle.std.proofs.lemmas.List.Sums.{fold-append, sum_by-cons}
 use Rattle.std.proofs.lemmas.List.Elements.{All-tail}
 use Rattle.std.proofs.lemmas.Grind.{common_steps}
-use Rattle.mgn_span.proofs.StageLemmas.{used_le_left}
 use Rattle.mgn_params.specs.declared.tables.Spread.{Spread}
 use Rattle.mgn_span.specs.declared.stage.Stage.{Stage}
 use Rattle.mgn_span.specs.Stages.{amount_of, left_after, charges_of, left_by, stages_of_spread, stages_of, IsStage, long_leg, short_leg}

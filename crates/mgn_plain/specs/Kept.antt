@@ -1,18 +1,9 @@
 -- The rows that a calculation keeps: one for each commodity of a set, in file order.
 use Rattle.std.specs.Prelude.{◌≤◌, ◌*◌, ◌^◌, unsigned_abs, ℕ, ℤ, List, [], slice_index_or, slice_index}
-use Rattle.mgn_span.specs.Scan.{value_at}
 
 -- at most 8 * 10^18 in size, so that 64 bits hold it (own profile)
 abbrev pub IsTotal : ℤ → Type 0
 IsTotal total = unsigned_abs total ≤ 8 * 10 ^ 18
-
--- the row of a commodity
-abbrev pub totals_of : List (List ℤ) → ℕ → List ℤ
-totals_of rows commodity = slice_index_or rows commodity []
-
--- the total of a scenario
-abbrev pub total_of : List (List ℤ) → ℕ → ℕ → ℤ
-total_of rows commodity scenario = value_at (totals_of rows commodity) scenario
 
 -- the row of a commodity's legs
 abbrev pub legs_row : List (List ℕ) → ℕ → List ℕ

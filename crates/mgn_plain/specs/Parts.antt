@@ -11,7 +11,8 @@ use Rattle.mgn_span.specs.Stages.{charges_of, left_by, stages_of}
 use Rattle.mgn_params.specs.Tables.{Tables}
 use Rattle.mgn_plain.specs.declared.figure_rows.FigureRows.{FigureRows}
 use Rattle.mgn_plain.specs.declared.scanned.ScanFigures.{ScanFigures}
-use Rattle.mgn_plain.specs.Kept.{leg_of, legs_row, total_of}
+use Rattle.mgn_plain.specs.Kept.{leg_of, legs_row}
+use Rattle.mgn_span.specs.Words.{total_of}
 use Rattle.mgn_plain.specs.Scans.{AreScans, scan_at}
 use Rattle.mgn_span.specs.MonthDeltas.{leg_share, net_share_by}
 

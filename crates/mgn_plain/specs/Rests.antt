@@ -10,11 +10,6 @@ pub record AreCreditNumbers (deltas : List ℤ) (risks : List ℕ) : Type 0 wher
   pub small_deltas : All (λ d. unsigned_abs d ≤ 10 ^ 15) deltas
   pub small_risks : (g : ℕ) → slice_index risks g ≤ 4 * (256 * 10 ^ 15)
 
--- no rest is farther from 0 than the net delta
-pub record AreRests (deltas rests : List ℤ) : Type 0 where
-  pub one_each : length rests ≡ length deltas
-  pub near : (g : ℕ) → unsigned_abs (value_at rests g) ≤ unsigned_abs (value_at deltas g)
-
 -- a leg of a formed spread: its commodity has a net delta, and it uses no more of it than there is
 pub record IsCreditable (deltas : List ℤ) (risks : List ℕ) (amount : ℕ) (leg : Leg) : Type 0 where
   pub delta_there : leg.commodity < length deltas

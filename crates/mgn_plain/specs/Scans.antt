@@ -3,7 +3,7 @@ use Rattle.std.specs.Prelude.{ℕ, ◌≡◌, ◌<◌, ◌≤◌, ◌*◌, ◌^�
 use Rattle.mgn_span.specs.Positions.{positions}
 use Rattle.mgn_span.specs.Scan.{active, price_risk2, scan_risk, scenario_total}
 use Rattle.mgn_params.specs.Tables.{Tables}
-use Rattle.mgn_plain.specs.Kept.{total_of}
+use Rattle.mgn_span.specs.Words.{total_of}
 use Rattle.mgn_plain.specs.declared.scanned.ScanFigures.{ScanFigures}
 
 -- the figures of the totals of 16 scenarios, each by its definition

@@ -4,7 +4,8 @@ ghost use Rattle.mgn_span.specs.Credits.{is_long, fits, forms, leg_amount, sprea
 ghost use Rattle.mgn_params.specs.Limits.{IsCreditSpread};
 ghost use Rattle.mgn_span.specs.Scan.{value_at};
 ghost use Rattle.mgn_span.specs.Stages.{used};
-ghost use Rattle.mgn_plain.specs.Rests.{AreCreditNumbers, AreRests, IsCreditable};
+ghost use Rattle.mgn_plain.specs.Rests.{AreCreditNumbers, IsCreditable};
+ghost use Rattle.mgn_span.specs.Words.{AreRests};
 
 use crate::deltas::delta_at;
 use mgn_num::{TenThousandths, mul_div_floor, quotient};

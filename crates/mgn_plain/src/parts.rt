@@ -1,6 +1,7 @@
 ghost use Rattle.std.specs.Prelude.{◌≡◌, ℕ, ◌*◌, ◌<◌, ◌≤◌, ◌^◌, ℤ, List, unsigned_abs, length, IfOk};
 ghost use Rattle.mgn_span.specs.Scan.{value_at};
-ghost use Rattle.mgn_plain.specs.Kept.{leg_of, total_of};
+ghost use Rattle.mgn_plain.specs.Kept.{leg_of};
+ghost use Rattle.mgn_span.specs.Words.{total_of};
 ghost use Rattle.mgn_plain.specs.Parts.{AreCharges, AreChargesFrom, AreCredits, AreCreditsFrom, AreDeltas, AreMinimums, AreNetDeltas, AreNets, AreRisks, AreStarts, AreTotals};
 ghost use Rattle.mgn_plain.specs.Rests.{AreCreditNumbers};
 ghost use Rattle.mgn_plain.specs.Scans.{AreScans, AreScansOf};

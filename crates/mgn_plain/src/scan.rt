@@ -3,8 +3,7 @@ ghost use Rattle.std.specs.Int.{int_max};
 ghost use Rattle.mgn_params.specs.Tables.{contract_at};
 ghost use Rattle.mgn_span.specs.Positions.{positions, IsNet};
 ghost use Rattle.mgn_span.specs.Scan.{value_at, scenario_total, active, pair_of};
-ghost use Rattle.mgn_span.specs.Words.{price_risk2_at, scenario_share};
-ghost use Rattle.mgn_plain.specs.Kept.{total_of, totals_of};
+ghost use Rattle.mgn_span.specs.Words.{price_risk2_at, scenario_share, total_of, totals_of};
 ghost use Rattle.mgn_plain.specs.Scans.{scan_at, scanned};
 
 use crate::rows::net_at;

@@ -11,13 +11,13 @@ use Rattle.mgn_params.specs.Limits.{IsWithinLimits}
 use Rattle.mgn_span.specs.Positions.{IsNet, positions}
 use Rattle.mgn_span.specs.Requirement.{scan_of}
 use Rattle.mgn_span.specs.Scan.{active, price_risk2, scan_risk, scenario_total, value_at}
-use Rattle.mgn_span.specs.Words.{scenario_share}
+use Rattle.mgn_span.specs.Words.{scenario_share, total_of, totals_of}
 use Rattle.mgn_params.specs.Tables.{Tables, contract_at}
 use Rattle.mgn_span.proofs.FlatLemmas.{AreFlat-replicate, scenario_total_flat}
 use Rattle.mgn_span.proofs.PositionLemmas.{position_sum-set}
 use Rattle.mgn_span.proofs.ScanLemmas.{active_same, price_risk2_same, scan_risk_same}
 use Rattle.mgn_span.proofs.ShareLemmas.{scenario_share_out, scenario_total_small}
-use Rattle.mgn_scan.specs.Totals.{AreTotals, IsTotal, Totals, total_of, totals_of}
+use Rattle.mgn_scan.specs.Totals.{AreTotals, IsTotal, Totals}
 
 -- The start.
 

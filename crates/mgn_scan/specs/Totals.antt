@@ -1,21 +1,14 @@
 -- Nets with their rows of totals: one row for each commodity of a set in file order, and in it one total for each of the
 -- 16 scenarios.
-use Rattle.std.specs.Prelude.{ℕ, ◌*◌, ◌≡◌, ◌<◌, ◌≤◌, ◌^◌, ℤ, unsigned_abs, List, [], length, slice_index_or, All}
+use Rattle.std.specs.Prelude.{ℕ, ◌*◌, ◌≡◌, ◌<◌, ◌≤◌, ◌^◌, ℤ, unsigned_abs, List, length, All}
 use Rattle.mgn_span.specs.Positions.{IsNet, positions}
-use Rattle.mgn_span.specs.Scan.{scenario_total, value_at}
+use Rattle.mgn_span.specs.Scan.{scenario_total}
 use Rattle.mgn_params.specs.Tables.{Tables}
+use Rattle.mgn_span.specs.Words.{total_of}
 
 -- at most 256 * 10^15 in size: 256 contracts at 10^7 each, with arrays of at most 10^8 (own profile)
 abbrev pub IsTotal : ℤ → Type 0
 IsTotal total = unsigned_abs total ≤ 256 * 10 ^ 15
-
--- the row of a commodity
-abbrev pub totals_of : List (List ℤ) → ℕ → List ℤ
-totals_of rows commodity = slice_index_or rows commodity []
-
--- the total of a scenario
-abbrev pub total_of : List (List ℤ) → ℕ → ℕ → ℤ
-total_of rows commodity scenario = value_at (totals_of rows commodity) scenario
 
 pub record Totals : Type 0 where
   pub nets : List ℤ

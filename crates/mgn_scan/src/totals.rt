@@ -3,7 +3,8 @@ ghost use Rattle.mgn_span.specs.Positions.{IsNet, positions};
 ghost use Rattle.mgn_span.specs.Requirement.{scan_of};
 ghost use Rattle.mgn_span.specs.Scan.{active, price_risk2, scenario_total, value_at};
 ghost use Rattle.mgn_params.specs.Tables.{Tables};
-ghost use Rattle.mgn_scan.specs.Totals.{AreTotals, totals_of};
+ghost use Rattle.mgn_scan.specs.Totals.{AreTotals};
+ghost use Rattle.mgn_span.specs.Words.{totals_of};
 
 use crate::figures::{active_scenario, add_scaled, doubled_risk, largest_total};
 use crate::total::Total;

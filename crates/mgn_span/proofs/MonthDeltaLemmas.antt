@@ -18,7 +18,7 @@ use Rattle.mgn_span.specs.Requirement.{intra_charge, spot_charge}
 use Rattle.mgn_span.specs.Scan.{value_at}
 use Rattle.mgn_span.specs.Spot.{spot_charge_from, spot_of}
 use Rattle.mgn_span.specs.Stages.{charges_of, left_by, stages_of}
-use Rattle.mgn_span.specs.Words.{long_share, month_share, net_delta, net_share, short_share, start_of, starts_of}
+use Rattle.mgn_span.specs.Words.{month_share, net_delta, net_share, start_of, starts_of}
 use Rattle.mgn_params.specs.Tables.{Tables, contract_at, month_at}
 use Rattle.mgn_span.proofs.PositionLemmas.{position_sum-set}
 

@@ -1,5 +1,5 @@
 -- Words for laws, for the inside of other crates and for proofs. No definition of the requirement stands on them.
-use Rattle.std.specs.Prelude.{ℕ, ◌+◌, ◌-◌, ◌*◌, ◌==◌, ◌&&◌, nat_lt, if◌then◌else◌, ℤ, pos, ◌+ℤ◌, ◌-ℤ◌, ◌*ℤ◌, int_lt, unsigned_abs, List, [], ◌∷◌, length}
+use Rattle.std.specs.Prelude.{ℕ, ◌≡◌, ◌≤◌, ◌+◌, ◌-◌, ◌*◌, ◌==◌, ◌&&◌, if◌then◌else◌, ℤ, pos, ◌+ℤ◌, ◌-ℤ◌, ◌*ℤ◌, int_lt, unsigned_abs, List, [], ◌∷◌, length, slice_index_or}
 use Rattle.std.specs.Int.{div_ceil, int_max}
 use Rattle.std.specs.List.{range_with_len}
 use Rattle.mgn_params.specs.declared.tables.Month.{Month}
@@ -85,3 +85,24 @@ used_of left stage leg =
 abbrev pub used_by : List ℕ → List Stage → ℕ → ℕ
 used_by left [] leg = 0
 used_by left (stage ∷ stages) leg = used_of left stage leg + used_by (left_after left stage) stages leg
+
+-- a stage that stands at no place of a list; it uses and charges nothing
+abbrev pub no_stage : Stage
+no_stage = record { first_leg = 0; first_ratio = 0; second_leg = 0; second_ratio = 0; charge = 0 }
+
+abbrev pub stage_at : List Stage → ℕ → Stage
+stage_at stages i = slice_index_or stages i no_stage
+
+-- Rows of numbers that are kept for the commodities of a set.
+
+-- the scenario totals of a commodity, and one of them
+abbrev pub totals_of : List (List ℤ) → ℕ → List ℤ
+totals_of rows commodity = slice_index_or rows commodity []
+
+abbrev pub total_of : List (List ℤ) → ℕ → ℕ → ℤ
+total_of rows commodity scenario = value_at (totals_of rows commodity) scenario
+
+-- no rest is farther from 0 than the net delta
+pub record AreRests (deltas rests : List ℤ) : Type 0 where
+  pub one_each : length rests ≡ length deltas
+  pub near : (g : ℕ) → unsigned_abs (value_at rests g) ≤ unsigned_abs (value_at deltas g)

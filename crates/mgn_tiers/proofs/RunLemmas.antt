@@ -6,9 +6,9 @@ use Rattle.std.proofs.lemmas.List.Elements.{All-push}
 use Rattle.std.specs.Prelude.{min}
 use Rattle.mgn_span.specs.declared.stage.Stage.{Stage}
 use Rattle.mgn_span.specs.Stages.{IsStage, charges_of, left_after, left_by}
-use Rattle.mgn_span.specs.Words.{charge_of}
+use Rattle.mgn_span.specs.Words.{charge_of, no_stage, stage_at}
 use Rattle.mgn_tiers.specs.declared.kept.Kept.{Kept}
-use Rattle.mgn_tiers.specs.Runs.{IsKept, IsRun, MissesBelow, Run, kept_at, no_stage, nothing_kept, stage_at}
+use Rattle.mgn_tiers.specs.Runs.{IsKept, IsRun, MissesBelow, Run, kept_at, nothing_kept}
 use Rattle.mgn_tiers.specs.Sizes.{IsStart}
 use Rattle.mgn_tiers.proofs.StageSteps.{charges_of_set, charges_of_small, charges_of_suc, left_after_back, left_by_le, left_by_set, left_by_suc}
 

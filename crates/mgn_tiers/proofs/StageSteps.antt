@@ -6,8 +6,8 @@ use Rattle.std.proofs.lemmas.Grind.{common_steps}
 use Rattle.std.proofs.lemmas.List.Sums.{fold_more}
 use Rattle.mgn_span.specs.declared.stage.Stage.{Stage}
 use Rattle.mgn_span.specs.Stages.{IsStage, amount_of, charges_of, left_after, left_by, used}
-use Rattle.mgn_span.specs.Words.{charge_of}
-use Rattle.mgn_tiers.specs.Runs.{MissesBelow, no_stage, stage_at}
+use Rattle.mgn_span.specs.Words.{charge_of, no_stage, stage_at}
+use Rattle.mgn_tiers.specs.Runs.{MissesBelow}
 use Rattle.mgn_tiers.specs.Sizes.{IsStart}
 
 -- one stage more

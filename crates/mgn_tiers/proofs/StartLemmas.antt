@@ -1,6 +1,6 @@
 -- What legs start with, and net deltas, after the delta of one month changes.
 use Rattle.std.proofs.Common.{◌≡◌, ◌≢◌, ℕ, ◌+◌, ◌-◌, ◌*◌, ◌<◌, ◌≤◌, ◌^◌, Bool, true, false, List, length, slice_index, slice_set, pos, ℤ, ⊎_elim, ap, ◌∙◌, sym, arith, refl, All, length-set, get_or-set_same, get_or-set_other, unsigned_abs, replicate}
-use Rattle.std.specs.Prelude.{◌+ℤ◌, ◌==◌, ◌&&◌, if◌then◌else◌, nat_lt}
+use Rattle.std.specs.Prelude.{◌+ℤ◌, ◌==◌, if◌then◌else◌}
 use Rattle.std.proofs.lemmas.Bool.{cases_eq, cases_lt}
 use Rattle.std.proofs.lemmas.Int.{ints}
 use Rattle.std.proofs.lemmas.List.{get_or-replicate, get_or_past, length-replicate}

@@ -5,6 +5,7 @@ use Rattle.mgn_span.specs.declared.stage.Stage.{Stage}
 use Rattle.mgn_span.specs.Stages.{IsStage, charges_of, left_by}
 use Rattle.mgn_tiers.specs.declared.kept.Kept.{Kept}
 use Rattle.mgn_tiers.specs.Sizes.{IsStart}
+use Rattle.mgn_span.specs.Words.{stage_at}
 
 -- what the legs start with, the stages in file order, how many of them are formed, and the spot month charge
 pub record Run : Type 0 where
@@ -12,12 +13,6 @@ pub record Run : Type 0 where
   pub stages : List Stage
   pub formed : ℕ
   pub spot : Option SpotCharge
-
-abbrev pub no_stage : Stage
-no_stage = record { first_leg = 0; first_ratio = 0; second_leg = 0; second_ratio = 0; charge = 0 }
-
-abbrev pub stage_at : List Stage → ℕ → Stage
-stage_at stages i = slice_index_or stages i no_stage
 
 abbrev pub nothing_kept : Kept
 nothing_kept = record { first = 0; second = 0; charged = 0 }

@@ -1,7 +1,7 @@
 use Rattle.std.proofs.Common.{◌≡◌, ◌≤◌, ◌*◌, ◌^◌, ℕ, take, length, slice_index}
 use Rattle.std.specs.List.{fold}
 use Rattle.mgn_span.specs.Credits.{formed}
-use Rattle.mgn_plain.specs.Rests.{AreRests}
+use Rattle.mgn_span.specs.Words.{AreRests}
 use Rattle.mgn_plain.proofs.credits.add_credits.Given as goal
 
 abbrev pub invariant-loop-spread : goal.invariant-loop-spread

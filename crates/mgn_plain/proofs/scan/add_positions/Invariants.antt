@@ -1,7 +1,7 @@
 use Rattle.std.proofs.Common.{◌≡◌, ℕ, ◌<◌, ◌≤◌, ◌*◌, ◌^◌, take, unsigned_abs, length}
 use Rattle.mgn_span.specs.Positions.{positions}
 use Rattle.mgn_span.specs.Scan.{scenario_total}
-use Rattle.mgn_plain.specs.Kept.{total_of}
+use Rattle.mgn_span.specs.Words.{total_of}
 use Rattle.mgn_plain.proofs.scan.add_positions.Given as goal
 
 abbrev pub invariant-loop-i : goal.invariant-loop-i

@@ -1,5 +1,5 @@
 use Rattle.std.proofs.Common.{◌≡◌, ℕ, ◌<◌, ◌≤◌, ◌*◌, ◌^◌, length, unsigned_abs}
-use Rattle.mgn_plain.specs.Kept.{total_of}
+use Rattle.mgn_span.specs.Words.{total_of}
 use Rattle.mgn_plain.specs.Scans.{scan_at, scanned}
 use Rattle.mgn_plain.proofs.scan.fill_scans.Given as goal
 

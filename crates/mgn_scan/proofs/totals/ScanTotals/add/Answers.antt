@@ -4,7 +4,8 @@ use Rattle.std.proofs.lemmas.List.{get_or_default}
 use Rattle.mgn_params.specs.declared.tables.Contract.{Contract}
 use Rattle.mgn_span.specs.Scan.{value_at}
 use Rattle.mgn_params.specs.Tables.{Tables, contract_at, no_contract}
-use Rattle.mgn_scan.specs.Totals.{AreTotals, Totals, total_of, totals_of}
+use Rattle.mgn_scan.specs.Totals.{AreTotals, Totals}
+use Rattle.mgn_span.specs.Words.{total_of, totals_of}
 use Rattle.mgn_scan.proofs.TotalsLemmas.{AreTotals-changed, changed_total_small, quantity_small}
 use Rattle.mgn_scan.proofs.totals.ScanTotals.add.Goals as goal
 use Rattle.mgn_scan.proofs.totals.ScanTotals.add.Goals.{After-array}

@@ -2,8 +2,8 @@ use Rattle.std.proofs.Common.{◌≡◌, ◌<◌, ◌∙◌, ap, subst, sym, ari
 use Rattle.std.proofs.lemmas.List.{get_or_read}
 use Rattle.mgn_span.specs.declared.stage.Stage.{Stage}
 use Rattle.mgn_span.specs.Stages.{left_after}
-use Rattle.mgn_span.specs.Words.{charge_of}
-use Rattle.mgn_tiers.specs.Runs.{Run, no_stage, stage_at}
+use Rattle.mgn_span.specs.Words.{charge_of, no_stage, stage_at}
+use Rattle.mgn_tiers.specs.Runs.{Run}
 use Rattle.mgn_tiers.specs.RunRows.{run_of}
 use Rattle.mgn_tiers.proofs.RunLemmas.{charged_small, left_small, run_formed}
 use Rattle.mgn_tiers.proofs.run.StageRun.form_next.Goals as goal

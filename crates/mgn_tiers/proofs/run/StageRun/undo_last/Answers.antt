@@ -1,6 +1,7 @@
 use Rattle.std.proofs.Common.{◌-◌, ◌<◌, subst, sym, arith}
 use Rattle.std.proofs.lemmas.List.{get_or_read}
-use Rattle.mgn_tiers.specs.Runs.{Run, no_stage, nothing_kept}
+use Rattle.mgn_tiers.specs.Runs.{Run, nothing_kept}
+use Rattle.mgn_span.specs.Words.{no_stage}
 use Rattle.mgn_tiers.specs.RunRows.{run_of}
 use Rattle.mgn_tiers.proofs.RunLemmas.{run_undone}
 use Rattle.mgn_tiers.proofs.run.StageRun.undo_last.Goals as goal
