@@ -73,10 +73,12 @@ fn a_script_is_answered_to_its_end(rt: HostRuntime) -> Result<(), Fail> {
 }
 
 // Lines without a set stay out of the history; the set that comes into force doubles the requirement.
-const SWITCHES: &[u8] = b"ORIGIN CUST GROSS\nOPEN A1 CUST\nPOST A1 CASH 1000\nTRADE A1 1 AAA1 2 0\nSWITCH NOPE\n\
+const SWITCHES: &[u8] =
+    b"ORIGIN CUST GROSS\nOPEN A1 CUST\nPOST A1 CASH 1000\nTRADE A1 1 AAA1 2 0\nSWITCH NOPE\n\
 SWITCH BROKEN\nSWITCH two\nSWITCH TWO\nASK A1\nEND\nSWITCH NOPE\nSWITCH ONE\n";
 
-const SWITCHED: &[u8] = b"OK 1\nOK 2\nOK 3\nOK 4\nERR 40 NOSET\nERR 41 BADSET 3\nERR 10 SYNTAX\nOK 5 1 1\n\
+const SWITCHED: &[u8] =
+    b"OK 1\nOK 2\nOK 3\nOK 4\nERR 40 NOSET\nERR 41 BADSET 3\nERR 10 SYNTAX\nOK 5 1 1\n\
 OK 6 1200 1200 1000 1000 -200\nOK 7\nERR 40 NOSET\nERR 8 50 CLOSED\n";
 
 #[test]

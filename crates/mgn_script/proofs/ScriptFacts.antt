@@ -116,14 +116,12 @@ step_seen sets old new request (Some place) reply is begins put committed =
     ap (replay sets) committed.2
     ∙ replay-push sets start old.day.history (entry 1 place (recorded request reply) reply)
     ∙ ap (λ (r : Request). (step sets (replay sets old.day.history) r).0) same in
-    let now = made ∙ ap (λ (s : State). step sets s request) is.state in
-    (
+    let now = made ∙ ap (λ (s : State). step sets s request) is.state in (
       (committed.0, ap (λ (p : State × Reply). p.1) now, committed.2),
       record { shown = ap length put ∙ so.shown; state = ap (λ (p : State × Reply). p.0) now ∙ sym next },
     )
 step_seen sets old new request None reply is begins put committed =
-    let same : new.sets ≡ old.sets = put ∙ unplaced_sets _ old.sets request reply committed.1 in
-    (
+    let same : new.sets ≡ old.sets = put ∙ unplaced_sets _ old.sets request reply committed.1 in (
       (ap (λ (day : BookView). day.history) committed.0, committed.1),
       record {
         shown = ap length same ∙ is.shown ∙ ap (λ (day : BookView). day.book.state.version + 1) (sym committed.0);

@@ -26,9 +26,11 @@ pub fn run_script<R: Read, W: Write, S: SetSource>(
         talk.old talk.new ([], source.old) (plain.new.day.history, source.new) n) }
     ensures err { OnErr result (HasStopped (Answers (Steps plain.new.sets) S.gives)
         talk.old talk.new ([], source.old) (plain.new.day.history, source.new)) }
-    ensures read { IfErr result (λ fault. fault ≡ SessionFault.Read → (n : ℕ) × IsCaughtUp (Answers (Steps plain.new.sets) S.gives)
+    ensures read { IfErr result (λ fault. fault ≡ SessionFault.Read → (n : ℕ)
+        × IsCaughtUp (Answers (Steps plain.new.sets) S.gives)
         talk.old talk.new ([], source.old) (plain.new.day.history, source.new) n) }
-    ensures lines { IfErr result (λ fault. fault ≡ SessionFault.Lines → HasTooMuch (Answers (Steps plain.new.sets) S.gives)
+    ensures lines { IfErr result (λ fault. fault ≡ SessionFault.Lines
+        → HasTooMuch (Answers (Steps plain.new.sets) S.gives)
         talk.old talk.new ([], source.old) (plain.new.day.history, source.new)) }
     ensures failures { BlamesDevices talk.old talk.new result }
     ensures sets { Begins plain.old.sets plain.new.sets }

@@ -41,7 +41,8 @@ fn answer_switch<E: Exec, S: SetSource>(
     source: &mut S,
     name: &SetName,
 ) -> LineReply
-    ensures { Answers (Calls E.entries E.is_full E.does) S.gives (exec.old, source.old) (Ok (Line.Switch name.now)) result (exec.new, source.new) }
+    ensures { Answers (Calls E.entries E.is_full E.does) S.gives
+        (exec.old, source.old) (Ok (Line.Switch name.now)) result (exec.new, source.new) }
 {
     match source.fetch(name) {
         Ok(file) => switch(alloc, exec, file.as_slice()),
@@ -56,7 +57,8 @@ fn answer_line<E: Exec, S: SetSource>(
     source: &mut S,
     read: &Result<Line, LineFault>,
 ) -> LineReply
-    ensures { Answers (Calls E.entries E.is_full E.does) S.gives (exec.old, source.old) read.now result (exec.new, source.new) }
+    ensures { Answers (Calls E.entries E.is_full E.does) S.gives
+        (exec.old, source.old) read.now result (exec.new, source.new) }
 {
     match read {
         Ok(Line::Do(command)) => LineReply::Answered(exec.exec(Request::Do(*command))),
@@ -137,12 +139,15 @@ impl LineBuffer {
         ensures ok { (before : ConversationView) (first : E × S) (rest : List ℕ) (size : ℕ) → has_end last.now ≡ false →
             IsUnderWay (Answers (Calls E.entries E.is_full E.does) S.gives) before talk.old first (exec.old, source.old)
             ((last.now ++ 10 ∷ []) ++ rest) size self.old.lines self.old.line.items →
-            OnOk result (IsUnderWay (Answers (Calls E.entries E.is_full E.does) S.gives) before talk.new first (exec.new, source.new)
+            OnOk result (IsUnderWay (Answers (Calls E.entries E.is_full E.does) S.gives)
+            before talk.new first (exec.new, source.new)
             rest size self.new.lines self.new.line.items) }
-        ensures err { (before : ConversationView) (first : E × S) (rest : List ℕ) (size : ℕ) → has_end last.now ≡ false →
+        ensures err { (before : ConversationView) (first : E × S) (rest : List ℕ) (size : ℕ)
+            → has_end last.now ≡ false →
             IsUnderWay (Answers (Calls E.entries E.is_full E.does) S.gives) before talk.old first (exec.old, source.old)
             ((last.now ++ 10 ∷ []) ++ rest) size self.old.lines self.old.line.items →
-            OnErr result (IsCutOff (Answers (Calls E.entries E.is_full E.does) S.gives) before talk.new first (exec.new, source.new)) }
+            OnErr result (IsCutOff (Answers (Calls E.entries E.is_full E.does) S.gives)
+            before talk.new first (exec.new, source.new)) }
         ensures count { OnOk result (self.new.lines ≡ self.old.lines + 1) }
         ensures owed { OnOk result (talk.new.owed + 1 ≡ talk.old.owed) }
         ensures devices { KeepsDevices talk.old talk.new }
@@ -168,17 +173,20 @@ impl LineBuffer {
         ensures ok { (before : ConversationView) (first : E × S) (size : ℕ) →
             IsUnderWay (Answers (Calls E.entries E.is_full E.does) S.gives) before talk.old first (exec.old, source.old)
             chunk.now size self.old.lines self.old.line.items →
-            OnOk result (IsUnderWay (Answers (Calls E.entries E.is_full E.does) S.gives) before talk.new first (exec.new, source.new)
+            OnOk result (IsUnderWay (Answers (Calls E.entries E.is_full E.does) S.gives)
+            before talk.new first (exec.new, source.new)
             [] size self.new.lines self.new.line.items) }
         ensures err { (before : ConversationView) (first : E × S) (size : ℕ) →
             IsUnderWay (Answers (Calls E.entries E.is_full E.does) S.gives) before talk.old first (exec.old, source.old)
             chunk.now size self.old.lines self.old.line.items →
-            OnErr result (IsCutOff (Answers (Calls E.entries E.is_full E.does) S.gives) before talk.new first (exec.new, source.new)) }
+            OnErr result (IsCutOff (Answers (Calls E.entries E.is_full E.does) S.gives)
+            before talk.new first (exec.new, source.new)) }
         ensures many { (before : ConversationView) (first : E × S) (size : ℕ) →
             IsUnderWay (Answers (Calls E.entries E.is_full E.does) S.gives) before talk.old first (exec.old, source.old)
             chunk.now size self.old.lines self.old.line.items →
             IfErr result (λ fault. fault ≡ SessionFault.Lines → (rest : List ℕ) × (0 < length rest)
-            × IsUnderWay (Answers (Calls E.entries E.is_full E.does) S.gives) before talk.new first (exec.new, source.new)
+            × IsUnderWay (Answers (Calls E.entries E.is_full E.does) S.gives)
+            before talk.new first (exec.new, source.new)
             rest size MAX_LINES self.new.line.items) }
         ensures fault { IfErr result (λ fault. (fault ≡ SessionFault.Memory) ⊎ (fault ≡ SessionFault.Lines)) }
         ensures lines { OnOk result (self.new.lines ≤ MAX_LINES) }

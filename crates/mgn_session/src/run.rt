@@ -28,12 +28,14 @@ fn answer_chunk<R: Read, W: Write, E: Exec, S: SetSource>(
     ensures ok { (before : ConversationView) (first : E × S) (size : ℕ) →
         IsUnderWay (Answers (Calls E.entries E.is_full E.does) S.gives) before talk.old first (exec.old, source.old)
         chunk.now size lines.old.lines lines.old.line.items →
-        OnOk result (IsUnderWay (Answers (Calls E.entries E.is_full E.does) S.gives) before talk.new first (exec.new, source.new)
+        OnOk result (IsUnderWay (Answers (Calls E.entries E.is_full E.does) S.gives)
+        before talk.new first (exec.new, source.new)
         [] size lines.new.lines lines.new.line.items) }
     ensures err { (before : ConversationView) (first : E × S) (size : ℕ) →
         IsUnderWay (Answers (Calls E.entries E.is_full E.does) S.gives) before talk.old first (exec.old, source.old)
         chunk.now size lines.old.lines lines.old.line.items →
-        OnErr result (HasStopped (Answers (Calls E.entries E.is_full E.does) S.gives) before talk.new first (exec.new, source.new)) }
+        OnErr result (HasStopped (Answers (Calls E.entries E.is_full E.does) S.gives)
+        before talk.new first (exec.new, source.new)) }
     ensures many { (before : ConversationView) (first : E × S) (size : ℕ) →
         IsUnderWay (Answers (Calls E.entries E.is_full E.does) S.gives) before talk.old first (exec.old, source.old)
         chunk.now size lines.old.lines lines.old.line.items →
@@ -65,11 +67,14 @@ pub fn run_lines<R: Read, W: Write, E: Exec, S: SetSource>(
     requires { IsQuiet talk.old }
     ensures ok { IfOk result (λ n. HasAnswered (Answers (Calls E.entries E.is_full E.does) S.gives)
         talk.old talk.new (exec.old, source.old) (exec.new, source.new) n) }
-    ensures err { OnErr result (HasStopped (Answers (Calls E.entries E.is_full E.does) S.gives) talk.old talk.new (exec.old, source.old) (exec.new, source.new)) }
+    ensures err { OnErr result (HasStopped (Answers (Calls E.entries E.is_full E.does) S.gives)
+        talk.old talk.new (exec.old, source.old) (exec.new, source.new)) }
     ensures read { IfErr result (λ fault. fault ≡ SessionFault.Read → (n : ℕ)
-        × IsCaughtUp (Answers (Calls E.entries E.is_full E.does) S.gives) talk.old talk.new (exec.old, source.old) (exec.new, source.new) n) }
+        × IsCaughtUp (Answers (Calls E.entries E.is_full E.does) S.gives)
+        talk.old talk.new (exec.old, source.old) (exec.new, source.new) n) }
     ensures lines { IfErr result (λ fault. fault ≡ SessionFault.Lines →
-        HasTooMuch (Answers (Calls E.entries E.is_full E.does) S.gives) talk.old talk.new (exec.old, source.old) (exec.new, source.new)) }
+        HasTooMuch (Answers (Calls E.entries E.is_full E.does) S.gives)
+        talk.old talk.new (exec.old, source.old) (exec.new, source.new)) }
     ensures failures { BlamesDevices talk.old talk.new result }
 {
     let mut lines = LineBuffer::new(alloc);
