@@ -8,10 +8,6 @@ mod change;
 #[cfg(test)]
 mod day;
 #[cfg(test)]
-mod holds;
-#[cfg(test)]
 mod row;
 #[cfg(test)]
 mod script;
-#[cfg(test)]
-mod switch;

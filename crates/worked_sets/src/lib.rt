@@ -235,6 +235,18 @@ K,AAAP,AAA,1,P,F,-5000,0,0,0,50,50,-50,-50,100,100,-100,-100,150,150,-150,-150,1
 K,BBBP,BBB,1,P,P,-5000,11,0,0,5,5,-5,-5,10,10,-9,-9,15,15,-10,-10,11,-11\n"
 }
 
+/// Two futures of the first set in another order, and its class at another price.
+pub fn rev() -> &'static str {
+    "H,1,REV\n\
+G,BBB,0\n\
+G,AAA,0\n\
+M,BBB,1,1\n\
+M,AAA,1,1\n\
+K,BBB1,BBB,1,F,F,10000,0,0,0,-50,-50,50,50,-100,-100,100,100,-150,-150,150,150,-105,105\n\
+K,AAA1,AAA,1,F,F,10000,0,0,0,-100,-100,100,100,-200,-200,200,200,-300,-300,300,300,-210,210\n\
+V,BILL,5000,0\n"
+}
+
 /// A collateral class alone.
 pub fn bills() -> &'static str {
     "H,1,BILLS\n\
