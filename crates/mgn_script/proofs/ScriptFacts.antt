@@ -117,7 +117,7 @@ step_seen sets old new request (Some place) reply is begins put committed =
     ∙ replay-push sets start old.day.history (entry 1 place (recorded request reply) reply)
     ∙ ap (λ (r : Request). (step sets (replay sets old.day.history) r).0) same in
     let now = made ∙ ap (λ (s : State). step sets s request) is.state in (
-      (committed.0, ap (λ (p : State × Reply). p.1) now, committed.2),
+      (committed.0, ap (λ (p : State × Reply). p.1) now, same, committed.2),
       record { shown = ap length put ∙ so.shown; state = ap (λ (p : State × Reply). p.0) now ∙ sym next },
     )
 step_seen sets old new request None reply is begins put committed =
