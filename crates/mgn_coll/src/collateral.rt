@@ -38,6 +38,13 @@ impl Collateral {
         }
     }
 
+    /// The cash in cents, 0 to 10^15.
+    pub fn cash(&self) -> u64
+        ensures { result ≡ self.now.cash }
+    {
+        self.cash
+    }
+
     /// What is posted by a name: cents of cash by `CASH`, at most 10^15, and units of a class by another, at most 10^9.
     pub fn amount(&self, class: &ClassName) -> u64
         ensures amount { result ≡ amount_of class.now self.now }
@@ -50,7 +57,8 @@ impl Collateral {
         }
     }
 
-    fn class_units(&self, class: &ClassName) -> u64
+    /// The units of a class, 0 to 10^9.
+    pub fn class_units(&self, class: &ClassName) -> u64
         ensures units { result ≡ units_of class.now self.now.units }
         ensures most { result ≤ 10 ^ 9 }
     {

@@ -4,7 +4,7 @@
 pub mod amounts;
 pub mod collateral;
 
-pub use amounts::{MOST_CASH, MOST_UNITS, is_known, most_of};
+pub use amounts::{MOST_CASH, MOST_UNITS, class_value, is_known, most_of};
 pub use collateral::Collateral;
 
 #[cfg(test)]

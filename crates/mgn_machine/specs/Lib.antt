@@ -6,4 +6,5 @@ pub mod Refusals
 pub mod Holding
 pub mod NewSet
 pub mod Step
+pub mod Statements
 pub mod History

@@ -7,6 +7,7 @@ pub mod entry;
 pub mod origin;
 pub mod reply;
 pub mod request;
+pub mod statement;
 #[cfg(test)]
 mod tests;
 
@@ -15,3 +16,4 @@ pub use entry::{Entry, Item};
 pub use origin::Origin;
 pub use reply::{Answer, Figures, NewSet, Refusal, Reply};
 pub use request::{Recorded, Request};
+pub use statement::{ClassLine, CommodityLine, Heading, Statement};

@@ -5,7 +5,7 @@ ghost use Rattle.mgn_machine.specs.State.{fresh, with_lot, with_bust, with_amoun
 ghost use Rattle.mgn_unit.specs.NewSets.{value_gain};
 
 use mgn_coll::Collateral;
-use mgn_holds::Holds;
+use mgn_holds::{Held, Holds};
 use mgn_ids::{AccountName, ClassName, LotId};
 use mgn_lots::{Lot, Lots};
 use mgn_num::Cents;
@@ -54,6 +54,13 @@ impl Account {
         }
     }
 
+    /// Its name.
+    pub fn name(&self) -> AccountName
+        ensures { result ≡ self.now.name }
+    {
+        self.name
+    }
+
     /// The place of its origin among the origins.
     pub fn origin(&self) -> usize
         ensures { result ≡ self.now.origin }
@@ -66,6 +73,27 @@ impl Account {
         ensures { result ≡ self.now.unit }
     {
         self.unit
+    }
+
+    /// Its collateral.
+    pub fn collateral(&self) -> &Collateral
+        ensures { result.now ≡ self.now.collateral }
+    {
+        &self.collateral
+    }
+
+    /// Its lots, busted ones included, in order of entry.
+    pub fn lots(&self) -> &[Lot]
+        ensures { result.now ≡ self.now.lots }
+    {
+        self.lots.as_slice()
+    }
+
+    /// Its holds, in order of entry.
+    pub fn holds(&self) -> &[Held]
+        ensures { result.now ≡ self.now.holds }
+    {
+        self.holds.as_slice()
     }
 
     /// The value of the posted collateral under a set, in cents.

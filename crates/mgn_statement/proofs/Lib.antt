@@ -1,0 +1,2 @@
+-- Lemmas on the lists of a statement.
+pub mod Lists

@@ -1,0 +1,2 @@
+-- Statements by the rows of margin units.
+pub mod Statement

@@ -1,0 +1,124 @@
+ghost use Rattle.std.specs.Prelude.{◌≡◌, ◌<◌, ◌≤◌, ◌^◌, IfOk, filter, length, map};
+ghost use Rattle.mgn_lots.specs.declared.lot.Lot.{Lot as LotValue};
+ghost use Rattle.mgn_lots.specs.Lots.{is_live};
+ghost use Rattle.mgn_coll.specs.Posted.{class_value};
+ghost use Rattle.mgn_params.specs.Limits.{IsClass};
+ghost use Rattle.mgn_span.specs.Positions.{positions};
+ghost use Rattle.mgn_span.specs.Words.{commodities_of};
+ghost use Rattle.mgn_plain.specs.Figures.{commodity_figures};
+ghost use Rattle.mgn_machine.specs.Statements.{class_lines, commodity_lines, is_held};
+ghost use Rattle.mgn_statement.specs.Statement.{line_by};
+
+use mgn_coll::{Collateral, class_value};
+use mgn_lots::{Lot, Mark};
+use mgn_machine::{ClassLine, CommodityLine};
+use mgn_num::Quantity;
+use mgn_params::{Class, ParamSet};
+use mgn_plain::CommodityFigures;
+use std::alloc::{AllocError, Global};
+
+#[tactic(auto, using(crate::proofs::Lists::none_more, crate::proofs::Lists::none_all, crate::proofs::Lists::one_at))]
+// Whether a net in a contract of a commodity is not 0.
+fn is_held(set: &ParamSet, nets: &[Quantity], commodity: usize) -> bool
+    requires one_each { length nets.now ≡ length set.now.contracts }
+    ensures { result ≡ is_held (positions set.now.contracts nets.now) commodity }
+{
+    for i in 0..set.contract_count() {
+        if set.contract_at(i).commodity == commodity && 0 < nets[i].size() {
+            return true;
+        }
+    }
+    false
+}
+
+// The figures of a commodity by its name.
+fn line_of(set: &ParamSet, commodity: usize, figures: &CommodityFigures) -> CommodityLine
+    requires commodity { commodity < length set.now.commodities }
+    requires active { figures.now.active ≤ 15 }
+    ensures { result ≡ line_by set.now commodity figures.now }
+{
+    CommodityLine {
+        commodity: set.commodity_at(commodity).name,
+        scan: figures.scan,
+        active: figures.active as u8 + 1,
+        intra: figures.intra,
+        spot: figures.spot,
+        credit: figures.credit,
+        minimum: figures.minimum,
+        risk: figures.risk,
+    }
+}
+
+#[tactic(auto, using(crate::proofs::Lists::kept_number, crate::proofs::Lists::left_number, crate::proofs::Lists::long_by_number, crate::proofs::Lists::at_number, mgn_span::proofs::ScanLemmas::active_small), unfolding(mgn_machine::specs::Statements::commodity_lines, mgn_plain::specs::Figures::commodity_figures))]
+/// The figures of the commodities in which a net is not 0, in file order.
+pub(crate) fn commodity_lines(
+    alloc: Global,
+    set: &ParamSet,
+    nets: &[Quantity],
+    figures: &[CommodityFigures],
+) -> Result<Vec<CommodityLine>, AllocError>
+    requires one_each { length nets.now ≡ length set.now.contracts }
+    requires figures { figures.now ≡ map (commodity_figures set.now (positions set.now.contracts nets.now)) (commodities_of set.now) }
+    ensures { IfOk result (λ lines. lines.items ≡ commodity_lines set.now (positions set.now.contracts nets.now)) }
+{
+    let mut lines = Vec::new(alloc);
+    for commodity in 0..set.commodity_count() {
+        if is_held(set, nets, commodity) {
+            lines.push(line_of(set, commodity, &figures[commodity]))?;
+        }
+    }
+    Ok(lines)
+}
+
+fn is_live(mark: Mark) -> bool
+    ensures { result ≡ is_live mark }
+{
+    !matches!(&mark, Mark::Busted)
+}
+
+#[tactic(auto, using(std::proofs::lemmas::List::Elements::filter_more))]
+/// The live lots, in order of entry.
+pub(crate) fn live_lots(alloc: Global, lots: &[Lot]) -> Result<Vec<Lot>, AllocError>
+    ensures { IfOk result (λ live. live.items ≡ filter (λ (x : LotValue). is_live x.mark) lots.now) }
+{
+    let mut live = Vec::new(alloc);
+    for lot in lots {
+        if is_live(lot.mark) {
+            live.push(*lot)?;
+        }
+    }
+    Ok(live)
+}
+
+// The units of a class with their value.
+fn class_line(class: &Class, units: u64) -> ClassLine
+    requires limits { IsClass class.now }
+    requires units { units ≤ 10 ^ 9 }
+    ensures { result ≡ record { class = class.now.name; units = units; value = class_value class.now units } }
+{
+    ClassLine {
+        class: class.name,
+        units,
+        value: class_value(class, units),
+    }
+}
+
+#[tactic(auto, using(crate::proofs::Lists::kept_more, crate::proofs::Lists::left_more), unfolding(mgn_machine::specs::Statements::class_lines))]
+/// The classes of which units are posted, in file order.
+pub(crate) fn class_lines(
+    alloc: Global,
+    set: &ParamSet,
+    collateral: &Collateral,
+) -> Result<Vec<ClassLine>, AllocError>
+    ensures { IfOk result (λ lines. lines.items ≡ class_lines set.now.classes collateral.now.units) }
+{
+    set.limits();
+    let mut lines = Vec::new(alloc);
+    for class in set.classes() {
+        let units = collateral.class_units(&class.name);
+        if 0 < units {
+            lines.push(class_line(class, units))?;
+        }
+    }
+    Ok(lines)
+}
