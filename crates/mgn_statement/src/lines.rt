@@ -10,7 +10,7 @@ ghost use Rattle.mgn_machine.specs.Statements.{class_lines, commodity_lines, is_
 ghost use Rattle.mgn_statement.specs.Statement.{line_by};
 
 use mgn_coll::{Collateral, class_value};
-use mgn_lots::{Lot, Mark};
+use mgn_lots::Lot;
 use mgn_machine::{ClassLine, CommodityLine};
 use mgn_num::Quantity;
 use mgn_params::{Class, ParamSet};
@@ -70,12 +70,6 @@ pub(crate) fn commodity_lines(
     Ok(lines)
 }
 
-fn is_live(mark: Mark) -> bool
-    ensures { result ≡ is_live mark }
-{
-    !matches!(&mark, Mark::Busted)
-}
-
 #[tactic(auto, using(std::proofs::lemmas::List::Elements::filter_more))]
 /// The live lots, in order of entry.
 pub(crate) fn live_lots(alloc: Global, lots: &[Lot]) -> Result<Vec<Lot>, AllocError>
@@ -83,7 +77,7 @@ pub(crate) fn live_lots(alloc: Global, lots: &[Lot]) -> Result<Vec<Lot>, AllocEr
 {
     let mut live = Vec::new(alloc);
     for lot in lots {
-        if is_live(lot.mark) {
+        if lot.mark.is_live() {
             live.push(*lot)?;
         }
     }

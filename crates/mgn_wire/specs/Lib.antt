@@ -2,3 +2,4 @@
 pub mod Word
 pub mod Line
 pub mod Text
+pub mod StatementText

@@ -4,8 +4,10 @@
 pub mod fault;
 pub mod line;
 pub mod reply;
+pub mod statement;
 mod words;
 
 pub use fault::{LineFault, Memory};
 pub use line::{Line, read_line};
 pub use reply::{LineReply, reply_text};
+pub use statement::statement_text;

@@ -55,14 +55,14 @@ fn fault_text(fault: LineFault) -> &'static str
 }
 
 // Here and below: at any outcome what was there stays in front, so what a failed reply left can be cut off.
-fn print(text: &str, out: &mut Vec<u8>) -> Result<(), AllocError>
+pub(crate) fn print(text: &str, out: &mut Vec<u8>) -> Result<(), AllocError>
     ensures ok { OnOk result (out.new.items ≡ out.old.items ++ text.now) }
     ensures kept { take (length out.old.items) out.new.items ≡ out.old.items }
 {
     out.extend_from_slice(text.as_bytes())
 }
 
-fn print_number(number: u64, out: &mut Vec<u8>) -> Result<(), AllocError>
+pub(crate) fn print_number(number: u64, out: &mut Vec<u8>) -> Result<(), AllocError>
     ensures ok { OnOk result (out.new.items ≡ out.old.items ++ number_text number) }
     ensures kept { take (length out.old.items) out.new.items ≡ out.old.items }
 {
@@ -80,7 +80,7 @@ fn print_place(place: Option<u64>, out: &mut Vec<u8>) -> Result<(), AllocError>
     }
 }
 
-fn print_field(cents: Cents, out: &mut Vec<u8>) -> Result<(), AllocError>
+pub(crate) fn print_field(cents: Cents, out: &mut Vec<u8>) -> Result<(), AllocError>
     ensures ok { OnOk result (out.new.items ≡ out.old.items ++ field cents) }
     ensures kept { take (length out.old.items) out.new.items ≡ out.old.items }
 {
@@ -88,7 +88,7 @@ fn print_field(cents: Cents, out: &mut Vec<u8>) -> Result<(), AllocError>
     cents.print(out)
 }
 
-fn print_figures(figures: &Figures, out: &mut Vec<u8>) -> Result<(), AllocError>
+pub(crate) fn print_figures(figures: &Figures, out: &mut Vec<u8>) -> Result<(), AllocError>
     ensures ok { OnOk result (out.new.items ≡ out.old.items ++ figures_text figures.now) }
     ensures kept { take (length out.old.items) out.new.items ≡ out.old.items }
 {

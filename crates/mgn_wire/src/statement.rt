@@ -1,0 +1,243 @@
+ghost use Rattle.std.specs.Prelude.{◌≡◌, ◌++◌, OnOk, OnErr, length, take};
+ghost use Rattle.std.specs.Fmt.{signed_decimal};
+ghost use Rattle.std.specs.List.{flat_map};
+ghost use Rattle.mgn_wire.specs.Text.{field, number_text};
+ghost use Rattle.mgn_wire.specs.StatementText.{account_line, cash_line, charges_text, class_text, commodity_text, figures_line, hold_text, lot_text, mark_text, mode_text, name_text, option_line, own_lines, statement_text, unit_lines};
+
+use crate::fault::Memory;
+use crate::reply::{print, print_field, print_figures, print_number};
+use itoa::Buffer;
+use mgn_holds::Held;
+use mgn_lots::{Lot, Mark};
+use mgn_machine::{ClassLine, CommodityLine, Heading, Mode, Statement};
+use mgn_num::Quantity;
+use std::alloc::AllocError;
+
+// As in replies: at any outcome what was there stays in front, so what a failed statement left can be cut off.
+
+fn print_name(name: &[u8], out: &mut Vec<u8>) -> Result<(), AllocError>
+    ensures ok { OnOk result (out.new.items ≡ out.old.items ++ name_text name.now) }
+    ensures kept { take (length out.old.items) out.new.items ≡ out.old.items }
+{
+    print(" ", out)?;
+    out.extend_from_slice(name)
+}
+
+fn print_quantity(quantity: Quantity, out: &mut Vec<u8>) -> Result<(), AllocError>
+    ensures ok { OnOk result (out.new.items ≡ out.old.items ++ field quantity) }
+    ensures kept { take (length out.old.items) out.new.items ≡ out.old.items }
+{
+    print(" ", out)?;
+    print(Buffer::new().format(quantity.contracts()), out)
+}
+
+fn print_mode(mode: Mode, out: &mut Vec<u8>) -> Result<(), AllocError>
+    ensures ok { OnOk result (out.new.items ≡ out.old.items ++ mode_text mode) }
+    ensures kept { take (length out.old.items) out.new.items ≡ out.old.items }
+{
+    match mode {
+        Mode::Gross => print(" GROSS", out),
+        Mode::Net => print(" NET", out),
+    }
+}
+
+fn print_mark(mark: Mark, out: &mut Vec<u8>) -> Result<(), AllocError>
+    ensures ok { OnOk result (out.new.items ≡ out.old.items ++ mark_text mark) }
+    ensures kept { take (length out.old.items) out.new.items ≡ out.old.items }
+{
+    match mark {
+        Mark::Traded => print(" T", out),
+        Mark::Moved => print(" M", out),
+        Mark::Busted => print(" B", out),
+    }
+}
+
+fn print_account(heading: &Heading, out: &mut Vec<u8>) -> Result<(), AllocError>
+    ensures ok { OnOk result (out.new.items ≡ out.old.items ++ account_line heading.now) }
+    ensures kept { take (length out.old.items) out.new.items ≡ out.old.items }
+{
+    print("S", out)?;
+    print_name(heading.account.as_bytes(), out)?;
+    print_name(heading.origin.as_bytes(), out)?;
+    print_mode(heading.mode, out)?;
+    print_name(heading.set.as_bytes(), out)?;
+    print_number(u64::from(heading.version.number()), out)?;
+    print("\n", out)
+}
+
+fn print_figures_line(heading: &Heading, out: &mut Vec<u8>) -> Result<(), AllocError>
+    ensures ok { OnOk result (out.new.items ≡ out.old.items ++ figures_line heading.now) }
+    ensures kept { take (length out.old.items) out.new.items ≡ out.old.items }
+{
+    print("F", out)?;
+    print_figures(&heading.figures, out)?;
+    print_field(heading.call, out)?;
+    print("\n", out)
+}
+
+fn print_charges(line: &CommodityLine, out: &mut Vec<u8>) -> Result<(), AllocError>
+    ensures ok { OnOk result (out.new.items ≡ out.old.items ++ charges_text line.now) }
+    ensures kept { take (length out.old.items) out.new.items ≡ out.old.items }
+{
+    print_field(line.intra, out)?;
+    print_field(line.spot, out)?;
+    print_field(line.credit, out)?;
+    print_field(line.minimum, out)?;
+    print_field(line.risk, out)
+}
+
+fn print_commodity(line: &CommodityLine, out: &mut Vec<u8>) -> Result<(), AllocError>
+    ensures ok { OnOk result (out.new.items ≡ out.old.items ++ commodity_text line.now) }
+    ensures kept { take (length out.old.items) out.new.items ≡ out.old.items }
+{
+    print("G", out)?;
+    print_name(line.commodity.as_bytes(), out)?;
+    print_field(line.scan, out)?;
+    print_number(u64::from(line.active), out)?;
+    print_charges(line, out)?;
+    print("\n", out)
+}
+
+fn print_option_value(heading: &Heading, out: &mut Vec<u8>) -> Result<(), AllocError>
+    ensures ok { OnOk result (out.new.items ≡ out.old.items ++ option_line heading.now) }
+    ensures kept { take (length out.old.items) out.new.items ≡ out.old.items }
+{
+    print("N", out)?;
+    print_field(heading.option_value, out)?;
+    print("\n", out)
+}
+
+fn print_lot(lot: &Lot, out: &mut Vec<u8>) -> Result<(), AllocError>
+    ensures ok { OnOk result (out.new.items ≡ out.old.items ++ lot_text lot.now) }
+    ensures kept { take (length out.old.items) out.new.items ≡ out.old.items }
+{
+    print("L", out)?;
+    print_number(lot.number.number(), out)?;
+    print_name(lot.contract.as_bytes(), out)?;
+    print_quantity(lot.quantity, out)?;
+    print_number(u64::from(lot.premium), out)?;
+    print_mark(lot.mark, out)?;
+    print("\n", out)
+}
+
+fn print_hold(held: &Held, out: &mut Vec<u8>) -> Result<(), AllocError>
+    ensures ok { OnOk result (out.new.items ≡ out.old.items ++ hold_text held.now) }
+    ensures kept { take (length out.old.items) out.new.items ≡ out.old.items }
+{
+    print("O", out)?;
+    print_number(held.order.number(), out)?;
+    print_name(held.contract.as_bytes(), out)?;
+    print_quantity(held.quantity, out)?;
+    print_number(u64::from(held.limit), out)?;
+    print("\n", out)
+}
+
+fn print_cash(heading: &Heading, out: &mut Vec<u8>) -> Result<(), AllocError>
+    ensures ok { OnOk result (out.new.items ≡ out.old.items ++ cash_line heading.now) }
+    ensures kept { take (length out.old.items) out.new.items ≡ out.old.items }
+{
+    print("C CASH", out)?;
+    print_number(heading.cash, out)?;
+    print("\n", out)
+}
+
+fn print_class(line: &ClassLine, out: &mut Vec<u8>) -> Result<(), AllocError>
+    ensures ok { OnOk result (out.new.items ≡ out.old.items ++ class_text line.now) }
+    ensures kept { take (length out.old.items) out.new.items ≡ out.old.items }
+{
+    print("C", out)?;
+    print_name(line.class.as_bytes(), out)?;
+    print_number(line.units, out)?;
+    print_number(line.value, out)?;
+    print("\n", out)
+}
+
+#[tactic(auto, using(crate::proofs::KeptFront::kept_before))]
+fn print_commodities(lines: &[CommodityLine], out: &mut Vec<u8>) -> Result<(), AllocError>
+    ensures ok { OnOk result (out.new.items ≡ out.old.items ++ flat_map commodity_text lines.now) }
+    ensures kept { take (length out.old.items) out.new.items ≡ out.old.items }
+{
+    for line in lines {
+        print_commodity(line, out)?;
+    }
+    Ok(())
+}
+
+#[tactic(auto, using(crate::proofs::KeptFront::kept_before))]
+fn print_lots(lots: &[Lot], out: &mut Vec<u8>) -> Result<(), AllocError>
+    ensures ok { OnOk result (out.new.items ≡ out.old.items ++ flat_map lot_text lots.now) }
+    ensures kept { take (length out.old.items) out.new.items ≡ out.old.items }
+{
+    for lot in lots {
+        print_lot(lot, out)?;
+    }
+    Ok(())
+}
+
+#[tactic(auto, using(crate::proofs::KeptFront::kept_before))]
+fn print_holds(holds: &[Held], out: &mut Vec<u8>) -> Result<(), AllocError>
+    ensures ok { OnOk result (out.new.items ≡ out.old.items ++ flat_map hold_text holds.now) }
+    ensures kept { take (length out.old.items) out.new.items ≡ out.old.items }
+{
+    for held in holds {
+        print_hold(held, out)?;
+    }
+    Ok(())
+}
+
+#[tactic(auto, using(crate::proofs::KeptFront::kept_before))]
+fn print_classes(lines: &[ClassLine], out: &mut Vec<u8>) -> Result<(), AllocError>
+    ensures ok { OnOk result (out.new.items ≡ out.old.items ++ flat_map class_text lines.now) }
+    ensures kept { take (length out.old.items) out.new.items ≡ out.old.items }
+{
+    for line in lines {
+        print_class(line, out)?;
+    }
+    Ok(())
+}
+
+#[tactic(auto, unfolding(crate::specs::StatementText::unit_lines))]
+fn print_unit(statement: &Statement, out: &mut Vec<u8>) -> Result<(), AllocError>
+    ensures ok { OnOk result (out.new.items ≡ out.old.items ++ unit_lines statement.now) }
+    ensures kept { take (length out.old.items) out.new.items ≡ out.old.items }
+{
+    print_figures_line(statement.heading(), out)?;
+    print_commodities(statement.commodities(), out)?;
+    print_option_value(statement.heading(), out)
+}
+
+#[tactic(auto, unfolding(crate::specs::StatementText::own_lines))]
+fn print_own(statement: &Statement, out: &mut Vec<u8>) -> Result<(), AllocError>
+    ensures ok { OnOk result (out.new.items ≡ out.old.items ++ own_lines statement.now) }
+    ensures kept { take (length out.old.items) out.new.items ≡ out.old.items }
+{
+    print_lots(statement.lots(), out)?;
+    print_holds(statement.holds(), out)?;
+    print_cash(statement.heading(), out)?;
+    print_classes(statement.classes(), out)
+}
+
+#[tactic(auto, unfolding(crate::specs::StatementText::statement_text))]
+pub(crate) fn print_statement(statement: &Statement, out: &mut Vec<u8>) -> Result<(), AllocError>
+    ensures ok { OnOk result (out.new.items ≡ out.old.items ++ statement_text statement.now) }
+    ensures kept { take (length out.old.items) out.new.items ≡ out.old.items }
+{
+    print_account(statement.heading(), out)?;
+    print_unit(statement, out)?;
+    print_own(statement, out)
+}
+
+/// Appends the lines of a statement, each with its line feed. On `Memory` the buffer is as it was.
+pub fn statement_text(statement: &Statement, out: &mut Vec<u8>) -> Result<(), Memory>
+    ensures ok { OnOk result (out.new.items ≡ out.old.items ++ statement_text statement.now) }
+    ensures err { OnErr result (out.new.items ≡ out.old.items) }
+{
+    let before = out.len();
+    match print_statement(statement, out) {
+        Ok(()) => Ok(()),
+        Err(_) => {
+            out.truncate(before);
+            Err(Memory)
+        }
+    }
+}
