@@ -16,4 +16,4 @@ pub use entry::{Entry, Item};
 pub use origin::Origin;
 pub use reply::{Answer, Figures, NewSet, Refusal, Reply};
 pub use request::{Recorded, Request};
-pub use statement::{ClassLine, CommodityLine, Heading, Statement};
+pub use statement::{ClassLine, CommodityLine, Heading, SharedStatement, Statement};

@@ -1,4 +1,4 @@
-ghost use Rattle.std.specs.Prelude.{◌≡◌};
+ghost use Rattle.std.specs.Prelude.{◌≡◌, IfOk};
 
 use crate::command::Mode;
 use crate::reply::Figures;
@@ -7,7 +7,9 @@ use mgn_ids::{AccountName, ClassName, CommodityName, OriginName, SetName};
 use mgn_lots::Lot;
 use mgn_num::Cents;
 use mgn_params::Version;
+use std::alloc::{AllocError, Global};
 use std::marker::Model;
+use std::sync::Arc;
 
 /// What a statement tells once: whose it is, under which set, and the amounts of the account's margin unit in cents.
 #[derive(Clone, Copy)]
@@ -143,5 +145,45 @@ impl Statement {
         ensures { result.now ≡ self.now.classes }
     {
         self.classes.as_slice()
+    }
+}
+
+/// A statement that the history and those to whom it is told have together. Contracts see the statement.
+#[derive(Drop)]
+pub struct SharedStatement {
+    statement: Arc<Statement>,
+}
+
+impl Model for SharedStatement {
+    ghost use Rattle.std.specs.Arc.{arc_value};
+    ghost use Rattle.mgn_machine.specs.Statements.{Told};
+
+    ghost Value = { Told };
+
+    ghost view = { λ s. arc_value s.statement };
+}
+
+impl SharedStatement {
+    /// A statement with one owner. An error says that memory was refused.
+    pub fn new(alloc: Global, statement: Statement) -> Result<SharedStatement, AllocError>
+        ensures { IfOk result (λ shared. shared ≡ statement) }
+    {
+        let statement = Arc::new(alloc, statement)?;
+        Ok(SharedStatement { statement })
+    }
+
+    /// The same statement for one owner more. It takes no memory; an error says that no more owners can be counted.
+    pub fn share(&self) -> Result<SharedStatement, AllocError>
+        ensures { IfOk result (λ shared. shared ≡ self.now) }
+    {
+        let statement = Arc::try_clone(&self.statement)?;
+        Ok(SharedStatement { statement })
+    }
+
+    /// The statement.
+    pub fn statement(&self) -> &Statement
+        ensures { result.now ≡ self.now }
+    {
+        &self.statement
     }
 }
