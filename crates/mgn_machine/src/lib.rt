@@ -10,7 +10,7 @@ pub mod request;
 #[cfg(test)]
 mod tests;
 
-pub use command::{Command, Fill, Hold, Mode, Trade};
+pub use command::{Command, Fill, Hold, Mode, Trade, Transfer};
 pub use entry::{Entry, Item};
 pub use origin::Origin;
 pub use reply::{Answer, Figures, NewSet, Refusal, Reply};
