@@ -56,10 +56,7 @@ side-both set' i quantity nets worth inside =
     let back = given-taken nets i quantity inside in
     λ j. priced set' (back j) (same j)
 
-both-sizes : (quantity : ℤ) → pos (unsigned_abs (neg_ℤ quantity)) +ℤ pos (unsigned_abs quantity) ≡ pos (unsigned_abs (quantity +ℤ quantity))
-both-sizes quantity = omega (arith, ints)
-
-row-both : (set' : Tables) (accounts : List AccountState) (u i : ℕ) (quantity : ℤ) → i < length set'.contracts → row_with set' (moved_change i quantity) (row_with set' (moved_change i (neg_ℤ quantity)) (row_of set' accounts u)) ≡ row_with_size i (pos (unsigned_abs (quantity +ℤ quantity))) (row_of set' accounts u)
+row-both : (set' : Tables) (accounts : List AccountState) (u i : ℕ) (quantity : ℤ) → i < length set'.contracts → row_with set' (moved_change i quantity) (row_with set' (moved_change i (neg_ℤ quantity)) (row_of set' accounts u)) ≡ row_with_size i (pos (unsigned_abs (neg_ℤ quantity)) +ℤ pos (unsigned_abs quantity)) (row_of set' accounts u)
 unfolding portfolio_of
 row-both set' accounts u i quantity inside = λ j. record {
   sizes = sizes j;
@@ -69,10 +66,9 @@ row-both set' accounts u i quantity inside = λ j. record {
   all = side WithAll j;
 }
   where
-    sizes : more_at (more_at (sizes_of set' accounts u) i (pos (unsigned_abs (neg_ℤ quantity)))) i (pos (unsigned_abs quantity)) ≡ more_at (sizes_of set' accounts u) i (pos (unsigned_abs (quantity +ℤ quantity)))
+    sizes : more_at (more_at (sizes_of set' accounts u) i (pos (unsigned_abs (neg_ℤ quantity)))) i (pos (unsigned_abs quantity)) ≡ more_at (sizes_of set' accounts u) i (pos (unsigned_abs (neg_ℤ quantity)) +ℤ pos (unsigned_abs quantity))
     sizes =
         more-twice (sizes_of set' accounts u) i (pos (unsigned_abs (neg_ℤ quantity))) (pos (unsigned_abs quantity)) (omega (arith, inside, length-map set'.contracts (λ (c : Contract). unit_sum u (account_size c.name) accounts)))
-        ∙ ap (λ (z : ℤ). more_at (sizes_of set' accounts u) i z) (both-sizes quantity)
 
     side : (p : Portfolio) → portfolio_with set' i (gain quantity (pos 0)) (portfolio_with set' i (gain (neg_ℤ quantity) (pos 0)) (portfolio_of set' accounts u p)) ≡ portfolio_of set' accounts u p
     side p =
@@ -80,7 +76,7 @@ row-both set' accounts u i quantity inside = λ j. record {
         (omega (arith, inside, length-map set'.contracts (λ (c : Contract). unit_sum u (account_net p c.name) accounts)))
 
 -- the row of a unit in which one account gives what another takes
-pub row-within : (set' : Tables) (accounts : List AccountState) (giver taker u i : ℕ) (contract : List ℕ) (quantity : ℤ) (a b : AccountState) → Stands set' contract i → i < length set'.contracts → taker ≢ giver → Replaces accounts giver u a → Replaces accounts taker u b → Moves set' contract (moved_change i (neg_ℤ quantity)) (get_or accounts giver no_account) a → Moves set' contract (moved_change i quantity) (get_or accounts taker no_account) b → row_of set' (set (set accounts giver a) taker b) u ≡ row_with_size i (pos (unsigned_abs (quantity +ℤ quantity))) (row_of set' accounts u)
+pub row-within : (set' : Tables) (accounts : List AccountState) (giver taker u i : ℕ) (contract : List ℕ) (quantity : ℤ) (a b : AccountState) → Stands set' contract i → i < length set'.contracts → taker ≢ giver → Replaces accounts giver u a → Replaces accounts taker u b → Moves set' contract (moved_change i (neg_ℤ quantity)) (get_or accounts giver no_account) a → Moves set' contract (moved_change i quantity) (get_or accounts taker no_account) b → row_of set' (set (set accounts giver a) taker b) u ≡ row_with_size i (pos (unsigned_abs (neg_ℤ quantity)) +ℤ pos (unsigned_abs quantity)) (row_of set' accounts u)
 row-within set' accounts giver taker u i contract quantity a b stands inside apart gives takes given taken =
     row-moved set' (set accounts giver a) taker u b contract (moved_change i quantity) stands
     record { inside = omega (arith, takes.inside, length-set accounts giver a); was = ap (λ (x : AccountState). x.unit) there ∙ takes.was; now = takes.now }

@@ -44,18 +44,25 @@ impl Change {
         ensures change { result ≡ moved_change contract quantity }
         ensures limits { (set : Tables) → contract < length set.contracts → IsChange set result }
     {
-        let each = Gain {
-            quantity,
-            worth: Cents::ZERO,
-        };
         Change {
             contract,
             size: Quantity::new(quantity.size() as i64),
-            lots: each,
-            buys: each,
-            sales: each,
-            all: each,
+            lots: moved_gain(quantity),
+            buys: moved_gain(quantity),
+            sales: moved_gain(quantity),
+            all: moved_gain(quantity),
         }
+    }
+}
+
+fn moved_gain(quantity: Quantity) -> Gain
+    requires { unsigned_abs quantity ≤ 10 ^ 6 }
+    ensures gain { result ≡ gain quantity (pos 0) }
+    ensures limits { IsGain result }
+{
+    Gain {
+        quantity,
+        worth: Cents::ZERO,
     }
 }
 
