@@ -49,22 +49,22 @@ pub record Reads (set' : Tables) (f : BookState) (k i : ℕ) (a : AccountState) 
   pub row : r ≡ get_or f.rows a.unit r
   pub stands : contract_of set' contract ≡ Ok i
 
-stands : (set' : Tables) (f : BookState) (k i : ℕ) (a : AccountState) (r : Row) (contract : List ℕ) → Reads set' f k i a r contract → Stands set' contract i
+pub stands : (set' : Tables) (f : BookState) (k i : ℕ) (a : AccountState) (r : Row) (contract : List ℕ) → Reads set' f k i a r contract → Stands set' contract i
 stands set' f k i a r contract reads = contract-stands set' contract i reads.within reads.stands
 
 pub account-read : (set' : Tables) (f : BookState) (k i : ℕ) (a : AccountState) (r : Row) (contract : List ℕ) → Reads set' f k i a r contract → a ≡ account_at f.state.accounts k
 account-read set' f k i a r contract reads = reads.was ∙ get_or_default f.state.accounts k a no_account reads.account
 
-old-row : (set' : Tables) (f : BookState) (k i : ℕ) (a : AccountState) (r : Row) (contract : List ℕ) → Reads set' f k i a r contract → IsUnitRow set' f.state.accounts a.unit r
+pub old-row : (set' : Tables) (f : BookState) (k i : ℕ) (a : AccountState) (r : Row) (contract : List ℕ) → Reads set' f k i a r contract → IsUnitRow set' f.state.accounts a.unit r
 old-row set' f k i a r contract reads = row-there set' f k a r reads.kept reads.account reads.was reads.row
 
 -- The size of the unit in the contract.
 
-row-size : (set' : Tables) (f : BookState) (k i : ℕ) (a : AccountState) (r : Row) (contract : List ℕ) → Reads set' f k i a r contract → get_or r.sizes i (pos 0) ≡ unit_size f.state a.unit contract
+pub row-size : (set' : Tables) (f : BookState) (k i : ℕ) (a : AccountState) (r : Row) (contract : List ℕ) → Reads set' f k i a r contract → get_or r.sizes i (pos 0) ≡ unit_size f.state a.unit contract
 row-size set' f k i a r contract reads =
     ap (λ (x : Row). get_or x.sizes i (pos 0)) (old-row set' f k i a r contract reads).is ∙ row_by-at set'.contracts f.state.accounts a.unit account_size contract i (stands set' f k i a r contract reads).here
 
-row-small : (set' : Tables) (f : BookState) (k i : ℕ) (a : AccountState) (r : Row) (contract : List ℕ) → Reads set' f k i a r contract → IsNet (get_or r.sizes i (pos 0))
+pub row-small : (set' : Tables) (f : BookState) (k i : ℕ) (a : AccountState) (r : Row) (contract : List ℕ) → Reads set' f k i a r contract → IsNet (get_or r.sizes i (pos 0))
 row-small set' f k i a r contract reads =
     let old = old-row set' f k i a r contract reads in
     old.limits.sizes i (pos 0) (omega (arith, old.limits.one_each, stands-inside set' contract i (stands set' f k i a r contract reads)))
@@ -83,19 +83,19 @@ not_moved size small = omega (arith, ints)
 
 -- Any change of one contract.
 
-changed-roomy : (set' : Tables) (f : BookState) (k : ℕ) (a b : AccountState) (r : Row) (contract : List ℕ) (change : Change) → Reads set' f k change.contract a r contract → Moves set' contract change a b → IsNet (get_or r.sizes change.contract (pos 0) +ℤ change.size) → IsRoomy change r
+pub changed-roomy : (set' : Tables) (f : BookState) (k : ℕ) (a b : AccountState) (r : Row) (contract : List ℕ) (change : Change) → Reads set' f k change.contract a r contract → Moves set' contract change a b → IsNet (get_or r.sizes change.contract (pos 0) +ℤ change.size) → IsRoomy change r
 changed-roomy set' f k a b r contract change reads moves size =
     room-by set' f k a b contract change r reads.kept reads.account reads.was reads.row (stands set' f k change.contract a r contract reads) moves
     (sizes-more r.sizes change.contract change.size (old-row set' f k change.contract a r contract reads).limits.sizes size)
 
-changed-row : (set' : Tables) (f : BookState) (k : ℕ) (a b : AccountState) (r : Row) (contract : List ℕ) (change : Change) → Reads set' f k change.contract a r contract → Moves set' contract change a b → row_with set' change r ≡ row_of set' (set f.state.accounts k b) a.unit
+pub changed-row : (set' : Tables) (f : BookState) (k : ℕ) (a b : AccountState) (r : Row) (contract : List ℕ) (change : Change) → Reads set' f k change.contract a r contract → Moves set' contract change a b → row_with set' change r ≡ row_of set' (set f.state.accounts k b) a.unit
 changed-row set' f k a b r contract change reads moves =
     let there = account-read set' f k change.contract a r contract reads in
     ap (λ (x : Row). row_with set' change x) (old-row set' f k change.contract a r contract reads).is
     ∙ sym (row-moved set' f.state.accounts k a.unit b contract change (stands set' f k change.contract a r contract reads) record { inside = reads.account; was = ap (λ (x : AccountState). x.unit) (sym there); now = moves.unit }
     (subst (λ (x : AccountState). Moves set' contract change x b) there moves))
 
-changed-kept : (set' : Tables) (origins : List Origin) (accounts : List AccountState) (rows : List Row) (closed : Bool) (version : ℕ) (k : ℕ) (a b now : AccountState) (r row : Row) (contract : List ℕ) (change : Change) (priced : Priced) → Reads set' (book_state origins accounts rows closed version) k change.contract a r contract → Moves set' contract change a b → b.origin ≡ a.origin → IsRoomy change r → Prices set' change r priced → IsAccount b → IsKnown set' b → row ≡ row_with set' change r → now ≡ b → IsKept set' (book_state origins (set accounts k now) (set rows a.unit row) closed version)
+pub changed-kept : (set' : Tables) (origins : List Origin) (accounts : List AccountState) (rows : List Row) (closed : Bool) (version : ℕ) (k : ℕ) (a b now : AccountState) (r row : Row) (contract : List ℕ) (change : Change) (priced : Priced) → Reads set' (book_state origins accounts rows closed version) k change.contract a r contract → Moves set' contract change a b → b.origin ≡ a.origin → IsRoomy change r → Prices set' change r priced → IsAccount b → IsKnown set' b → row ≡ row_with set' change r → now ≡ b → IsKept set' (book_state origins (set accounts k now) (set rows a.unit row) closed version)
 changed-kept set' origins accounts rows closed version k a b now r row contract change priced reads moves origin room prices limits known is added =
     subst (λ (x : Row × AccountState). IsKept set' (book_state origins (set accounts k x.1) (set rows a.unit x.0) closed version)) (λ j. (sym is j, sym added j))
     (kept-changed set' origins accounts rows closed version k a b (row_with set' change r) record {
@@ -110,10 +110,10 @@ changed-kept set' origins accounts rows closed version k a b now r row contract 
           (stands set' (book_state origins accounts rows closed version) k change.contract a r contract reads) moves room prices;
     })
 
-was-limits : (set' : Tables) (f : BookState) (k i : ℕ) (a : AccountState) (r : Row) (contract : List ℕ) → Reads set' f k i a r contract → IsAccount a
+pub was-limits : (set' : Tables) (f : BookState) (k i : ℕ) (a : AccountState) (r : Row) (contract : List ℕ) → Reads set' f k i a r contract → IsAccount a
 was-limits set' f k i a r contract reads = account-limits set' f k a reads.kept reads.account reads.was
 
-was-known : (set' : Tables) (f : BookState) (k i : ℕ) (a : AccountState) (r : Row) (contract : List ℕ) → Reads set' f k i a r contract → IsKnown set' a
+pub was-known : (set' : Tables) (f : BookState) (k i : ℕ) (a : AccountState) (r : Row) (contract : List ℕ) → Reads set' f k i a r contract → IsKnown set' a
 was-known set' f k i a r contract reads = account-known set' f k a reads.kept reads.account reads.was
 
 -- HOLD
@@ -169,7 +169,7 @@ hold_places-over set' s h k i closed place fresh contract fits few over =
 
 -- what is answered, once the places and the room are known
 
-asked-room : (set' : Tables) (u : ℕ) (s : State) (b : Bool) → lacks_room (row_of set' s.accounts u) ≡ b → if_room set' u s ≡ (if b then Err NoRoom else Ok s)
+pub asked-room : (set' : Tables) (u : ℕ) (s : State) (b : Bool) → lacks_room (row_of set' s.accounts u) ≡ b → if_room set' u s ≡ (if b then Err NoRoom else Ok s)
 asked-room set' u s b is =
     ap (λ (t : Bool). if t then Err NoRoom else Ok s) (sym (ap (λ (z : ℤ). int_lt z (pos 0)) (room_of_row set' s.accounts u)) ∙ is)
 

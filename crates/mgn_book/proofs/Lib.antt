@@ -8,4 +8,5 @@ pub mod Postings
 pub mod Steps
 pub mod StoredReplies
 pub mod Trades
+pub mod Moving
 pub mod Switches

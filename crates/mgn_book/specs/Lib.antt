@@ -2,6 +2,7 @@
 pub mod BookStates
 pub mod BookViews
 pub mod RoomAsked
+pub mod TransferRows
 pub mod FilledAtLimit
 pub mod History
 pub mod Switches

@@ -1,4 +1,4 @@
-ghost use Rattle.std.specs.Prelude.{◌≡◌, ◌<◌, ◌≤◌, ◌≤ℤ◌, ◌+ℤ◌, ◌^◌, ◌==◌, ◌||◌, IfOk, OnOk, Ok, [], length, pos, false, true, unsigned_abs, int_lt};
+ghost use Rattle.std.specs.Prelude.{◌≡◌, ◌<◌, ◌≤◌, ◌≤ℤ◌, ◌+ℤ◌, ◌*◌, ◌^◌, ◌==◌, ◌||◌, IfOk, OnOk, Ok, [], length, pos, false, true, unsigned_abs, int_lt};
 ghost use Rattle.mgn_params.specs.Tables.{contract_at, is_premium};
 ghost use Rattle.mgn_lots.specs.Lots.{has_number, is_busted, is_full, is_live, is_moved, lot_at, place_of_lot};
 ghost use Rattle.mgn_machine.specs.declared.reply.Refusal.TheVariants.{NoTrade};
@@ -314,6 +314,14 @@ pub(crate) fn is_over(size: Quantity, quantity: LotQuantity) -> bool
     requires { IsNet size }
     ensures { result ≡ int_lt (pos (10 ^ 7)) (size +ℤ pos (unsigned_abs quantity)) }
 {
-    let more = Quantity::new(quantity.quantity().size() as i64);
-    Quantity::new(MOST_SIZE) < size.plus(more)
+    passes_limit(size, quantity.quantity())
+}
+
+// The same of a quantity of one or two lots.
+pub(crate) fn passes_limit(size: Quantity, quantity: Quantity) -> bool
+    requires size { IsNet size }
+    requires quantity { unsigned_abs quantity ≤ 2 * 10 ^ 6 }
+    ensures { result ≡ int_lt (pos (10 ^ 7)) (size +ℤ pos (unsigned_abs quantity)) }
+{
+    Quantity::new(MOST_SIZE) < size.plus(Quantity::new(quantity.size() as i64))
 }

@@ -67,6 +67,7 @@ pub fn step(
         Command::Hold(hold) => answer_of(register.hold(alloc, set, &hold)),
         Command::Fill(fill) => answer_of(register.fill(alloc, set, &fill)),
         Command::Release(account, order) => answer_of(register.release(alloc, set, account, order)),
+        Command::Transfer(transfer) => answer_of(register.transfer(alloc, set, &transfer)),
         Command::Post(account, class, units) => answer_of(register.post(
             set, account, &class, units,
         )),

@@ -3,15 +3,17 @@ use Rattle.std.proofs.Common.{◌≡◌, ℕ, Bool, true, false, refl, Result, O
 use Rattle.std.specs.Prelude.{pos, int_lt}
 use Rattle.mgn_params.specs.Tables.{Tables}
 use Rattle.mgn_machine.specs.declared.command.Command.{Command}
-use Rattle.mgn_machine.specs.declared.command.Command.TheVariants.{NewOrigin, NewAccount, Trade, Bust, Post, Draw, Ask, EndDay, Hold, Fill, Release}
+use Rattle.mgn_machine.specs.declared.command.Command.TheVariants.{NewOrigin, NewAccount, Trade, Bust, Post, Draw, Ask, EndDay, Hold, Fill, Release, Transfer as Move}
+use Rattle.mgn_machine.specs.declared.command.Transfer.{Transfer}
 use Rattle.mgn_machine.specs.declared.command.Mode.{Mode}
 use Rattle.mgn_machine.specs.declared.command.Mode.TheVariants.{Gross, Net}
 use Rattle.mgn_machine.specs.declared.reply.Refusal.{Refusal}
 use Rattle.mgn_machine.specs.declared.reply.Refusal.TheVariants.{NoRoom}
-use Rattle.mgn_machine.specs.State.{State}
+use Rattle.mgn_machine.specs.State.{State, account_at}
 use Rattle.mgn_machine.specs.Refusals.{◌>>=◌, if_room}
 use Rattle.mgn_machine.specs.Room.{unit_room}
 use Rattle.mgn_machine.specs.Holding.{entered, filled, released}
+use Rattle.mgn_machine.specs.Transfers.{moved, move_places, with_move}
 use Rattle.mgn_machine.specs.Step.{answered, step_under, with_origin, with_account, originated, opened, traded, undone, posted, drawn, ended}
 
 -- what a change leads to, if it is done, is of the version
@@ -48,6 +50,17 @@ of_test false version now same = of_done version now same
 of_room : (set' : Tables) (u version : ℕ) (now : State) → now.version ≡ version → IsOf version (if_room set' u now)
 of_room set' u version now same = of_test (int_lt (unit_room set' now.accounts u) (pos 0)) version now same
 
+-- both lots of a transfer, where both units have room with them
+abbrev if_rooms : Tables → State → Transfer → ℕ × ℕ × ℕ → Result State Refusal
+if_rooms set' s m at =
+    if_room set' (account_at s.accounts at.0).unit (with_move s at.0 at.1 m)
+    >>= (λ (now : State). if_room set' (account_at s.accounts at.1).unit (with_move s at.0 at.1 m))
+
+of_rooms : (set' : Tables) (s : State) (m : Transfer) (at : ℕ × ℕ × ℕ) → IsOf s.version (if_rooms set' s m at)
+of_rooms set' s m at =
+    of_chain s.version (if_room set' (account_at s.accounts at.0).unit (with_move s at.0 at.1 m)) (λ (now : State). if_room set' (account_at s.accounts at.1).unit (with_move s at.0 at.1 m))
+    (λ now. of_room set' (account_at s.accounts at.1).unit s.version (with_move s at.0 at.1 m) refl)
+
 pub keeps_version : (set' : Tables) (s : State) (command : Command) → (step_under set' s command).0.version ≡ s.version
 keeps_version set' s (NewOrigin name mode) = of_answer s (originated s name mode) (of_chain s.version _ _ (λ _. of_origin s name mode))
 keeps_version set' s (NewAccount account origin) = of_answer s (opened s account origin) (of_chain s.version _ _ (λ home. of_account s account home))
@@ -56,6 +69,7 @@ keeps_version set' s (Bust account lot) = of_answer s (undone s account lot) (of
 keeps_version set' s (Hold h) = of_answer s (entered set' s h) (of_chain s.version _ _ (λ at. of_room set' _ s.version _ refl))
 keeps_version set' s (Fill f) = of_answer s (filled set' s f) (of_chain s.version _ _ (λ _. of_done s.version _ refl))
 keeps_version set' s (Release account order) = of_answer s (released s account order) (of_chain s.version _ _ (λ _. of_done s.version _ refl))
+keeps_version set' s (Move m) = of_answer s (moved set' s m) (of_chain s.version (move_places set' s m) (λ at. if_rooms set' s m at) (λ at. of_rooms set' s m at))
 keeps_version set' s (Post account class units) = of_answer s (posted set' s account class units) (of_chain s.version _ _ (λ _. of_done s.version _ refl))
 keeps_version set' s (Draw account class units) = of_answer s (drawn set' s account class units) (of_chain s.version _ _ (λ at. of_room set' _ s.version _ refl))
 keeps_version set' s (Ask account) = refl

@@ -4,6 +4,7 @@ pub mod Portfolios
 pub mod Room
 pub mod Refusals
 pub mod Holding
+pub mod Transfers
 pub mod NewSet
 pub mod Step
 pub mod Statements

@@ -3,7 +3,7 @@ use Rattle.std.specs.Prelude.{ℕ, ◌+◌, true, Option, None, Some, List, [], 
 use Rattle.mgn_params.specs.Shelves.{set_at}
 use Rattle.mgn_params.specs.Tables.{Tables}
 use Rattle.mgn_machine.specs.declared.command.Command.{Command}
-use Rattle.mgn_machine.specs.declared.command.Command.TheVariants.{NewOrigin, NewAccount, Trade as OfTrade, Bust, Post, Draw, Ask, EndDay, Hold, Fill, Release}
+use Rattle.mgn_machine.specs.declared.command.Command.TheVariants.{NewOrigin, NewAccount, Trade as OfTrade, Bust, Post, Draw, Ask, EndDay, Hold, Fill, Release, Transfer}
 use Rattle.mgn_machine.specs.declared.command.Mode.{Mode}
 use Rattle.mgn_machine.specs.declared.command.Mode.TheVariants.{Gross, Net}
 use Rattle.mgn_machine.specs.declared.command.Trade.{Trade}
@@ -17,6 +17,7 @@ use Rattle.mgn_machine.specs.State.{State, account_at, put, fresh, with_lot, wit
 use Rattle.mgn_machine.specs.Room.{figures_of}
 use Rattle.mgn_machine.specs.Refusals.{◌>>=◌, refuse_if, origin_fits, open_home, place_of, trade_places, bust_places, post_place, draw_place, if_room}
 use Rattle.mgn_machine.specs.Holding.{entered, filled, released}
+use Rattle.mgn_machine.specs.Transfers.{moved}
 use Rattle.mgn_machine.specs.NewSet.{set_fits, on_call}
 
 -- an origin more; a netted one makes its unit
@@ -89,6 +90,7 @@ step_under set s (Bust account lot) = answered s (undone s account lot)
 step_under set s (Hold h) = answered s (entered set s h)
 step_under set s (Fill f) = answered s (filled set s f)
 step_under set s (Release account order) = answered s (released s account order)
+step_under set s (Transfer m) = answered s (moved set s m)
 step_under set s (Post account class units) = answered s (posted set s account class units)
 step_under set s (Draw account class units) = answered s (drawn set s account class units)
 step_under set s (Ask account) = (s, asked set s (place_of s account))

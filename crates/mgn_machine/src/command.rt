@@ -56,6 +56,21 @@ pub struct Fill {
     pub premium: Premium,
 }
 
+/// A quantity of a contract that goes from one account to another of its origin.
+#[derive(Clone, Copy)]
+pub struct Transfer {
+    /// The number of both lots, 1 to 10^12, which neither account has used.
+    pub lot: LotId,
+    /// The account that gives.
+    pub from: AccountName,
+    /// The account that takes.
+    pub to: AccountName,
+    /// The contract.
+    pub contract: ContractName,
+    /// How many contracts the taker gains and the giver loses, 1 to 1,000,000 in size; below 0 the other way round.
+    pub quantity: LotQuantity,
+}
+
 /// What a session asks of the book.
 #[derive(Clone, Copy)]
 pub enum Command {
@@ -73,6 +88,8 @@ pub enum Command {
     Fill(Fill),
     /// `RELEASE`: an order is held no more.
     Release(AccountName, OrderId),
+    /// `MOVE`: a quantity of a contract from one account to another.
+    Transfer(Transfer),
     /// `POST`: units of a collateral class, or cents where the class is CASH.
     Post(AccountName, ClassName, Units),
     /// `DRAW`: units of a collateral class, or cents where the class is CASH, are taken off.

@@ -11,7 +11,7 @@ pub mod statement;
 #[cfg(test)]
 mod tests;
 
-pub use command::{Command, Fill, Hold, Mode, Trade};
+pub use command::{Command, Fill, Hold, Mode, Trade, Transfer};
 pub use entry::{Entry, Item};
 pub use origin::Origin;
 pub use reply::{Answer, Figures, NewSet, Refusal, Reply};

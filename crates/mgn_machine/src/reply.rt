@@ -27,6 +27,8 @@ pub enum Refusal {
     Premium,
     /// It is more than is there, or has another sign than what is there.
     Over,
+    /// The accounts are of different origins.
+    OtherOrigin,
     /// The lot was moved between accounts.
     Moved,
     /// The new set lacks the contract of a live lot or of a hold, or a class of which units are posted.

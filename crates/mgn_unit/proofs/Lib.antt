@@ -3,6 +3,7 @@ pub mod Sums
 pub mod Moved
 pub mod Bounded
 pub mod AccountMoves
+pub mod TransferMoves
 pub mod HoldMoves
 pub mod FillMoves
 pub mod AtLimit

@@ -26,6 +26,12 @@ lot_change i quantity premium =
     let each = gain quantity (neg_ℤ (quantity *ℤ pos premium)) in
     record { contract = i; size = pos (unsigned_abs quantity); lots = each; buys = each; sales = each; all = each }
 
+-- what a moved lot more changes: each portfolio gains its quantity, at no cost
+abbrev pub moved_change : ℕ → ℤ → Change
+moved_change i quantity =
+    let each = gain quantity (pos 0) in
+    record { contract = i; size = pos (unsigned_abs quantity); lots = each; buys = each; sales = each; all = each }
+
 -- what a busted lot changes: the opposite
 abbrev pub bust_change : ℕ → Lot → Change
 bust_change i x =

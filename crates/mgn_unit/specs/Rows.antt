@@ -95,6 +95,10 @@ row_with_worth amount row = record row {
   all = portfolio_with_worth amount row.all;
 }
 
+-- more lots in a contract that leave every portfolio as it was
+abbrev pub row_with_size : ℕ → ℤ → Row → Row
+row_with_size i size row = record row { sizes = more_at row.sizes i size }
+
 -- the row of a unit that has nothing
 abbrev pub no_portfolio : Tables → PortfolioRow
 no_portfolio set = record { nets = replicate (length set.contracts) (pos 0); worth = pos 0; requirement = pos 0 }

@@ -11,6 +11,7 @@ mod row;
 mod rows;
 #[cfg(test)]
 mod tests;
+mod transfer;
 
 pub use account::Account;
 pub use change::{Change, Gain};
@@ -18,3 +19,4 @@ pub use holding::filling_at_limit_keeps_room;
 pub use nets::Nets;
 pub use new_set::Switch;
 pub use row::{PortfolioRow, Priced, Row};
+pub use transfer::add_both;

@@ -8,7 +8,7 @@ use Rattle.mgn_ids.specs.Number.{number_in}
 use Rattle.mgn_ids.specs.declared.fault.IdFault.{IdFault}
 use Rattle.mgn_ids.specs.declared.fault.IdFault.TheVariants.{Syntax, Range}
 use Rattle.mgn_machine.specs.declared.command.Command.{Command}
-use Rattle.mgn_machine.specs.declared.command.Command.TheVariants.{NewOrigin, NewAccount, Trade, Bust, Post, Draw, Ask, EndDay, Hold, Fill, Release}
+use Rattle.mgn_machine.specs.declared.command.Command.TheVariants.{NewOrigin, NewAccount, Trade, Bust, Post, Draw, Ask, EndDay, Hold, Fill, Release, Transfer}
 use Rattle.mgn_wire.specs.Word.{words_of, mode_in}
 use Rattle.mgn_wire.specs.declared.fault.LineFault.{LineFault}
 use Rattle.mgn_wire.specs.declared.fault.LineFault.TheVariants as line
@@ -45,6 +45,10 @@ abbrev pub fill_of : List ℕ → ℕ → ℕ → ℤ → ℕ → Command
 fill_of account order lot quantity premium =
     Fill record { account = account; order = order; lot = lot; quantity = quantity; premium = premium }
 
+abbrev pub transfer_of : ℕ → List ℕ → List ℕ → List ℕ → ℤ → Command
+transfer_of lot from to contract quantity =
+    Transfer record { lot = lot; from = from; to = to; contract = contract; quantity = quantity }
+
 -- The first word names the command, which has as many words after it.
 
 unfoldable pub with_none : List ℕ → Result Command IdFault
@@ -75,6 +79,7 @@ with_five verb a b c d e =
     if bytes_eq verb (codes "TRADE") then reads5 trade_of (name_in a) (number_in b) (name_in c) (quantity_in d) (premium_in e)
     else if bytes_eq verb (codes "HOLD") then reads5 hold_of (name_in a) (number_in b) (name_in c) (quantity_in d) (premium_in e)
     else if bytes_eq verb (codes "FILL") then reads5 fill_of (name_in a) (number_in b) (number_in c) (quantity_in d) (premium_in e)
+    else if bytes_eq verb (codes "MOVE") then reads5 transfer_of (number_in a) (name_in b) (name_in c) (name_in d) (quantity_in e)
     else Err Syntax
 
 unfoldable pub line_in : List (List ℕ) → Result Line IdFault

@@ -2,7 +2,7 @@
 use Rattle.std.specs.Prelude.{ℕ, ℤ, List, [], ◌++◌, Option, Some, None, codes}
 use Rattle.std.specs.Fmt.{decimal, signed_decimal}
 use Rattle.mgn_machine.specs.declared.reply.Refusal.{Refusal}
-use Rattle.mgn_machine.specs.declared.reply.Refusal.TheVariants.{NoAccount, NoOrigin, Duplicate, NoContract, NoTrade, NoClass, NoRoom, Limit, Premium, Over, Moved, Missing, Sets, Closed, Memory, Full, NoOrder}
+use Rattle.mgn_machine.specs.declared.reply.Refusal.TheVariants.{NoAccount, NoOrigin, Duplicate, NoContract, NoTrade, NoClass, NoRoom, Limit, Premium, Over, OtherOrigin, Moved, Missing, Sets, Closed, Memory, Full, NoOrder}
 use Rattle.mgn_machine.specs.declared.reply.Figures.{Figures}
 use Rattle.mgn_machine.specs.declared.reply.NewSet.{NewSet}
 use Rattle.mgn_machine.specs.declared.reply.Reply.{Reply}
@@ -26,6 +26,7 @@ refusal_text NoRoom = codes "30 NOROOM"
 refusal_text Limit = codes "31 LIMIT"
 refusal_text Premium = codes "32 PREMIUM"
 refusal_text Over = codes "33 OVER"
+refusal_text OtherOrigin = codes "34 ORIGIN"
 refusal_text Moved = codes "35 MOVED"
 refusal_text Missing = codes "42 MISSING"
 refusal_text Sets = codes "43 SETS"

@@ -5,7 +5,7 @@ ghost use Rattle.mgn_ids.specs.Name.{name_in};
 ghost use Rattle.mgn_ids.specs.Number.{number_in};
 ghost use Rattle.mgn_machine.specs.declared.command.Command.TheVariants as command;
 ghost use Rattle.mgn_wire.specs.Word.{mode_in};
-ghost use Rattle.mgn_wire.specs.Line.{◌<*>◌, fill_of, hold_of, line_in, line_of, of_words, reads2, reads3, reads5, trade_of, with_none, with_one, with_two, with_three, with_five};
+ghost use Rattle.mgn_wire.specs.Line.{◌<*>◌, fill_of, hold_of, line_in, line_of, of_words, reads2, reads3, reads5, trade_of, transfer_of, with_none, with_one, with_two, with_three, with_five};
 
 use crate::fault::LineFault;
 use crate::words::{read_mode, split_words};
@@ -13,7 +13,7 @@ use mgn_ids::{
     AccountName, ClassName, ContractName, IdFault, LotId, LotQuantity, OrderId, OriginName,
     Premium, SetName, Units,
 };
-use mgn_machine::{Command, Fill, Hold, Trade};
+use mgn_machine::{Command, Fill, Hold, Trade, Transfer};
 
 const LONGEST_LINE: usize = 256;
 
@@ -150,6 +150,30 @@ fn read_fill(
     }))
 }
 
+fn read_transfer(
+    lot: &[u8],
+    from: &[u8],
+    to: &[u8],
+    contract: &[u8],
+    quantity: &[u8],
+) -> Result<Command, IdFault>
+    ensures { result ≡ reads5 transfer_of (number_in lot.now) (name_in from.now) (name_in to.now)
+        (name_in contract.now) (quantity_in quantity.now) }
+{
+    let lot = LotId::read(lot)?;
+    let from = AccountName::read(from)?;
+    let to = AccountName::read(to)?;
+    let contract = ContractName::read(contract)?;
+    let quantity = LotQuantity::read(quantity)?;
+    Ok(Command::Transfer(Transfer {
+        lot,
+        from,
+        to,
+        contract,
+        quantity,
+    }))
+}
+
 // The commands of no word, one, two, three and five words after the verb.
 
 #[tactic(auto, unfolding(crate::specs::Line::with_none))]
@@ -225,6 +249,8 @@ fn read_five(
         read_hold(a, b, c, d, e)
     } else if verb == b"FILL".as_slice() {
         read_fill(a, b, c, d, e)
+    } else if verb == b"MOVE".as_slice() {
+        read_transfer(a, b, c, d, e)
     } else {
         Err(IdFault::Syntax)
     }

@@ -35,6 +35,7 @@ fn refusal_text(refusal: Refusal) -> &'static str
         Refusal::Limit => "31 LIMIT",
         Refusal::Premium => "32 PREMIUM",
         Refusal::Over => "33 OVER",
+        Refusal::OtherOrigin => "34 ORIGIN",
         Refusal::Moved => "35 MOVED",
         Refusal::Missing => "42 MISSING",
         Refusal::Sets => "43 SETS",
@@ -229,6 +230,11 @@ mod tests {
                 Some(1_000_000),
                 Reply::Refused(Refusal::NoAccount),
                 "ERR 1000000 20 NOACCT\n",
+            ),
+            (
+                Some(14),
+                Reply::Refused(Refusal::OtherOrigin),
+                "ERR 14 34 ORIGIN\n",
             ),
             (None, Reply::Refused(Refusal::Full), "ERR 91 FULL\n"),
         ];

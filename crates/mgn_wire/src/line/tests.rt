@@ -35,6 +35,19 @@ fn is_trade(command: &Command) -> bool {
     }
 }
 
+fn is_transfer(command: &Command) -> bool {
+    match command {
+        Command::Transfer(transfer) => {
+            transfer.lot.number() == 9
+                && transfer.from.as_bytes() == b"A1".as_slice()
+                && transfer.to.as_bytes() == b"A2".as_slice()
+                && transfer.contract.as_bytes() == b"AAA1".as_slice()
+                && transfer.quantity.quantity().contracts() == -2
+        }
+        _ => false,
+    }
+}
+
 #[test]
 fn reads_commands(rt: HostRuntime) {
     let trade = command_in(b"TRADE A1 1 AAA1 -2 0");
@@ -53,6 +66,8 @@ fn reads_commands(rt: HostRuntime) {
     assert!(rt; matches!(&fill, Some(Command::Fill(_))));
     let release = command_in(b"RELEASE A1 1");
     assert!(rt; matches!(&release, Some(Command::Release(_, _))));
+    let transfer = command_in(b"MOVE 9 A1 A2 AAA1 -2");
+    assert!(rt; transfer.is_some_and(|command| is_transfer(&command)));
     let end = command_in(b"END");
     assert!(rt; matches!(&end, Some(Command::EndDay)));
     let ask = command_in(b"ASK A1");
@@ -82,6 +97,11 @@ fn tells_faults(rt: HostRuntime) {
         ("TRADE A1 -5 AAA1 2 0", LineFault::Range),
         ("TRADE A1 1 AAA1 0 0", LineFault::Range),
         ("TRADE A1 1 AAA1 1000001 0", LineFault::Range),
+        ("MOVE 9 A1 A2 AAA1 0", LineFault::Range),
+        ("MOVE 9 A1 A2 AAA1", LineFault::Syntax),
+        ("MOVE 0 a1 A2 AAA1 1", LineFault::Range),
+        ("MOVE 9 a1 A2 AAA1 0", LineFault::Syntax),
+        ("MOVE A1 A2 9 AAA1 1", LineFault::Syntax),
         ("OPEN AAAAAAAAAAAAAAAAA a", LineFault::Range),
         ("ORIGIN a AAAAAAAAAAAAAAAAA", LineFault::Syntax),
         ("ORIGIN AAAAAAAAAAAAAAAAA FOO", LineFault::Range),
