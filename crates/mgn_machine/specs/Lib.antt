@@ -7,5 +7,6 @@ pub mod Holding
 pub mod Transfers
 pub mod NewSet
 pub mod Step
+pub mod Brief
 pub mod Statements
 pub mod History

@@ -1,6 +1,8 @@
 ghost use Rattle.std.specs.Prelude.{◌≡◌};
 
+use crate::statement::SharedStatement;
 use mgn_num::Cents;
+use std::alloc::AllocError;
 
 /// Why a command is refused.
 #[derive(Clone, Copy, PartialEq, Eq, Debug)]
@@ -68,7 +70,7 @@ pub struct NewSet {
 }
 
 /// What a request is answered.
-#[derive(Clone, Copy, PartialEq, Eq, Debug)]
+#[derive(Drop)]
 pub enum Reply {
     /// It is done.
     Done,
@@ -76,12 +78,34 @@ pub enum Reply {
     Figures(Figures),
     /// The set is in force.
     NewSet(NewSet),
+    /// The statement asked for.
+    Statement(SharedStatement),
     /// It is refused, and nothing has changed.
     Refused(Refusal),
 }
 
+impl Reply {
+    ghost use Rattle.std.specs.Prelude.{IfOk, IsOk, true};
+    ghost use Rattle.mgn_machine.specs.Brief.{is_brief};
+
+    /// An equal reply, which shares the statement if it is one. It takes no memory; an error says that no more owners of
+    /// a statement can be counted.
+    pub fn copy(&self) -> Result<Reply, AllocError>
+        ensures equal { IfOk result (λ copy. copy ≡ self.now) }
+        ensures brief { is_brief self.now ≡ true → IsOk result }
+    {
+        match self {
+            Reply::Done => Ok(Reply::Done),
+            Reply::Figures(figures) => Ok(Reply::Figures(*figures)),
+            Reply::NewSet(told) => Ok(Reply::NewSet(*told)),
+            Reply::Statement(statement) => Ok(Reply::Statement(statement.share()?)),
+            Reply::Refused(why) => Ok(Reply::Refused(*why)),
+        }
+    }
+}
+
 /// A reply, with its place in the history where it has one.
-#[derive(Clone, Copy, PartialEq, Eq, Debug)]
+#[derive(Drop)]
 pub struct Answer {
     /// The number of the entry in the history, from 1.
     pub place: Option<u64>,
