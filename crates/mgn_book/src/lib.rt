@@ -12,6 +12,7 @@ pub mod origins;
 pub mod register;
 pub mod step;
 pub mod switch;
+pub mod totals;
 
 pub use book::{Book, Outcome};
 pub use fault::Fault;

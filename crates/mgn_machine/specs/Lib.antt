@@ -5,5 +5,6 @@ pub mod Room
 pub mod Refusals
 pub mod Holding
 pub mod NewSet
+pub mod Totals
 pub mod Step
 pub mod History

@@ -79,6 +79,8 @@ pub enum Command {
     Draw(AccountName, ClassName, Units),
     /// `ASK`: the figures of the account's margin unit.
     Ask(AccountName),
+    /// `TOTAL`: the totals of the origin.
+    Total(OriginName),
     /// `END`: the day is over, and the book changes no more.
     EndDay,
 }

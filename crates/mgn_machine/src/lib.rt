@@ -13,5 +13,5 @@ mod tests;
 pub use command::{Command, Fill, Hold, Mode, Trade};
 pub use entry::{Entry, Item};
 pub use origin::Origin;
-pub use reply::{Answer, Figures, NewSet, Refusal, Reply};
+pub use reply::{Answer, Figures, NewSet, Refusal, Reply, Totals};
 pub use request::{Recorded, Request};
