@@ -5,7 +5,7 @@ use Rattle.mgn_machine.specs.declared.origin.Origin.{Origin}
 use Rattle.mgn_machine.specs.declared.reply.Refusal.{Refusal}
 use Rattle.mgn_machine.specs.declared.reply.Refusal.TheVariants.{NoRoom}
 use Rattle.mgn_machine.specs.declared.reply.Reply.{Reply}
-use Rattle.mgn_machine.specs.declared.reply.Reply.TheVariants.{Done, Figures, NewSet, Refused as Not}
+use Rattle.mgn_machine.specs.declared.reply.Reply.TheVariants.{Done, Figures, NewSet, Totals, Refused as Not}
 use Rattle.mgn_unit.specs.declared.row.Row.{Row}
 use Rattle.mgn_machine.specs.State.{State, AccountState, IsAccount}
 use Rattle.mgn_machine.specs.Refusals.{IsKnown}
@@ -61,10 +61,11 @@ answer_of (Ok done) = Ok Done
 answer_of (Err (Refused why)) = Ok (Not why)
 answer_of (Err Memory) = Err Memory
 
--- the same of what would be answered; figures never need memory
+-- the same of what would be answered; figures and totals never need memory
 abbrev pub AnswersByMemory : Reply → Type 0
 AnswersByMemory Done = Unit {0}
 AnswersByMemory (Figures figures) = ⊥
+AnswersByMemory (Totals totals) = ⊥
 AnswersByMemory (NewSet told) = ⊥
 AnswersByMemory (Not why) = why ≡ NoRoom
 

@@ -2,10 +2,10 @@ ghost use Rattle.std.specs.Prelude.{◌≡◌, ◌<◌, ◌≤◌, ◌++◌, ◌
 ghost use Rattle.mgn_machine.specs.declared.request.Recorded.TheVariants.{Asked, InForce};
 ghost use Rattle.mgn_machine.specs.History.{entry};
 ghost use Rattle.mgn_params.specs.Tables.{no_tables};
-ghost use Rattle.mgn_book.specs.History.{Grows, figures_needed, figures_of, recorded_of, reply_of, sets_needed};
+ghost use Rattle.mgn_book.specs.History.{Grows, figures_needed, figures_of, recorded_of, reply_of, sets_needed, totals_needed, totals_of};
 
 use mgn_ids::SessionNo;
-use mgn_machine::{Command, Figures, NewSet, Recorded, Refusal, Reply};
+use mgn_machine::{Command, Figures, NewSet, Recorded, Refusal, Reply, Totals};
 use mgn_params::{ParamSet, Version};
 use std::alloc::{AllocError, Global};
 use std::marker::Model;
@@ -18,17 +18,18 @@ pub(crate) enum StoredRequest {
     SetRefused(usize),
 }
 
-// A reply, with the place of its figures in a list of them.
+// A reply, with the place of its figures or totals in a list of them.
 #[derive(Clone, Copy)]
 pub(crate) enum StoredReply {
     Done,
-    At(usize),
+    FiguresAt(usize),
+    TotalsAt(usize),
     NewSet(NewSet),
     Refused(Refusal),
 }
 
-// An entry without its figures and its set, which few entries have, and which would take more memory than all the rest
-// of it.
+// An entry without its figures, its totals and its set, which few entries have, and which would take more memory than
+// all the rest of it.
 #[derive(Clone, Copy)]
 pub(crate) struct StoredEntry {
     pub session: SessionNo,
@@ -43,6 +44,7 @@ pub(crate) struct StoredEntry {
 pub(crate) struct History {
     entries: Vec<StoredEntry>,
     figures: Vec<Figures>,
+    totals: Vec<Totals>,
     refused: Vec<ParamSet>,
 }
 
@@ -53,12 +55,14 @@ impl Model for History {
     ghost Value = { EntryList };
 
     ghost view = { λ h. record {
-      entries = map (entry_of h.figures.items h.refused.items) h.entries.items;
+      entries = map (entry_of h.figures.items h.totals.items h.refused.items) h.entries.items;
       reserved = nat_lt (vec_len h.entries) (vec_capacity h.entries)
-          && nat_lt (vec_len h.figures) (vec_capacity h.figures);
+          && nat_lt (vec_len h.figures) (vec_capacity h.figures)
+          && nat_lt (vec_len h.totals) (vec_capacity h.totals);
     } };
 
-    ghost invariant = { λ h. AreShown (length h.figures.items) (length h.refused.items) h.entries.items };
+    ghost invariant = { λ h.
+        AreShown (length h.figures.items) (length h.totals.items) (length h.refused.items) h.entries.items };
 }
 
 impl History {
@@ -69,6 +73,7 @@ impl History {
         History {
             entries: Vec::new(alloc),
             figures: Vec::new(alloc),
+            totals: Vec::new(alloc),
             refused: Vec::new(alloc),
         }
     }
@@ -86,7 +91,8 @@ impl History {
         ensures ok { OnOk result (self.new.reserved ≡ true) }
     {
         self.entries.reserve(1)?;
-        self.figures.reserve(1)
+        self.figures.reserve(1)?;
+        self.totals.reserve(1)
     }
 
     /// Writes the entry of a command for which memory is reserved.
@@ -95,7 +101,7 @@ impl History {
         requires number { number ≤ 1000000 }
         ensures { self.new.entries ≡ self.old.entries ++ entry session number (Asked command.now) reply.now ∷ [] }
     {
-        let reply = store(&mut self.figures, reply);
+        let reply = store(&mut self.figures, &mut self.totals, reply);
         self.entries.push_reserved(StoredEntry {
             session,
             number: number as u32,
@@ -121,7 +127,7 @@ impl History {
         ensures in_force { (version : ℕ) → request ≡ InForce version → IsOk result }
     {
         let request = store_request(&mut self.refused, request)?;
-        let reply = store(&mut self.figures, reply);
+        let reply = store(&mut self.figures, &mut self.totals, reply);
         self.entries.push_reserved(StoredEntry {
             session,
             number: number as u32,
@@ -168,18 +174,25 @@ fn store_request(
     }
 }
 
-// Puts the figures of a reply at the end of a list, where it has any.
-fn store(figures: &mut Vec<Figures>, reply: &Reply) -> StoredReply
-    requires room { vec_len figures.old < vec_capacity figures.old }
-    ensures grown { figures.new.items ≡ figures.old.items ++ figures_of reply.now }
-    ensures needed { figures_needed result ≤ length figures.new.items }
-    ensures reply { reply_of figures.new.items result ≡ reply.now }
+// Puts the figures or totals of a reply at the end of their list, where it has any.
+fn store(figures: &mut Vec<Figures>, totals: &mut Vec<Totals>, reply: &Reply) -> StoredReply
+    requires figures_room { vec_len figures.old < vec_capacity figures.old }
+    requires totals_room { vec_len totals.old < vec_capacity totals.old }
+    ensures figures_grown { figures.new.items ≡ figures.old.items ++ figures_of reply.now }
+    ensures totals_grown { totals.new.items ≡ totals.old.items ++ totals_of reply.now }
+    ensures figures_in { figures_needed result ≤ length figures.new.items }
+    ensures totals_in { totals_needed result ≤ length totals.new.items }
+    ensures reply { reply_of figures.new.items totals.new.items result ≡ reply.now }
 {
     match *reply {
         Reply::Done => StoredReply::Done,
         Reply::Figures(told) => {
             figures.push_reserved(told);
-            StoredReply::At(figures.len() - 1)
+            StoredReply::FiguresAt(figures.len() - 1)
+        }
+        Reply::Totals(told) => {
+            totals.push_reserved(told);
+            StoredReply::TotalsAt(totals.len() - 1)
         }
         Reply::NewSet(told) => StoredReply::NewSet(told),
         Reply::Refused(why) => StoredReply::Refused(why),

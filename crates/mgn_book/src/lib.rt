@@ -12,6 +12,7 @@ pub mod origins;
 pub mod register;
 pub mod step;
 pub mod switch;
+pub mod totals;
 pub mod transfers;
 
 pub use book::{Book, Outcome};

@@ -49,7 +49,7 @@ type Home = (usize, Option<usize>);
 
 // Where an origin stands, and the unit of its accounts, if it is netted.
 #[tactic(auto, unfolding(mgn_machine::specs::Refusals::home_of))]
-fn home_of(origins: &[Origin], name: OriginName) -> Result<Home, Refusal>
+pub(crate) fn home_of(origins: &[Origin], name: OriginName) -> Result<Home, Refusal>
     ensures home { result ≡ home_of origins.now name }
     ensures there { IfOk result (λ home. home.0 < length origins.now) }
     ensures within { (n : ℕ) → All (λ o. IfSome o.unit (λ u. u < n)) origins.now

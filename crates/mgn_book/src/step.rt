@@ -75,6 +75,7 @@ pub fn step(
             set, account, &class, units,
         )),
         Command::Ask(account) => Ok(register.ask(set, account)),
+        Command::Total(origin) => Ok(register.total(set, origin)),
         Command::EndDay => answer_of(register.end(set)),
     }
 }

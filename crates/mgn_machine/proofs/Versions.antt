@@ -3,7 +3,7 @@ use Rattle.std.proofs.Common.{◌≡◌, ℕ, Bool, true, false, refl, Result, O
 use Rattle.std.specs.Prelude.{pos, int_lt}
 use Rattle.mgn_params.specs.Tables.{Tables}
 use Rattle.mgn_machine.specs.declared.command.Command.{Command}
-use Rattle.mgn_machine.specs.declared.command.Command.TheVariants.{NewOrigin, NewAccount, Trade, Bust, Post, Draw, Ask, EndDay, Hold, Fill, Release, Transfer as Move, Statement}
+use Rattle.mgn_machine.specs.declared.command.Command.TheVariants.{NewOrigin, NewAccount, Trade, Bust, Post, Draw, Ask, Total, EndDay, Hold, Fill, Release, Transfer as Move, Statement}
 use Rattle.mgn_machine.specs.declared.command.Transfer.{Transfer}
 use Rattle.mgn_machine.specs.declared.command.Mode.{Mode}
 use Rattle.mgn_machine.specs.declared.command.Mode.TheVariants.{Gross, Net}
@@ -73,5 +73,6 @@ keeps_version set' s (Move m) = of_answer s (moved set' s m) (of_chain s.version
 keeps_version set' s (Post account class units) = of_answer s (posted set' s account class units) (of_chain s.version _ _ (λ _. of_done s.version _ refl))
 keeps_version set' s (Draw account class units) = of_answer s (drawn set' s account class units) (of_chain s.version _ _ (λ at. of_room set' _ s.version _ refl))
 keeps_version set' s (Ask account) = refl
+keeps_version set' s (Total origin) = refl
 keeps_version set' s (Statement account) = refl
 keeps_version set' s EndDay = of_answer s (ended s) (of_chain s.version _ _ (λ _. of_done s.version _ refl))

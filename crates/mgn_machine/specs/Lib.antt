@@ -6,6 +6,7 @@ pub mod Refusals
 pub mod Holding
 pub mod Transfers
 pub mod NewSet
+pub mod Totals
 pub mod Step
 pub mod Brief
 pub mod Statements

@@ -1,6 +1,5 @@
 -- What the statement of an account tells, by which its requirement can be worked out again (own profile).
-use Rattle.std.specs.Prelude.{ℕ, ◌+◌, Bool, ◌==◌, ◌&&◌, not, nat_lt, ℤ, pos, ◌-ℤ◌, unsigned_abs, Option, None, Some, List, [], length, map, filter, slice_index_or}
-use Rattle.std.specs.Int.{int_max}
+use Rattle.std.specs.Prelude.{ℕ, ◌+◌, Bool, ◌==◌, ◌&&◌, not, nat_lt, pos, unsigned_abs, Option, None, Some, List, [], length, map, filter, slice_index_or}
 use Rattle.std.specs.List.{list_any, range_with_len}
 use Rattle.mgn_params.specs.declared.tables.Class.{Class}
 use Rattle.mgn_params.specs.Tables.{Tables, commodity_at}
@@ -21,6 +20,7 @@ use Rattle.mgn_machine.specs.declared.statement.Heading.{Heading}
 use Rattle.mgn_machine.specs.State.{State, AccountState, account_at}
 use Rattle.mgn_machine.specs.Portfolios.{OnlyLots, nets_of}
 use Rattle.mgn_machine.specs.Room.{figures_of}
+use Rattle.mgn_machine.specs.Totals.{shortfall}
 
 pub record Told : Type 0 where
   pub heading : Heading
@@ -37,10 +37,6 @@ mode_of (Some u) = Net
 -- stands for the origin past the end of the list, which no account has
 abbrev pub no_origin : Origin
 no_origin = record { name = []; unit = None }
-
--- what a unit must have deposited above what is there
-abbrev pub shortfall : ℤ → ℤ → ℤ
-shortfall requirement value = int_max (pos 0) (requirement -ℤ value)
 
 -- a commodity in which a position is not 0
 abbrev pub is_held : List Position → ℕ → Bool

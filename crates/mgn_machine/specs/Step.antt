@@ -3,23 +3,24 @@ use Rattle.std.specs.Prelude.{ℕ, ◌+◌, true, Option, None, Some, List, [], 
 use Rattle.mgn_params.specs.Shelves.{set_at}
 use Rattle.mgn_params.specs.Tables.{Tables}
 use Rattle.mgn_machine.specs.declared.command.Command.{Command}
-use Rattle.mgn_machine.specs.declared.command.Command.TheVariants.{NewOrigin, NewAccount, Trade as OfTrade, Bust, Post, Draw, Ask, EndDay, Hold, Fill, Release, Transfer, Statement as OfStatement}
+use Rattle.mgn_machine.specs.declared.command.Command.TheVariants.{NewOrigin, NewAccount, Trade as OfTrade, Bust, Post, Draw, Ask, Total, EndDay, Hold, Fill, Release, Transfer, Statement as OfStatement}
 use Rattle.mgn_machine.specs.declared.command.Mode.{Mode}
 use Rattle.mgn_machine.specs.declared.command.Mode.TheVariants.{Gross, Net}
 use Rattle.mgn_machine.specs.declared.command.Trade.{Trade}
 use Rattle.mgn_machine.specs.declared.reply.Refusal.{Refusal}
 use Rattle.mgn_machine.specs.declared.reply.Refusal.TheVariants.{Closed}
 use Rattle.mgn_machine.specs.declared.reply.Reply.{Reply}
-use Rattle.mgn_machine.specs.declared.reply.Reply.TheVariants.{Done, Figures, NewSet, Statement, Refused}
+use Rattle.mgn_machine.specs.declared.reply.Reply.TheVariants.{Done, Figures, NewSet, Totals, Statement, Refused}
 use Rattle.mgn_machine.specs.declared.request.Request.{Request}
 use Rattle.mgn_machine.specs.declared.request.Request.TheVariants.{Do, Switch}
 use Rattle.mgn_machine.specs.State.{State, account_at, put, fresh, with_lot, with_bust, with_amount, traded_lot}
 use Rattle.mgn_machine.specs.Room.{figures_of}
-use Rattle.mgn_machine.specs.Refusals.{◌>>=◌, refuse_if, origin_fits, open_home, place_of, trade_places, bust_places, post_place, draw_place, if_room}
+use Rattle.mgn_machine.specs.Refusals.{◌>>=◌, refuse_if, origin_fits, home_of, open_home, place_of, trade_places, bust_places, post_place, draw_place, if_room}
 use Rattle.mgn_machine.specs.Holding.{entered, filled, released}
 use Rattle.mgn_machine.specs.Statements.{statement_of}
 use Rattle.mgn_machine.specs.Transfers.{moved}
 use Rattle.mgn_machine.specs.NewSet.{set_fits, on_call}
+use Rattle.mgn_machine.specs.Totals.{totals_of}
 
 -- an origin more; a netted one makes its unit
 abbrev pub with_origin : State → List ℕ → Mode → State
@@ -72,6 +73,11 @@ abbrev pub asked : Tables → State → Result ℕ Refusal → Reply
 asked set s (Ok k) = Figures (figures_of set s.accounts (account_at s.accounts k).unit)
 asked set s (Err why) = Refused why
 
+-- the totals of the origin that was found
+abbrev pub totalled : Tables → State → Result (ℕ × Option ℕ) Refusal → Reply
+totalled set s (Ok home) = Totals (totals_of set s.accounts home)
+totalled set s (Err why) = Refused why
+
 -- the statement of the account at a place
 abbrev pub stated : Tables → State → Result ℕ Refusal → Reply
 stated set s (Ok k) = Statement (statement_of set s (account_at s.accounts k))
@@ -100,6 +106,7 @@ step_under set s (Transfer m) = answered s (moved set s m)
 step_under set s (Post account class units) = answered s (posted set s account class units)
 step_under set s (Draw account class units) = answered s (drawn set s account class units)
 step_under set s (Ask account) = (s, asked set s (place_of s account))
+step_under set s (Total origin) = (s, totalled set s (home_of s.origins origin))
 step_under set s (OfStatement account) = (s, stated set s (place_of s account))
 step_under set s EndDay = answered s (ended s)
 

@@ -96,6 +96,8 @@ pub enum Command {
     Draw(AccountName, ClassName, Units),
     /// `ASK`: the figures of the account's margin unit.
     Ask(AccountName),
+    /// `TOTAL`: the totals of the origin.
+    Total(OriginName),
     /// `STMT`: the statement of the account.
     Statement(AccountName),
     /// `END`: the day is over, and the book changes no more.

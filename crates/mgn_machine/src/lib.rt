@@ -14,6 +14,6 @@ mod tests;
 pub use command::{Command, Fill, Hold, Mode, Trade, Transfer};
 pub use entry::{Entry, Item};
 pub use origin::Origin;
-pub use reply::{Answer, Figures, NewSet, Refusal, Reply};
+pub use reply::{Answer, Figures, NewSet, Refusal, Reply, Totals};
 pub use request::{Recorded, Request};
 pub use statement::{ClassLine, CommodityLine, Heading, SharedStatement, Statement};

@@ -60,6 +60,21 @@ pub struct Figures {
     pub room: Cents,
 }
 
+/// What the lots of an origin's accounts come to: margined gross the sums over the accounts, each by itself; netted the
+/// figures of the origin's one margin unit. In cents.
+#[derive(Clone, Copy, PartialEq, Eq, Debug)]
+pub struct Totals {
+    /// What the lots must have deposited.
+    pub requirement: Cents,
+    /// What is there: collateral less what the live lots cost.
+    pub value: Cents,
+    /// What is called for: the requirement less the value, and 0 where there is enough. Gross, what one account has too
+    /// much lowers no other's call.
+    pub call: Cents,
+    /// How many accounts the origin has.
+    pub accounts: u32,
+}
+
 /// What a set that came into force is told by.
 #[derive(Clone, Copy, PartialEq, Eq, Debug)]
 pub struct NewSet {
@@ -76,6 +91,8 @@ pub enum Reply {
     Done,
     /// The figures asked for.
     Figures(Figures),
+    /// The totals asked for.
+    Totals(Totals),
     /// The set is in force.
     NewSet(NewSet),
     /// The statement asked for.
@@ -97,6 +114,7 @@ impl Reply {
         match self {
             Reply::Done => Ok(Reply::Done),
             Reply::Figures(figures) => Ok(Reply::Figures(*figures)),
+            Reply::Totals(totals) => Ok(Reply::Totals(*totals)),
             Reply::NewSet(told) => Ok(Reply::NewSet(*told)),
             Reply::Statement(statement) => Ok(Reply::Statement(statement.share()?)),
             Reply::Refused(why) => Ok(Reply::Refused(*why)),

@@ -10,7 +10,8 @@ use Rattle.mgn_plain.specs.declared.commodity.CommodityFigures.{CommodityFigures
 use Rattle.mgn_machine.specs.declared.statement.CommodityLine.{CommodityLine}
 use Rattle.mgn_machine.specs.declared.statement.Heading.{Heading}
 use Rattle.mgn_machine.specs.State.{AccountState}
-use Rattle.mgn_machine.specs.Statements.{Told, class_lines, commodity_lines, mode_of, shortfall}
+use Rattle.mgn_machine.specs.Statements.{Told, class_lines, commodity_lines, mode_of}
+use Rattle.mgn_machine.specs.Totals.{shortfall}
 use Rattle.mgn_unit.specs.declared.row.Row.{Row}
 use Rattle.mgn_unit.specs.Rows.{row_figures}
 

@@ -2,7 +2,8 @@ ghost use Rattle.std.specs.Prelude.{◌≡◌, IfOk};
 ghost use Rattle.mgn_unit.specs.Rows.{IsPortfolioRow, IsRow};
 ghost use Rattle.mgn_span.specs.Options.{net_option_value};
 ghost use Rattle.mgn_span.specs.Positions.{positions};
-ghost use Rattle.mgn_machine.specs.Statements.{commodity_lines, mode_of, shortfall};
+ghost use Rattle.mgn_machine.specs.Statements.{commodity_lines, mode_of};
+ghost use Rattle.mgn_machine.specs.Totals.{shortfall};
 ghost use Rattle.mgn_statement.specs.Statement.{heading_by, statement_by};
 
 use crate::lines::{class_lines, commodity_lines, live_lots};

@@ -8,6 +8,7 @@ use Rattle.mgn_machine.specs.declared.reply.NewSet.{NewSet}
 use Rattle.mgn_machine.specs.declared.reply.Reply.{Reply}
 use Rattle.mgn_machine.specs.declared.reply.Reply.TheVariants as reply
 use Rattle.mgn_machine.specs.declared.reply.Answer.{Answer}
+use Rattle.mgn_machine.specs.declared.reply.Totals.{Totals}
 use Rattle.mgn_wire.specs.declared.fault.LineFault.{LineFault}
 use Rattle.mgn_wire.specs.declared.fault.LineFault.TheVariants.{Long, Syntax, Range}
 use Rattle.mgn_wire.specs.declared.reply.LineReply.{LineReply}
@@ -45,6 +46,9 @@ figures_text f = field f.requirement ++ field f.exposure_requirement ++ field f.
 abbrev pub number_text : ℕ → List ℕ
 number_text number = codes " " ++ decimal number
 
+abbrev pub totals_text : Totals → List ℕ
+totals_text t = field t.requirement ++ field t.value ++ field t.call ++ number_text t.accounts
+
 -- the place, where there is one, after the word that tells whether the command is done
 abbrev pub place_text : Option ℕ → List ℕ
 place_text None = []
@@ -57,6 +61,7 @@ set_text told = number_text told.version ++ number_text told.on_call
 abbrev pub reply_of : Option ℕ → Reply → List ℕ
 reply_of place reply.Done = codes "OK" ++ place_text place
 reply_of place (reply.Figures figures) = codes "OK" ++ place_text place ++ figures_text figures
+reply_of place (reply.Totals totals) = codes "OK" ++ place_text place ++ totals_text totals
 reply_of place (reply.NewSet told) = codes "OK" ++ place_text place ++ set_text told
 reply_of place (reply.Refused refusal) = codes "ERR" ++ place_text place ++ codes " " ++ refusal_text refusal
 

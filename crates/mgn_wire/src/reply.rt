@@ -1,9 +1,9 @@
 ghost use Rattle.std.specs.Prelude.{◌≡◌, ◌++◌, OnOk, OnErr, codes, length, take};
-ghost use Rattle.mgn_wire.specs.Text.{text_of, refusal_text, fault_text, line_reply_of, field, figures_text, number_text, place_text, reply_of, set_text};
+ghost use Rattle.mgn_wire.specs.Text.{text_of, refusal_text, fault_text, line_reply_of, field, figures_text, number_text, place_text, reply_of, set_text, totals_text};
 
 use crate::fault::{LineFault, Memory};
 use itoa::Buffer;
-use mgn_machine::{Answer, Figures, NewSet, Refusal, Reply};
+use mgn_machine::{Answer, Figures, NewSet, Refusal, Reply, Totals};
 use mgn_num::Cents;
 use std::alloc::AllocError;
 
@@ -100,6 +100,16 @@ pub(crate) fn print_figures(figures: &Figures, out: &mut Vec<u8>) -> Result<(), 
     print_field(figures.room, out)
 }
 
+fn print_totals(totals: &Totals, out: &mut Vec<u8>) -> Result<(), AllocError>
+    ensures ok { OnOk result (out.new.items ≡ out.old.items ++ totals_text totals.now) }
+    ensures kept { take (length out.old.items) out.new.items ≡ out.old.items }
+{
+    print_field(totals.requirement, out)?;
+    print_field(totals.value, out)?;
+    print_field(totals.call, out)?;
+    print_number(u64::from(totals.accounts), out)
+}
+
 fn print_set(told: NewSet, out: &mut Vec<u8>) -> Result<(), AllocError>
     ensures ok { OnOk result (out.new.items ≡ out.old.items ++ set_text told) }
     ensures kept { take (length out.old.items) out.new.items ≡ out.old.items }
@@ -121,6 +131,11 @@ fn print_answer(answer: &Answer, out: &mut Vec<u8>) -> Result<(), AllocError>
             print("OK", out)?;
             print_place(answer.place, out)?;
             print_figures(figures, out)
+        }
+        Reply::Totals(totals) => {
+            print("OK", out)?;
+            print_place(answer.place, out)?;
+            print_totals(totals, out)
         }
         Reply::NewSet(told) => {
             print("OK", out)?;
@@ -199,6 +214,16 @@ mod tests {
         })
     }
 
+    fn totals(cents: [i64; 3], accounts: u32) -> Reply {
+        let [requirement, value, call] = cents;
+        Reply::Totals(Totals {
+            requirement: Cents::new(i128::from(requirement)),
+            value: Cents::new(i128::from(value)),
+            call: Cents::new(i128::from(call)),
+            accounts,
+        })
+    }
+
     #[test]
     fn writes_replies(rt: HostRuntime) {
         let answers = [
@@ -213,6 +238,7 @@ mod tests {
                 figures([140, 140, 0, 0, -140]),
                 "OK 6 140 140 0 0 -140\n",
             ),
+            (Some(7), totals([600, -50, 650], 2), "OK 7 600 -50 650 2\n"),
             (
                 Some(7),
                 Reply::NewSet(NewSet {

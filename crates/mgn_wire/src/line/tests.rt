@@ -72,6 +72,8 @@ fn reads_commands(rt: HostRuntime) {
     assert!(rt; matches!(&end, Some(Command::EndDay)));
     let ask = command_in(b"ASK A1");
     assert!(rt; matches!(&ask, Some(Command::Ask(_))));
+    let total = command_in(b"TOTAL CUST");
+    assert!(rt; matches!(&total, Some(Command::Total(_))));
     let switch = set_in(b"SWITCH TWO");
     assert!(rt; switch.is_some_and(|name| name.as_bytes() == b"TWO".as_slice()));
     assert!(rt; set_in(b"ASK A1").is_none() && command_in(b"SWITCH TWO").is_none());
@@ -84,6 +86,10 @@ fn tells_faults(rt: HostRuntime) {
         ("ASK", LineFault::Syntax),
         ("ASK  A1", LineFault::Syntax),
         ("ASK A1 ", LineFault::Syntax),
+        ("TOTAL", LineFault::Syntax),
+        ("TOTAL cust", LineFault::Syntax),
+        ("TOTAL CUST A1", LineFault::Syntax),
+        ("TOTAL AAAAAAAAAAAAAAAAA", LineFault::Range),
         ("SWITCH", LineFault::Syntax),
         ("SWITCH one", LineFault::Syntax),
         ("SWITCH ONE TWO", LineFault::Syntax),
