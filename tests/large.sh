@@ -111,6 +111,9 @@ make_session '
     say("POST A1 CASH 300", "OK")
     say("HOLD A1 1 AAA1 1 0", "OK")
     say("FILL A1 1 65537 1 0", "31 LIMIT")
+    say("OPEN A2 CUST", "OK")
+    say("MOVE 65537 A1 A2 AAA1 1", "31 LIMIT")
+    say("MOVE 65537 A2 A1 AAA1 1", "31 LIMIT")
 '
 look "65,536 lots of an account" "$here/../sets" FUT 0 ""
 

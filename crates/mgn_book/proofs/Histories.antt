@@ -7,7 +7,7 @@ use Rattle.mgn_params.specs.Shelves.{set_at}
 use Rattle.mgn_params.specs.Tables.{Tables}
 use Rattle.mgn_machine.specs.declared.entry.Entry.{Entry}
 use Rattle.mgn_machine.specs.declared.reply.Reply.{Reply}
-use Rattle.mgn_machine.specs.declared.reply.Reply.TheVariants.{Done, Figures, NewSet, Totals, Refused}
+use Rattle.mgn_machine.specs.declared.reply.Reply.TheVariants.{Done, Figures, NewSet, Statement, Totals, Refused}
 use Rattle.mgn_machine.specs.declared.request.Request.TheVariants.{Switch}
 use Rattle.mgn_machine.specs.declared.request.Request.{Request}
 use Rattle.mgn_machine.specs.State.{State, start}
@@ -53,6 +53,7 @@ put-more sets t (Refused why) = ([], sym (append-nil sets))
 put-more sets t Done = ([], sym (append-nil sets))
 put-more sets t (Figures figures) = ([], sym (append-nil sets))
 put-more sets t (Totals totals) = ([], sym (append-nil sets))
+put-more sets t (Statement told) = ([], sym (append-nil sets))
 
 -- the day so far under the sets as they are then
 stands-before : (sets now : List Tables) (old : BookView) (t : Tables) (reply : Reply) → Stands sets old → now ≡ sets_after sets (Switch t) reply → Legal now old.history × (replay now old.history ≡ old.book.state) × (length sets ≤ length now)

@@ -1,17 +1,23 @@
 -- The machine's state with a kept row for each margin unit.
-use Rattle.std.specs.Prelude.{ℕ, ◌≡◌, ◌<◌, ◌≤◌, List, length, Bool, slice_index_or, All, IfSome, Result, Ok, Err}
+use Rattle.std.specs.Prelude.{ℕ, ◌≡◌, ◌<◌, ◌≤◌, List, length, Bool, slice_index_or, All, IfSome, Option, None, Some, Result, Ok, Err}
 use Rattle.mgn_params.specs.Tables.{Tables}
 use Rattle.mgn_machine.specs.declared.origin.Origin.{Origin}
 use Rattle.mgn_machine.specs.declared.reply.Refusal.{Refusal}
 use Rattle.mgn_machine.specs.declared.reply.Refusal.TheVariants.{NoRoom}
 use Rattle.mgn_machine.specs.declared.reply.Reply.{Reply}
-use Rattle.mgn_machine.specs.declared.reply.Reply.TheVariants.{Done, Figures, NewSet, Totals, Refused as Not}
+use Rattle.mgn_machine.specs.declared.reply.Reply.TheVariants.{Done, Figures, NewSet, Statement, Totals, Refused as Not}
 use Rattle.mgn_unit.specs.declared.row.Row.{Row}
-use Rattle.mgn_machine.specs.State.{State, AccountState, IsAccount}
+use Rattle.mgn_machine.specs.State.{State, AccountState, IsAccount, account_at}
+use Rattle.mgn_machine.specs.Statements.{Told, statement_of}
 use Rattle.mgn_machine.specs.Refusals.{IsKnown}
 use Rattle.mgn_unit.specs.Rows.{row_of, IsRow}
 use Rattle.mgn_book.specs.declared.fault.Fault.{Fault}
 use Rattle.mgn_book.specs.declared.fault.Fault.TheVariants.{Refused, Memory}
+
+-- the statement of the account at a place, none where there is no place
+abbrev pub statement_found : Tables → State → Result ℕ Refusal → Option Told
+statement_found set s (Ok k) = Some (statement_of set s (account_at s.accounts k))
+statement_found set s (Err why) = None
 
 pub record BookState : Type 0 where
   pub state : State
@@ -67,6 +73,7 @@ AnswersByMemory Done = Unit {0}
 AnswersByMemory (Figures figures) = ⊥
 AnswersByMemory (Totals totals) = ⊥
 AnswersByMemory (NewSet told) = ⊥
+AnswersByMemory (Statement told) = Unit {0}
 AnswersByMemory (Not why) = why ≡ NoRoom
 
 -- one step of the machine, or nothing, where memory was refused; a refusal is a reply

@@ -3,7 +3,7 @@ use Rattle.std.specs.Prelude.{ℕ, ◌≡◌, ◌+◌, ◌<◌, ◌≤◌, false
 use Rattle.mgn_params.specs.Shelves.{set_at}
 use Rattle.mgn_params.specs.Tables.{Tables}
 use Rattle.mgn_machine.specs.declared.entry.Entry.{Entry}
-use Rattle.mgn_machine.specs.declared.reply.Reply.TheVariants.{Done as Settled, Figures, NewSet, Totals, Refused}
+use Rattle.mgn_machine.specs.declared.reply.Reply.TheVariants.{Done as Settled, Figures, NewSet, Statement, Totals, Refused}
 use Rattle.mgn_machine.specs.declared.reply.Reply.{Reply}
 use Rattle.mgn_machine.specs.declared.request.Request.{Request}
 use Rattle.mgn_machine.specs.declared.request.Request.TheVariants.{Do, Switch}
@@ -48,6 +48,7 @@ sets_after sets (Switch set) (Refused why) = sets
 sets_after sets (Switch set) Settled = sets
 sets_after sets (Switch set) (Figures figures) = sets
 sets_after sets (Switch set) (Totals totals) = sets
+sets_after sets (Switch set) (Statement told) = sets
 
 -- what a commit does to the sets of the shelf
 abbrev pub Shelves : List Tables → Request → Outcome → List Tables → Type 0

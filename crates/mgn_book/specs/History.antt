@@ -1,18 +1,16 @@
--- How a book keeps its history: the figures and the totals of replies, and the sets that were refused, stand in lists
+-- How a book keeps its history: replies of figures, totals and statements, and the sets that were refused, stand in lists
 -- of their own.
-use Rattle.std.specs.Prelude.{◌≡◌, ℕ, pos, ◌+◌, ◌++◌, ◌≤◌, All, Bool, List, [], ◌∷◌, slice_index_or}
+use Rattle.std.specs.Prelude.{◌≡◌, ℕ, ◌+◌, ◌++◌, ◌≤◌, All, Bool, List, [], ◌∷◌, slice_index_or}
 use Rattle.mgn_params.specs.Tables.{Tables, no_tables}
 use Rattle.mgn_machine.specs.declared.entry.Entry.{Entry}
-use Rattle.mgn_machine.specs.declared.reply.Figures.{Figures}
 use Rattle.mgn_machine.specs.declared.reply.Reply.{Reply}
-use Rattle.mgn_machine.specs.declared.reply.Reply.TheVariants.{Done, Figures as Told, NewSet, Refused, Totals as ToldTotals}
-use Rattle.mgn_machine.specs.declared.reply.Totals.{Totals}
+use Rattle.mgn_machine.specs.declared.reply.Reply.TheVariants.{Done, Figures, NewSet, Refused, Statement, Totals}
 use Rattle.mgn_machine.specs.declared.request.Recorded.{Recorded}
 use Rattle.mgn_machine.specs.declared.request.Recorded.TheVariants.{Asked, InForce, SetRefused}
 use Rattle.mgn_machine.specs.History.{entry}
 use Rattle.mgn_book.specs.declared.history.StoredEntry.{StoredEntry}
 use Rattle.mgn_book.specs.declared.history.StoredReply.{StoredReply}
-use Rattle.mgn_book.specs.declared.history.StoredReply.TheVariants.{Done as StoredDone, FiguresAt, NewSet as StoredSet, Refused as StoredRefused, TotalsAt}
+use Rattle.mgn_book.specs.declared.history.StoredReply.TheVariants.{Done as StoredDone, At, NewSet as StoredSet, Refused as StoredRefused}
 use Rattle.mgn_book.specs.declared.history.StoredRequest.{StoredRequest}
 use Rattle.mgn_book.specs.declared.history.StoredRequest.TheVariants.{Asked as StoredCommand, InForce as StoredVersion, SetRefused as RefusedAt}
 
@@ -21,46 +19,25 @@ pub record EntryList : Type 0 where
   pub entries : List Entry
   pub reserved : Bool
 
--- the figures that a reply adds to their list
-abbrev pub figures_of : Reply → List Figures
-figures_of Done = []
-figures_of (Told figures) = figures ∷ []
-figures_of (ToldTotals totals) = []
-figures_of (NewSet told) = []
-figures_of (Refused why) = []
-
--- the totals that it adds to theirs
-abbrev pub totals_of : Reply → List Totals
-totals_of Done = []
-totals_of (Told figures) = []
-totals_of (ToldTotals totals) = totals ∷ []
-totals_of (NewSet told) = []
-totals_of (Refused why) = []
+-- what a reply adds to the list of replies that are kept apart
+abbrev pub kept_apart : Reply → List Reply
+kept_apart Done = []
+kept_apart (Figures figures) = Figures figures ∷ []
+kept_apart (Totals totals) = Totals totals ∷ []
+kept_apart (NewSet told) = []
+kept_apart (Statement told) = Statement told ∷ []
+kept_apart (Refused why) = []
 
 -- sets were added to a list, or none
 abbrev pub Grows : List Tables → List Tables → Type 0
 Grows old new = (more : List Tables) × (new ≡ old ++ more)
 
--- stand for figures and totals past the ends of the lists, which no one asks for
-abbrev pub no_figures : Figures
-no_figures = record {
-  requirement = pos 0;
-  exposure_requirement = pos 0;
-  value = pos 0;
-  exposure_value = pos 0;
-  room = pos 0;
-}
-
-abbrev pub no_totals : Totals
-no_totals = record { requirement = pos 0; value = pos 0; call = pos 0; accounts = 0 }
-
 -- the reply that is stored
-abbrev pub reply_of : List Figures → List Totals → StoredReply → Reply
-reply_of figures totals StoredDone = Done
-reply_of figures totals (FiguresAt place) = Told (slice_index_or figures place no_figures)
-reply_of figures totals (TotalsAt place) = ToldTotals (slice_index_or totals place no_totals)
-reply_of figures totals (StoredSet told) = NewSet told
-reply_of figures totals (StoredRefused why) = Refused why
+abbrev pub reply_of : List Reply → StoredReply → Reply
+reply_of apart StoredDone = Done
+reply_of apart (At place) = slice_index_or apart place Done
+reply_of apart (StoredSet told) = NewSet told
+reply_of apart (StoredRefused why) = Refused why
 
 -- the request that is stored
 abbrev pub recorded_of : List Tables → StoredRequest → Recorded
@@ -68,20 +45,12 @@ recorded_of refused (StoredCommand command) = Asked command
 recorded_of refused (StoredVersion version) = InForce version
 recorded_of refused (RefusedAt place) = SetRefused (slice_index_or refused place (no_tables []))
 
--- how long the lists of figures and of totals must be for a reply, and that of refused sets for a request
-abbrev pub figures_needed : StoredReply → ℕ
-figures_needed StoredDone = 0
-figures_needed (FiguresAt place) = place + 1
-figures_needed (TotalsAt place) = 0
-figures_needed (StoredSet told) = 0
-figures_needed (StoredRefused why) = 0
-
-abbrev pub totals_needed : StoredReply → ℕ
-totals_needed StoredDone = 0
-totals_needed (FiguresAt place) = 0
-totals_needed (TotalsAt place) = place + 1
-totals_needed (StoredSet told) = 0
-totals_needed (StoredRefused why) = 0
+-- how long the list of replies must be for a reply, and that of refused sets for a request
+abbrev pub replies_needed : StoredReply → ℕ
+replies_needed StoredDone = 0
+replies_needed (At place) = place + 1
+replies_needed (StoredSet told) = 0
+replies_needed (StoredRefused why) = 0
 
 abbrev pub sets_needed : StoredRequest → ℕ
 sets_needed (StoredCommand command) = 0
@@ -89,15 +58,14 @@ sets_needed (StoredVersion version) = 0
 sets_needed (RefusedAt place) = place + 1
 
 -- the entry of what is stored
-abbrev pub entry_of : List Figures → List Totals → List Tables → StoredEntry → Entry
-entry_of figures totals refused stored =
-    entry stored.session stored.number (recorded_of refused stored.request) (reply_of figures totals stored.reply)
+abbrev pub entry_of : List Reply → List Tables → StoredEntry → Entry
+entry_of apart refused stored =
+    entry stored.session stored.number (recorded_of refused stored.request) (reply_of apart stored.reply)
 
--- the lists are long enough for what is stored
-pub record IsShown (figures totals refused : ℕ) (stored : StoredEntry) : Type 0 where
-  pub figures_in : figures_needed stored.reply ≤ figures
-  pub totals_in : totals_needed stored.reply ≤ totals
+-- both lists are long enough for what is stored
+pub record IsShown (apart refused : ℕ) (stored : StoredEntry) : Type 0 where
+  pub reply : replies_needed stored.reply ≤ apart
   pub request : sets_needed stored.request ≤ refused
 
-abbrev pub AreShown : ℕ → ℕ → ℕ → List StoredEntry → Type 0
-AreShown figures totals refused entries = All (IsShown figures totals refused) entries
+abbrev pub AreShown : ℕ → ℕ → List StoredEntry → Type 0
+AreShown apart refused entries = All (IsShown apart refused) entries

@@ -1,8 +1,11 @@
 ghost use Rattle.std.specs.Prelude.{◌≡◌, ◌+◌, ◌<◌, ◌≤◌, ◌++◌, ◌∷◌, [], length, List, true};
+ghost use Rattle.mgn_params.specs.Shelves.{set_at};
 ghost use Rattle.mgn_params.specs.Tables.{Tables};
+ghost use Rattle.mgn_machine.specs.Refusals.{place_of};
 ghost use Rattle.mgn_machine.specs.declared.request.Recorded.TheVariants.{Asked};
 ghost use Rattle.mgn_machine.specs.declared.request.Request.TheVariants.{Do, Switch};
 ghost use Rattle.mgn_machine.specs.History.{calls, entry};
+ghost use Rattle.mgn_book.specs.BookStates.{statement_found};
 ghost use Rattle.mgn_book.specs.BookViews.{Committed, Shelves, Stands, opening};
 ghost use Rattle.mgn_book.specs.declared.book.Outcome.TheVariants.{Done};
 
@@ -11,17 +14,17 @@ use crate::history::History;
 use crate::in_force::switch_set;
 use crate::register::Register;
 use crate::step::step;
-use mgn_ids::SessionNo;
-use mgn_machine::{Command, Reply};
+use mgn_ids::{AccountName, SessionNo};
+use mgn_machine::{Command, Reply, Statement};
 use mgn_params::{ParamSet, Shelf};
-use std::alloc::Global;
+use std::alloc::{AllocError, Global};
 use std::marker::Model;
 
 /// How many entries the history has at most.
 const MOST_ENTRIES: usize = 1_000_000;
 
 /// What a commit did.
-#[derive(Clone, Copy)]
+#[derive(Drop)]
 pub enum Outcome {
     /// One step, with the place of its entry in the history and its reply.
     Done(u64, Reply),
@@ -42,6 +45,7 @@ pub struct Book {
 }
 
 impl Model for Book {
+    ghost use Rattle.mgn_book.specs.BookStates.{statement_found};
     ghost use Rattle.mgn_book.specs.BookViews.{BookView, IsBook};
 
     ghost Value = { BookView };
@@ -117,8 +121,31 @@ impl Book {
             Err(Fault::Memory) => return Outcome::Memory,
             Err(Fault::Refused(_)) => unreachable!(),
         };
+        let Ok(kept) = reply.copy() else {
+            return Outcome::Memory;
+        };
         self.counts[count_place(session)] = number;
-        write(&mut self.history, session, number, command, &reply)
+        self.history.push(session, number, command, kept);
+        Outcome::Done(self.history.len() as u64, reply)
+    }
+
+    /// The statement of an account under the set in force, none where there is no such account. An error says that memory
+    /// was refused. The book is not asked to commit anything, and its history tells nothing of it.
+    pub fn statement<S: Shelf>(
+        &self,
+        alloc: Global,
+        shelf: &S,
+        account: &AccountName,
+    ) -> Result<Option<Statement>, AllocError>
+        requires { Stands (S.sets shelf.now) self.now }
+        ensures { let state = self.now.book.state in
+            IfOk result (λ told.
+            told ≡ statement_found (set_at (S.sets shelf.now) state.version) state (place_of state account.now)) }
+    {
+        let Some(set) = shelf.get(self.register.version()) else {
+            unreachable!();
+        };
+        self.register.statement(alloc, set, *account)
     }
 
     /// One switch to a set and its entry: it comes into force under the next version, or it is refused. `Full` where
@@ -171,22 +198,4 @@ fn count_place(session: SessionNo) -> usize
     ensures within { result < 16 }
 {
     session.number() as usize - 1
-}
-
-// Writes an entry where there is room for it.
-fn write(
-    history: &mut History,
-    session: SessionNo,
-    number: u64,
-    command: &Command,
-    reply: &Reply,
-) -> Outcome
-    requires room { history.old.reserved ≡ true }
-    requires number { number ≤ 1000000 }
-    ensures outcome { result ≡ Done (length history.new.entries) reply.now }
-    ensures entry { history.new.entries ≡
-        history.old.entries ++ entry session number (Asked command.now) reply.now ∷ [] }
-{
-    history.push(session, number, command, reply);
-    Outcome::Done(history.len() as u64, *reply)
 }

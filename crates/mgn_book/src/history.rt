@@ -2,10 +2,10 @@ ghost use Rattle.std.specs.Prelude.{◌≡◌, ◌<◌, ◌≤◌, ◌++◌, ◌
 ghost use Rattle.mgn_machine.specs.declared.request.Recorded.TheVariants.{Asked, InForce};
 ghost use Rattle.mgn_machine.specs.History.{entry};
 ghost use Rattle.mgn_params.specs.Tables.{no_tables};
-ghost use Rattle.mgn_book.specs.History.{Grows, figures_needed, figures_of, recorded_of, reply_of, sets_needed, totals_needed, totals_of};
+ghost use Rattle.mgn_book.specs.History.{Grows, kept_apart, recorded_of, replies_needed, reply_of, sets_needed};
 
 use mgn_ids::SessionNo;
-use mgn_machine::{Command, Figures, NewSet, Recorded, Refusal, Reply, Totals};
+use mgn_machine::{Command, NewSet, Recorded, Refusal, Reply};
 use mgn_params::{ParamSet, Version};
 use std::alloc::{AllocError, Global};
 use std::marker::Model;
@@ -18,18 +18,17 @@ pub(crate) enum StoredRequest {
     SetRefused(usize),
 }
 
-// A reply, with the place of its figures or totals in a list of them.
+// A reply, or its place in a list of those that take more memory.
 #[derive(Clone, Copy)]
 pub(crate) enum StoredReply {
     Done,
-    FiguresAt(usize),
-    TotalsAt(usize),
+    At(usize),
     NewSet(NewSet),
     Refused(Refusal),
 }
 
-// An entry without its figures, its totals and its set, which few entries have, and which would take more memory than
-// all the rest of it.
+// An entry without what few entries have, and what would take more memory than all the rest of it: figures, totals, a
+// statement, a set that was refused.
 #[derive(Clone, Copy)]
 pub(crate) struct StoredEntry {
     pub session: SessionNo,
@@ -43,8 +42,7 @@ pub(crate) struct StoredEntry {
 #[derive(Drop)]
 pub(crate) struct History {
     entries: Vec<StoredEntry>,
-    figures: Vec<Figures>,
-    totals: Vec<Totals>,
+    apart: Vec<Reply>,
     refused: Vec<ParamSet>,
 }
 
@@ -55,14 +53,12 @@ impl Model for History {
     ghost Value = { EntryList };
 
     ghost view = { λ h. record {
-      entries = map (entry_of h.figures.items h.totals.items h.refused.items) h.entries.items;
+      entries = map (entry_of h.apart.items h.refused.items) h.entries.items;
       reserved = nat_lt (vec_len h.entries) (vec_capacity h.entries)
-          && nat_lt (vec_len h.figures) (vec_capacity h.figures)
-          && nat_lt (vec_len h.totals) (vec_capacity h.totals);
+          && nat_lt (vec_len h.apart) (vec_capacity h.apart);
     } };
 
-    ghost invariant = { λ h.
-        AreShown (length h.figures.items) (length h.totals.items) (length h.refused.items) h.entries.items };
+    ghost invariant = { λ h. AreShown (length h.apart.items) (length h.refused.items) h.entries.items };
 }
 
 impl History {
@@ -72,8 +68,7 @@ impl History {
     {
         History {
             entries: Vec::new(alloc),
-            figures: Vec::new(alloc),
-            totals: Vec::new(alloc),
+            apart: Vec::new(alloc),
             refused: Vec::new(alloc),
         }
     }
@@ -91,17 +86,16 @@ impl History {
         ensures ok { OnOk result (self.new.reserved ≡ true) }
     {
         self.entries.reserve(1)?;
-        self.figures.reserve(1)?;
-        self.totals.reserve(1)
+        self.apart.reserve(1)
     }
 
     /// Writes the entry of a command for which memory is reserved.
-    pub fn push(&mut self, session: SessionNo, number: u64, command: &Command, reply: &Reply)
+    pub fn push(&mut self, session: SessionNo, number: u64, command: &Command, reply: Reply)
         requires reserved { self.old.reserved ≡ true }
         requires number { number ≤ 1000000 }
-        ensures { self.new.entries ≡ self.old.entries ++ entry session number (Asked command.now) reply.now ∷ [] }
+        ensures { self.new.entries ≡ self.old.entries ++ entry session number (Asked command.now) reply ∷ [] }
     {
-        let reply = store(&mut self.figures, &mut self.totals, reply);
+        let reply = store(&mut self.apart, reply);
         self.entries.push_reserved(StoredEntry {
             session,
             number: number as u32,
@@ -117,17 +111,17 @@ impl History {
         session: SessionNo,
         number: u64,
         request: Recorded,
-        reply: &Reply,
+        reply: Reply,
     ) -> Result<(), AllocError>
         requires reserved { self.old.reserved ≡ true }
         requires number { number ≤ 1000000 }
         ensures ok { OnOk result (
-            self.new.entries ≡ self.old.entries ++ entry session number request reply.now ∷ []) }
+            self.new.entries ≡ self.old.entries ++ entry session number request reply ∷ []) }
         ensures err { OnErr result (self.new.entries ≡ self.old.entries) }
         ensures in_force { (version : ℕ) → request ≡ InForce version → IsOk result }
     {
         let request = store_request(&mut self.refused, request)?;
-        let reply = store(&mut self.figures, &mut self.totals, reply);
+        let reply = store(&mut self.apart, reply);
         self.entries.push_reserved(StoredEntry {
             session,
             number: number as u32,
@@ -174,27 +168,20 @@ fn store_request(
     }
 }
 
-// Puts the figures or totals of a reply at the end of their list, where it has any.
-fn store(figures: &mut Vec<Figures>, totals: &mut Vec<Totals>, reply: &Reply) -> StoredReply
-    requires figures_room { vec_len figures.old < vec_capacity figures.old }
-    requires totals_room { vec_len totals.old < vec_capacity totals.old }
-    ensures figures_grown { figures.new.items ≡ figures.old.items ++ figures_of reply.now }
-    ensures totals_grown { totals.new.items ≡ totals.old.items ++ totals_of reply.now }
-    ensures figures_in { figures_needed result ≤ length figures.new.items }
-    ensures totals_in { totals_needed result ≤ length totals.new.items }
-    ensures reply { reply_of figures.new.items totals.new.items result ≡ reply.now }
+// Puts a reply at the end of the list of those that are kept apart, if it is one of them.
+fn store(apart: &mut Vec<Reply>, reply: Reply) -> StoredReply
+    requires room { vec_len apart.old < vec_capacity apart.old }
+    ensures grown { apart.new.items ≡ apart.old.items ++ kept_apart reply }
+    ensures needed { replies_needed result ≤ length apart.new.items }
+    ensures reply { reply_of apart.new.items result ≡ reply }
 {
-    match *reply {
+    match reply {
         Reply::Done => StoredReply::Done,
-        Reply::Figures(told) => {
-            figures.push_reserved(told);
-            StoredReply::FiguresAt(figures.len() - 1)
-        }
-        Reply::Totals(told) => {
-            totals.push_reserved(told);
-            StoredReply::TotalsAt(totals.len() - 1)
-        }
         Reply::NewSet(told) => StoredReply::NewSet(told),
         Reply::Refused(why) => StoredReply::Refused(why),
+        long => {
+            apart.push_reserved(long);
+            StoredReply::At(apart.len() - 1)
+        }
     }
 }

@@ -53,12 +53,17 @@ fn enter_set<S: Shelf>(
         Err((PutFault::Memory, _)) => return Err(Fault::Memory),
         Err((PutFault::Sets, _)) => unreachable!(),
     };
-    let reply = Reply::NewSet(NewSet {
+    let told = NewSet {
         version: version.number(),
         on_call: register.put_in_force(rows, version),
-    });
-    match history.push_switch(session, number, Recorded::InForce(version), &reply) {
-        Ok(()) => Ok(reply),
+    };
+    match history.push_switch(
+        session,
+        number,
+        Recorded::InForce(version),
+        Reply::NewSet(told),
+    ) {
+        Ok(()) => Ok(Reply::NewSet(told)),
         Err(_) => unreachable!(),
     }
 }
@@ -79,9 +84,9 @@ fn refuse_set(
     ensures fault { IfErr result (λ fault. fault ≡ Fault.Memory) }
     ensures same_history { OnErr result (history.new.entries ≡ history.old.entries) }
 {
-    let reply = Reply::Refused(why);
-    history.push_switch(session, number, Recorded::SetRefused(set), &reply)?;
-    Ok(reply)
+    let request = Recorded::SetRefused(set);
+    history.push_switch(session, number, request, Reply::Refused(why))?;
+    Ok(Reply::Refused(why))
 }
 
 /// One switch to a set: it comes into force, or is refused, and the history tells which. Where memory is refused

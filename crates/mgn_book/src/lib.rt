@@ -10,6 +10,7 @@ mod in_force;
 pub mod laws;
 pub mod origins;
 pub mod register;
+pub mod statements;
 pub mod step;
 pub mod switch;
 pub mod totals;

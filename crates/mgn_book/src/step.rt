@@ -1,4 +1,5 @@
-ghost use Rattle.std.specs.Prelude.{◌≡◌, ◌≢◌};
+ghost use Rattle.std.specs.Prelude.{◌≡◌, ◌≢◌, IfOk, true, false};
+ghost use Rattle.mgn_machine.specs.Brief.{is_brief};
 ghost use Rattle.mgn_machine.specs.Refusals.{place_of};
 ghost use Rattle.mgn_machine.specs.Step.{step_under, asked, ended};
 ghost use Rattle.mgn_book.specs.BookStates.{IsKept, Steps, Replies, answer_of};
@@ -38,7 +39,8 @@ impl Register {
 
 // What is answered where a change is done or refused. Want of memory is no answer.
 fn answer_of(done: Result<(), Fault>) -> Result<Reply, Fault>
-    ensures { result ≡ answer_of done }
+    ensures answer { result ≡ answer_of done }
+    ensures brief { IfOk result (λ reply. is_brief reply ≡ true) }
 {
     match done {
         Ok(()) => Ok(Reply::Done),
@@ -47,7 +49,7 @@ fn answer_of(done: Result<(), Fault>) -> Result<Reply, Fault>
     }
 }
 
-/// One step of the machine under a set; where memory is refused nothing has changed.
+/// One step of the machine under a set; where memory is refused, or a statement told, nothing has changed.
 #[tactic(auto, using(crate::proofs::Steps::answered_by))]
 pub fn step(
     register: &mut Register,
@@ -58,6 +60,7 @@ pub fn step(
     requires kept { IsKept set.now register.old }
     ensures kept { IsKept set.now register.new }
     ensures replies { Replies (step_under set.now register.old.state command.now) result register.old register.new }
+    ensures told { IfOk result (λ reply. is_brief reply ≡ false → register.new ≡ register.old) }
 {
     match *command {
         Command::NewOrigin(name, mode) => answer_of(register.originate(alloc, set, name, mode)),
@@ -76,6 +79,7 @@ pub fn step(
         )),
         Command::Ask(account) => Ok(register.ask(set, account)),
         Command::Total(origin) => Ok(register.total(set, origin)),
+        Command::Statement(account) => register.state(alloc, set, account),
         Command::EndDay => answer_of(register.end(set)),
     }
 }

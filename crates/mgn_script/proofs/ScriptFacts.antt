@@ -15,7 +15,7 @@ use Rattle.mgn_machine.proofs.Versions.{keeps_version}
 use Rattle.mgn_machine.specs.declared.reply.Answer.{Answer}
 use Rattle.mgn_machine.specs.declared.reply.Refusal.{Refusal}
 use Rattle.mgn_machine.specs.declared.reply.Reply.{Reply}
-use Rattle.mgn_machine.specs.declared.reply.Reply.TheVariants.{Done, Figures, NewSet, Totals, Refused}
+use Rattle.mgn_machine.specs.declared.reply.Reply.TheVariants.{Done, Figures, NewSet, Statement, Totals, Refused}
 use Rattle.mgn_book.specs.BookViews.{BookView, opening, sets_after}
 use Rattle.mgn_session.specs.Conversation.{ConversationView}
 use Rattle.mgn_session.specs.Session.{Answers, Call, Calls, Fetch, HasAnswered, HasStopped, HasTooMuch, IsCaughtUp, IsSession, IsUnplaced, Step}
@@ -46,6 +46,7 @@ begins_after sets (Switch t) (Refused why) = begins_itself sets
 begins_after sets (Switch t) Done = begins_itself sets
 begins_after sets (Switch t) (Figures f) = begins_itself sets
 begins_after sets (Switch t) (Totals totals) = begins_itself sets
+begins_after sets (Switch t) (Statement told) = begins_itself sets
 
 set_begun : (now sets : List Tables) (version : ℕ) → Begins now sets → version < length now → set_at sets version ≡ set_at now version
 set_begun now sets version begins within = ap (λ (xs : List Tables). set_at xs version) begins.1 ∙ get_or_append_left now begins.0 (no_tables []) version within

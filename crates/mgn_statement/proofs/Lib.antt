@@ -1,2 +1,3 @@
 -- Lemmas on the lists of a statement.
+pub mod ByRow
 pub mod Lists

@@ -8,7 +8,7 @@ use Rattle.mgn_ids.specs.Number.{number_in}
 use Rattle.mgn_ids.specs.declared.fault.IdFault.{IdFault}
 use Rattle.mgn_ids.specs.declared.fault.IdFault.TheVariants.{Syntax, Range}
 use Rattle.mgn_machine.specs.declared.command.Command.{Command}
-use Rattle.mgn_machine.specs.declared.command.Command.TheVariants.{NewOrigin, NewAccount, Trade, Bust, Post, Draw, Ask, Total, EndDay, Hold, Fill, Release, Transfer}
+use Rattle.mgn_machine.specs.declared.command.Command.TheVariants.{NewOrigin, NewAccount, Trade, Bust, Post, Draw, Ask, Total, Statement, EndDay, Hold, Fill, Release, Transfer}
 use Rattle.mgn_wire.specs.Word.{words_of, mode_in}
 use Rattle.mgn_wire.specs.declared.fault.LineFault.{LineFault}
 use Rattle.mgn_wire.specs.declared.fault.LineFault.TheVariants as line
@@ -58,6 +58,7 @@ unfoldable pub with_one : List ℕ → List ℕ → Result Line IdFault
 with_one verb a =
     if bytes_eq verb (codes "ASK") then Ok (λ name. Do (Ask name)) <*> name_in a
     else if bytes_eq verb (codes "TOTAL") then Ok (λ name. Do (Total name)) <*> name_in a
+    else if bytes_eq verb (codes "STMT") then Ok (λ name. Do (Statement name)) <*> name_in a
     else if bytes_eq verb (codes "SWITCH") then Ok Switch <*> name_in a
     else Err Syntax
 

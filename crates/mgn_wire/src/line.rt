@@ -197,6 +197,9 @@ fn read_one(verb: &[u8], a: &[u8]) -> Result<Line, IdFault>
     } else if verb == b"TOTAL".as_slice() {
         let origin = OriginName::read(a)?;
         Ok(Line::Do(Command::Total(origin)))
+    } else if verb == b"STMT".as_slice() {
+        let account = AccountName::read(a)?;
+        Ok(Line::Do(Command::Statement(account)))
     } else if verb == b"SWITCH".as_slice() {
         let set = SetName::read(a)?;
         Ok(Line::Switch(set))

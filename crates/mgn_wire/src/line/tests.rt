@@ -74,6 +74,8 @@ fn reads_commands(rt: HostRuntime) {
     assert!(rt; matches!(&ask, Some(Command::Ask(_))));
     let total = command_in(b"TOTAL CUST");
     assert!(rt; matches!(&total, Some(Command::Total(_))));
+    let statement = command_in(b"STMT A1");
+    assert!(rt; matches!(&statement, Some(Command::Statement(_))));
     let switch = set_in(b"SWITCH TWO");
     assert!(rt; switch.is_some_and(|name| name.as_bytes() == b"TWO".as_slice()));
     assert!(rt; set_in(b"ASK A1").is_none() && command_in(b"SWITCH TWO").is_none());
@@ -90,6 +92,10 @@ fn tells_faults(rt: HostRuntime) {
         ("TOTAL cust", LineFault::Syntax),
         ("TOTAL CUST A1", LineFault::Syntax),
         ("TOTAL AAAAAAAAAAAAAAAAA", LineFault::Range),
+        ("STMT", LineFault::Syntax),
+        ("STMT a1", LineFault::Syntax),
+        ("STMT A1 A2", LineFault::Syntax),
+        ("STMT AAAAAAAAAAAAAAAAA", LineFault::Range),
         ("SWITCH", LineFault::Syntax),
         ("SWITCH one", LineFault::Syntax),
         ("SWITCH ONE TWO", LineFault::Syntax),

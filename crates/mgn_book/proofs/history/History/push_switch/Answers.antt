@@ -1,52 +1,42 @@
 use Rattle.std.proofs.Common.{◌≡◌, List, [], ◌∷◌, ◌++◌, ap, ◌∙◌, map, sym, subst, arith, length, length-append}
 use Rattle.mgn_params.specs.Tables.{Tables}
 use Rattle.mgn_machine.specs.declared.entry.Entry.{Entry}
-use Rattle.mgn_machine.specs.declared.reply.Figures.{Figures}
-use Rattle.mgn_machine.specs.declared.reply.Totals.{Totals}
+use Rattle.mgn_machine.specs.declared.reply.Reply.{Reply}
 use Rattle.mgn_machine.specs.History.{entry}
 use Rattle.mgn_book.specs.declared.history.StoredEntry.{StoredEntry}
-use Rattle.mgn_book.specs.History.{AreShown, entry_of, figures_of, recorded_of, reply_of, totals_of}
+use Rattle.mgn_book.specs.History.{AreShown, entry_of, kept_apart, recorded_of, reply_of}
 use Rattle.mgn_book.proofs.StoredReplies.{entries-pushed, shown-more}
 use Rattle.mgn_book.proofs.history.History.push_switch.Goals as goal
 
 pub invariant_of-self-2 : goal.invariant_of-self-2
 invariant_of-self-2 c =
-    let before : List Figures = c.self.inside.figures.items in
-    let told : List Totals = c.self.inside.totals.items in
+    let before : List Reply = c.self.inside.apart.items in
     let sets : List Tables = c.self.inside.refused.items in
     let stored : List StoredEntry = c.self.inside.entries.items in
     let next : StoredEntry = record { session = c.args.session; number = c.args.number; request = c.in_ok-request.request; reply = c.store-reply.result } in
-    let figures = c.store-reply.new.figures.items in
-    let totals = c.store-reply.new.totals.items in
+    let apart = c.store-reply.new.apart.items in
     let refused = c.store_request.new.refused.items in
-    subst (λ (es : List StoredEntry). AreShown (length figures) (length totals) (length refused) es) (sym c.push_reserved.ensures.items)
+    subst (λ (es : List StoredEntry). AreShown (length apart) (length refused) es) (sym c.push_reserved.ensures.items)
     (
-    shown-more (length before) (length told) (length sets) (length figures) (length totals) (length refused) stored next c.self.invariant
-    (omega (arith, ap length c.store-reply.ensures.figures_grown, length-append before (figures_of c.args.reply.now)))
-    (omega (arith, ap length c.store-reply.ensures.totals_grown, length-append told (totals_of c.args.reply.now)))
+    shown-more (length before) (length sets) (length apart) (length refused) stored next c.self.invariant
+    (omega (arith, ap length c.store-reply.ensures.grown, length-append before (kept_apart c.args.reply)))
     (omega (arith, ap length c.in_ok-request.ensures.grown.1, length-append sets c.in_ok-request.ensures.grown.0))
-    record {
-      figures_in = c.store-reply.ensures.figures_in;
-      totals_in = c.store-reply.ensures.totals_in;
-      request = c.in_ok-request.ensures.needed;
-    }
+    c.store-reply.ensures.needed
+    c.in_ok-request.ensures.needed
     )
 
 pub returns-clause-ok : goal.returns-clause-ok
 returns-clause-ok c =
-    let figures : List Figures = c.self.inside.figures.items in
-    let figures_more : List Figures = figures_of c.args.reply.now in
-    let totals : List Totals = c.self.inside.totals.items in
-    let totals_more : List Totals = totals_of c.args.reply.now in
+    let before : List Reply = c.self.inside.apart.items in
+    let more : List Reply = kept_apart c.args.reply in
     let sets : List Tables = c.self.inside.refused.items in
-    let sets_more : List Tables = c.in_ok-request.ensures.grown.0 in
+    let others : List Tables = c.in_ok-request.ensures.grown.0 in
     let stored : List StoredEntry = c.self.inside.entries.items in
     let next : StoredEntry = record { session = c.args.session; number = c.args.number; request = c.in_ok-request.request; reply = c.store-reply.result } in
-    let grown = c.store-reply.ensures in
-    let asked : recorded_of (sets ++ sets_more) next.request ≡ c.args.request = ap (λ (ts : List Tables). recorded_of ts next.request) (sym c.in_ok-request.ensures.grown.1) ∙ c.in_ok-request.ensures.request in
-    let replied : reply_of (figures ++ figures_more) (totals ++ totals_more) next.reply ≡ c.args.reply.now =
-    (λ i. reply_of (sym grown.figures_grown i) (sym grown.totals_grown i) next.reply) ∙ grown.reply in
-    ap (λ (xs : List StoredEntry). map (entry_of c.store-reply.new.figures.items c.store-reply.new.totals.items c.store_request.new.refused.items) xs) c.push_reserved.ensures.items
-    ∙ (λ i. map (entry_of (grown.figures_grown i) (grown.totals_grown i) (c.in_ok-request.ensures.grown.1 i)) (stored ++ next ∷ []))
-    ∙ entries-pushed figures figures_more totals totals_more sets sets_more stored next c.args.request c.args.reply.now c.self.invariant asked replied
-    ∙ ap (λ (es : List Entry). es ++ entry c.args.session c.args.number c.args.request c.args.reply.now ∷ []) (ap (λ v. v.entries) c.self.view_is)
+    let asked : recorded_of (sets ++ others) next.request ≡ c.args.request = ap (λ (ts : List Tables). recorded_of ts next.request) (sym c.in_ok-request.ensures.grown.1) ∙ c.in_ok-request.ensures.request in
+    let replied : reply_of (before ++ more) next.reply ≡ c.args.reply = ap (λ (apart : List Reply). reply_of apart next.reply) (sym c.store-reply.ensures.grown) ∙ c.store-reply.ensures.reply in
+    ap (λ (xs : List StoredEntry). map (entry_of c.store-reply.new.apart.items c.store_request.new.refused.items) xs) c.push_reserved.ensures.items
+    ∙ ap (λ (apart : List Reply). map (entry_of apart c.store_request.new.refused.items) (stored ++ next ∷ [])) c.store-reply.ensures.grown
+    ∙ ap (λ (ts : List Tables). map (entry_of (before ++ more) ts) (stored ++ next ∷ [])) c.in_ok-request.ensures.grown.1
+    ∙ entries-pushed before more sets others stored next c.args.request c.args.reply c.self.invariant asked replied
+    ∙ ap (λ (es : List Entry). es ++ entry c.args.session c.args.number c.args.request c.args.reply ∷ []) (ap (λ v. v.entries) c.self.view_is)
