@@ -1,5 +1,6 @@
 -- What the contracts of lines and replies cite.
 pub mod Word
 pub mod Line
-pub mod Text
+pub mod Fields
 pub mod StatementText
+pub mod Text

@@ -1,6 +1,5 @@
 -- The text of a statement, line by line (own format).
-use Rattle.std.specs.Prelude.{ℕ, ℤ, ◌+◌, List, ◌++◌, length, codes}
-use Rattle.std.specs.Fmt.{signed_decimal}
+use Rattle.std.specs.Prelude.{ℕ, ◌+◌, List, ◌++◌, length, codes}
 use Rattle.std.specs.List.{flat_map}
 use Rattle.mgn_lots.specs.declared.lot.Lot.{Lot}
 use Rattle.mgn_lots.specs.declared.lot.Mark.{Mark}
@@ -12,7 +11,7 @@ use Rattle.mgn_machine.specs.declared.statement.ClassLine.{ClassLine}
 use Rattle.mgn_machine.specs.declared.statement.CommodityLine.{CommodityLine}
 use Rattle.mgn_machine.specs.declared.statement.Heading.{Heading}
 use Rattle.mgn_machine.specs.Statements.{Told}
-use Rattle.mgn_wire.specs.Text.{field, figures_text, number_text}
+use Rattle.mgn_wire.specs.Fields.{field, figures_text, number_text}
 
 -- a name after a space
 abbrev pub name_text : List ℕ → List ℕ

@@ -1,6 +1,5 @@
 -- The text of what a line is answered (own format).
-use Rattle.std.specs.Prelude.{ℕ, ℤ, List, [], ◌++◌, Option, Some, None, codes}
-use Rattle.std.specs.Fmt.{decimal, signed_decimal}
+use Rattle.std.specs.Prelude.{ℕ, List, [], ◌++◌, Option, Some, None, codes}
 use Rattle.mgn_machine.specs.declared.reply.Refusal.{Refusal}
 use Rattle.mgn_machine.specs.declared.reply.Refusal.TheVariants.{NoAccount, NoOrigin, Duplicate, NoContract, NoTrade, NoClass, NoRoom, Limit, Premium, Over, OtherOrigin, Moved, Missing, Sets, Closed, Memory, Full, NoOrder}
 use Rattle.mgn_machine.specs.declared.reply.Figures.{Figures}
@@ -11,6 +10,8 @@ use Rattle.mgn_machine.specs.declared.reply.Answer.{Answer}
 use Rattle.mgn_machine.specs.declared.reply.Totals.{Totals}
 use Rattle.mgn_wire.specs.declared.fault.LineFault.{LineFault}
 use Rattle.mgn_wire.specs.declared.fault.LineFault.TheVariants.{Long, Syntax, Range}
+use Rattle.mgn_wire.specs.Fields.{field, figures_text, number_text}
+use Rattle.mgn_wire.specs.StatementText.{line_count, statement_text}
 use Rattle.mgn_wire.specs.declared.reply.LineReply.{LineReply}
 use Rattle.mgn_wire.specs.declared.reply.LineReply.TheVariants.{Answered, NotRead, NoSet, BadSet}
 
@@ -35,17 +36,6 @@ refusal_text Closed = codes "50 CLOSED"
 refusal_text Memory = codes "90 MEMORY"
 refusal_text Full = codes "91 FULL"
 
--- a number of cents after a space
-abbrev pub field : ℤ → List ℕ
-field cents = codes " " ++ signed_decimal cents
-
-abbrev pub figures_text : Figures → List ℕ
-figures_text f = field f.requirement ++ field f.exposure_requirement ++ field f.value ++ field f.exposure_value ++ field f.room
-
--- a number after a space
-abbrev pub number_text : ℕ → List ℕ
-number_text number = codes " " ++ decimal number
-
 abbrev pub totals_text : Totals → List ℕ
 totals_text t = field t.requirement ++ field t.value ++ field t.call ++ number_text t.accounts
 
@@ -63,6 +53,7 @@ reply_of place reply.Done = codes "OK" ++ place_text place
 reply_of place (reply.Figures figures) = codes "OK" ++ place_text place ++ figures_text figures
 reply_of place (reply.Totals totals) = codes "OK" ++ place_text place ++ totals_text totals
 reply_of place (reply.NewSet told) = codes "OK" ++ place_text place ++ set_text told
+reply_of place (reply.Statement told) = codes "OK" ++ place_text place ++ number_text (line_count told)
 reply_of place (reply.Refused refusal) = codes "ERR" ++ place_text place ++ codes " " ++ refusal_text refusal
 
 -- each fault of a line with its code and its name
@@ -77,6 +68,15 @@ line_reply_of (NotRead fault) = codes "ERR " ++ fault_text fault
 line_reply_of NoSet = codes "ERR 40 NOSET"
 line_reply_of (BadSet record_number) = codes "ERR 41 BADSET" ++ number_text record_number
 
--- the text of what a line is answered, a line
+-- a statement has lines of its own after that of its reply
+abbrev pub statement_lines : Reply → List ℕ
+statement_lines (reply.Statement told) = statement_text told
+statement_lines _ = []
+
+abbrev pub lines_after : LineReply → List ℕ
+lines_after (Answered answer) = statement_lines answer.reply
+lines_after _ = []
+
+-- the text of what a line is answered: a line, and after it those of a statement
 unfoldable pub text_of : LineReply → List ℕ
-text_of reply = line_reply_of reply ++ codes "\n"
+text_of reply = line_reply_of reply ++ codes "\n" ++ lines_after reply

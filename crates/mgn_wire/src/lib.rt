@@ -10,4 +10,4 @@ mod words;
 pub use fault::{LineFault, Memory};
 pub use line::{Line, read_line};
 pub use reply::{LineReply, reply_text};
-pub use statement::statement_text;
+pub use statement::{line_count, statement_text};

@@ -1,14 +1,16 @@
 ghost use Rattle.std.specs.Prelude.{◌≡◌, ◌++◌, OnOk, OnErr, codes, length, take};
-ghost use Rattle.mgn_wire.specs.Text.{text_of, refusal_text, fault_text, line_reply_of, field, figures_text, number_text, place_text, reply_of, set_text, totals_text};
+ghost use Rattle.mgn_wire.specs.Fields.{field, figures_text, number_text};
+ghost use Rattle.mgn_wire.specs.Text.{fault_text, line_reply_of, lines_after, place_text, refusal_text, reply_of, set_text, text_of, totals_text};
 
 use crate::fault::{LineFault, Memory};
+use crate::statement::{line_count, print_statement};
 use itoa::Buffer;
 use mgn_machine::{Answer, Figures, NewSet, Refusal, Reply, Totals};
 use mgn_num::Cents;
 use std::alloc::AllocError;
 
 /// What a line is answered.
-#[derive(Clone, Copy, PartialEq, Eq, Debug)]
+#[derive(Drop)]
 pub enum LineReply {
     /// The answer to the request that it asks for.
     Answered(Answer),
@@ -142,6 +144,11 @@ fn print_answer(answer: &Answer, out: &mut Vec<u8>) -> Result<(), AllocError>
             print_place(answer.place, out)?;
             print_set(*told, out)
         }
+        Reply::Statement(shared) => {
+            print("OK", out)?;
+            print_place(answer.place, out)?;
+            print_number(line_count(shared.statement()), out)
+        }
         Reply::Refused(refusal) => {
             print("ERR", out)?;
             print_place(answer.place, out)?;
@@ -169,16 +176,32 @@ fn print_reply(reply: &LineReply, out: &mut Vec<u8>) -> Result<(), AllocError>
     }
 }
 
+// A statement has lines of its own after that of its reply.
+fn print_lines_after(reply: &LineReply, out: &mut Vec<u8>) -> Result<(), AllocError>
+    ensures ok { OnOk result (out.new.items ≡ out.old.items ++ lines_after reply.now) }
+    ensures kept { take (length out.old.items) out.new.items ≡ out.old.items }
+{
+    match reply {
+        LineReply::Answered(answer) => match &answer.reply {
+            Reply::Statement(shared) => print_statement(shared.statement(), out),
+            _ => Ok(()),
+        },
+        _ => Ok(()),
+    }
+}
+
 #[tactic(auto, unfolding(crate::specs::Text::text_of))]
 fn print_line(reply: &LineReply, out: &mut Vec<u8>) -> Result<(), AllocError>
     ensures ok { OnOk result (out.new.items ≡ out.old.items ++ text_of reply.now) }
     ensures kept { take (length out.old.items) out.new.items ≡ out.old.items }
 {
     print_reply(reply, out)?;
-    print("\n", out)
+    print("\n", out)?;
+    print_lines_after(reply, out)
 }
 
-/// Appends the text of what a line is answered, a line with its line feed. On `Memory` the buffer is as it was.
+/// Appends the text of what a line is answered: a line, and after it those of a statement, each with its line feed. On
+/// `Memory` the buffer is as it was.
 pub fn reply_text(reply: &LineReply, out: &mut Vec<u8>) -> Result<(), Memory>
     ensures ok { OnOk result (out.new.items ≡ out.old.items ++ text_of reply.now) }
     ensures err { OnErr result (out.new.items ≡ out.old.items) }

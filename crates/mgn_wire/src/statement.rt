@@ -1,8 +1,7 @@
 ghost use Rattle.std.specs.Prelude.{◌≡◌, ◌++◌, OnOk, OnErr, length, take};
-ghost use Rattle.std.specs.Fmt.{signed_decimal};
 ghost use Rattle.std.specs.List.{flat_map};
-ghost use Rattle.mgn_wire.specs.Text.{field, number_text};
-ghost use Rattle.mgn_wire.specs.StatementText.{account_line, cash_line, charges_text, class_text, commodity_text, figures_line, hold_text, lot_text, mark_text, mode_text, name_text, option_line, own_lines, statement_text, unit_lines};
+ghost use Rattle.mgn_wire.specs.Fields.{field, number_text};
+ghost use Rattle.mgn_wire.specs.StatementText.{account_line, cash_line, charges_text, class_text, commodity_text, figures_line, hold_text, line_count, lot_text, mark_text, mode_text, name_text, option_line, own_lines, statement_text, unit_lines};
 
 use crate::fault::Memory;
 use crate::reply::{print, print_field, print_figures, print_number};
@@ -225,6 +224,14 @@ pub(crate) fn print_statement(statement: &Statement, out: &mut Vec<u8>) -> Resul
     print_account(statement.heading(), out)?;
     print_unit(statement, out)?;
     print_own(statement, out)
+}
+
+/// How many lines a statement has.
+pub fn line_count(statement: &Statement) -> u64
+    ensures { result ≡ line_count statement.now }
+{
+    let lists = statement.commodities().len() + statement.lots().len() + statement.holds().len();
+    4 + (lists + statement.classes().len()) as u64
 }
 
 /// Appends the lines of a statement, each with its line feed. On `Memory` the buffer is as it was.
