@@ -1,13 +1,11 @@
-ghost use Rattle.std.specs.Prelude.{◌≡◌, ◌+◌, ◌<◌, ◌≤◌, ◌++◌, ◌∷◌, [], length, List, true};
+ghost use Rattle.std.specs.Prelude.{◌≡◌, ◌+◌, ◌<◌, ◌≤◌, length, IfOk, List};
 ghost use Rattle.mgn_params.specs.Shelves.{set_at};
 ghost use Rattle.mgn_params.specs.Tables.{Tables};
 ghost use Rattle.mgn_machine.specs.Refusals.{place_of};
-ghost use Rattle.mgn_machine.specs.declared.request.Recorded.TheVariants.{Asked};
 ghost use Rattle.mgn_machine.specs.declared.request.Request.TheVariants.{Do, Switch};
-ghost use Rattle.mgn_machine.specs.History.{calls, entry};
+ghost use Rattle.mgn_machine.specs.History.{calls};
 ghost use Rattle.mgn_book.specs.BookStates.{statement_found};
 ghost use Rattle.mgn_book.specs.BookViews.{Committed, Shelves, Stands, opening};
-ghost use Rattle.mgn_book.specs.declared.book.Outcome.TheVariants.{Done};
 
 use crate::fault::Fault;
 use crate::history::History;
