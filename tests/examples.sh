@@ -6,7 +6,8 @@ program=${1:-$here/../crates/spand/out/spand}
 work=$(mktemp -d) || exit 1
 trap 'rm -rf "$work"' EXIT
 
-# A session is a line `= SET title` and then lines `COMMAND -> REPLY`; `#` starts a comment.
+# A session is a line `= SET title` and then lines `COMMAND -> REPLY`, with the further lines of a reply after it as
+# `| LINE`; `#` starts a comment.
 awk -v work="$work" '
     /^#/ || /^$/ { next }
     /^= / {
@@ -18,6 +19,7 @@ awk -v work="$work" '
         printf "" > (file ".want")
         next
     }
+    /^\| / { print substr($0, 3) > (file ".want"); next }
     {
         cut = index($0, " -> ")
         print substr($0, 1, cut - 1) > (file ".in")

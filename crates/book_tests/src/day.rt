@@ -4,10 +4,10 @@ use mgn_book::{Book, Outcome};
 use mgn_ids::{
     AccountName, ContractName, IdFault, LotId, LotQuantity, OriginName, Premium, SessionNo,
 };
-use mgn_machine::{Command, Figures, Mode, Refusal, Reply, Trade};
-use mgn_num::Cents;
+use mgn_machine::{Answer, Command, Mode, Trade};
 use mgn_params::SetList;
 use mgn_setfile::read_set;
+use mgn_wire::{LineReply, reply_text, statement_text};
 use std::alloc::Global;
 use std::marker::Model;
 use std::test::Fail;
@@ -39,14 +39,26 @@ impl Shelved {
         Ok(Shelved { alloc, shelf, book })
     }
 
-    fn answer(&mut self, session: SessionNo, command: &Command) -> Option<(u64, Reply)> {
+    // Writes what a command is answered; whether it was done or refused.
+    fn answer(&mut self, session: SessionNo, command: &Command, out: &mut Vec<u8>) -> bool {
         let number = self.book.calls(session) + 1;
         let outcome = self
             .book
             .commit_plain(self.alloc, session, number, command, &self.shelf);
         match outcome {
-            Outcome::Done(place, reply) => Some((place, reply)),
-            Outcome::Full | Outcome::Memory => None,
+            Outcome::Done(place, reply) => {
+                let place = Some(place);
+                reply_text(&LineReply::Answered(Answer { place, reply }), out).is_ok()
+            }
+            Outcome::Full | Outcome::Memory => false,
+        }
+    }
+
+    // Writes an account's statement, if there is such an account.
+    fn state(&self, account: &AccountName, out: &mut Vec<u8>) -> bool {
+        match self.book.statement(self.alloc, &self.shelf, account) {
+            Ok(Some(told)) => statement_text(&told, out).is_ok(),
+            Ok(None) | Err(_) => false,
         }
     }
 
@@ -81,31 +93,31 @@ fn commands() -> Result<[Command; 5], IdFault> {
     ])
 }
 
-fn replies() -> [Reply; 5] {
-    let figures = Figures {
-        requirement: Cents::new(600),
-        exposure_requirement: Cents::new(600),
-        value: Cents::ZERO,
-        exposure_value: Cents::ZERO,
-        room: Cents::new(-600),
-    };
-    let twice = Reply::Refused(Refusal::Duplicate);
-    [
-        Reply::Done,
-        Reply::Done,
-        Reply::Done,
-        twice,
-        Reply::Figures(figures),
-    ]
-}
+const REPLIES: [&str; 5] = [
+    "OK 1\n",
+    "OK 2\n",
+    "OK 3\n",
+    "ERR 4 22 DUP\n",
+    "OK 5 600 600 0 0 -600\n",
+];
+
+// Two long contracts at a loss of 300 each, and nothing posted.
+const STATEMENT: &str = "S A1 CUST GROSS FUT 0\n\
+    F 600 600 0 0 -600 600\n\
+    G AAA 600 13 0 0 0 0 600\n\
+    N 0\n\
+    L 1 AAA1 2 0 T\n\
+    C CASH 0\n";
 
 #[test]
 fn a_day_of_two_sessions(rt: HostRuntime) -> Result<(), Fail> {
     let commands = commands()?;
     let mut desk = Shelved::new(rt.alloc())?;
-    for (i, (command, reply)) in commands.iter().zip(replies().iter()).enumerate() {
+    for (i, (command, text)) in commands.iter().zip(REPLIES.iter()).enumerate() {
         let session = SessionNo::new(if i < 2 { 1 } else { 16 });
-        assert_eq!(rt; desk.answer(session, command), Some((i as u64 + 1, *reply)));
+        let mut out = Vec::new(rt.alloc());
+        assert!(rt; desk.answer(session, command, &mut out));
+        assert!(rt; out.as_slice() == text.as_bytes(), "for {text}");
     }
     assert_eq!(rt;
         (
@@ -115,5 +127,10 @@ fn a_day_of_two_sessions(rt: HostRuntime) -> Result<(), Fail> {
         (2, 3)
     );
     assert_eq!(rt; (desk.calls(SessionNo::new(2)), desk.len()), (0, 5));
+    let mut told = Vec::new(rt.alloc());
+    assert!(rt; desk.state(&AccountName::read(b"A1")?, &mut told));
+    assert!(rt; told.as_slice() == STATEMENT.as_bytes());
+    assert!(rt; !desk.state(&AccountName::read(b"A2")?, &mut told));
+    assert_eq!(rt; desk.len(), 5);
     Ok(())
 }

@@ -12,7 +12,8 @@ use std::alloc::Global;
 use std::io::{Read, Write};
 use std::marker::Model;
 
-// No reply is longer: five numbers of at most 38 bytes and a place of at most 20, with what stands between them.
+// No first line of a reply is longer: five numbers of at most 38 bytes and a place of at most 20, with what stands between
+// them. A statement finds memory for its further lines when it is written.
 const LONGEST_REPLY: usize = 224;
 
 /// A reader of lines and the writer of their replies. It is asked for more only once every line read has its reply, and

@@ -26,13 +26,13 @@ impl Listed {
         }
     }
 
-    fn keep(&mut self, place: u64, command: &Command, reply: &Reply) -> bool
-        ensures { self.new.items.items ≡ self.old.items.items ++ (if result then item place (Asked command.now) reply.now ∷ [] else []) }
+    fn keep(&mut self, place: u64, command: &Command, reply: Reply) -> bool
+        ensures { self.new.items.items ≡ self.old.items.items ++ (if result then item place (Asked command.now) reply ∷ [] else []) }
     {
         let item = Item {
             place,
             request: Recorded::Asked(*command),
-            reply: *reply,
+            reply,
         };
         self.items.push(item).is_ok()
     }
@@ -54,12 +54,14 @@ impl Exec for Listed {
             _ => Reply::Done,
         };
         let place = (self.items.len() as u64).saturating_add(1);
-        let answer = Answer {
-            place: Some(place),
-            reply,
+        let Ok(kept) = reply.copy() else {
+            return Answer::refused(Refusal::Memory);
         };
-        if self.keep(place, &command, &answer.reply) {
-            answer
+        if self.keep(place, &command, kept) {
+            Answer {
+                place: Some(place),
+                reply,
+            }
         } else {
             Answer::refused(Refusal::Memory)
         }
