@@ -74,6 +74,10 @@ run empty help
 wants 'help as a command' 0 some ''
 run empty script --help
 wants 'help of a command' 0 some ''
+run empty check --help
+wants 'help of the other command' 0 some ''
+run empty check --dir .
+wants 'no set to check' 2 '' some
 
 # The set.
 run script script --dir . --set TWO
@@ -102,6 +106,61 @@ wants 'as long as a set may be' 0 '' ''
 { cat MOST.csv; echo; } > LONG.csv
 run empty script --dir . --set LONG
 wants 'a byte longer than a set may be' 3 '' "spand: set NOSET$line"
+
+# What a set has, and why a file is none.
+run empty check --dir . --set FUT
+wants 'a set is checked' 0 "set FUT${line}commodities 1${line}months 1${line}contracts 1${line}intracommodity spreads 0${line}intercommodity spreads 0${line}collateral classes 0${line}spot month charges 0$line" ''
+cat > ALL.csv <<'END'
+H,2,NEXT
+G,AAA,25
+G,BBB,0
+M,AAA,1,1
+M,AAA,2,2
+M,BBB,1,1
+K,AAA1,AAA,1,F,F,10000,0,0,0,-100,-100,100,100,-200,-200,200,200,-300,-300,300,300,-210,210
+K,AAA2,AAA,2,F,F,10000,0,0,0,-90,-90,90,90,-180,-180,180,180,-270,-270,270,270,-189,189
+K,AAAC,AAA,1,C,P,5000,60,-10,12,-70,-50,40,50,-140,-120,52,58,-220,-205,57,60,-160,20
+K,BBB1,BBB,1,F,F,10000,0,0,0,-50,-50,50,50,-100,-100,100,100,-150,-150,150,150,-105,105
+S,AAA,1,10000,2,10000,40
+S,AAA,2,10000,1,10000,50
+I,5000,AAA,A,10000,BBB,B,20000
+V,BILL,9950,300
+V,NOTE,9900,500
+T,AAA,1,30,50
+END
+run empty check --dir=. --set=ALL
+wants 'rows of each kind' 0 "set NEXT${line}commodities 2${line}months 3${line}contracts 4${line}intracommodity spreads 2${line}intercommodity spreads 1${line}collateral classes 2${line}spot month charges 1$line" ''
+
+# bad RECORD CAUSE EDIT: the set, edited so, is told as wrong at this record, for this cause.
+bad() {
+    sed "$3" ALL.csv > WRONG.csv
+    run empty check --dir . --set WRONG
+    wants "record $1: $2" 3 '' "spand: record $1: $2$line"
+}
+bad 1 'the first record, and no other, must be a header: H, version 1 or 2, and a name' '1s/2/3/'
+bad 16 'it is of no kind of this version, has a wrong number of fields, is two records in one line, or lacks a side of its spread' '1s/2/1/'
+bad 7 'a field is not spelled as a name, or is none of the letters of its place' '7s/AAA1/aaa1/'
+bad 2 'a field is not spelled as a number' '2s/25/2.5/'
+bad 7 'a name has more than 16 bytes, a number is outside its limits, a future has style P, or a contract of style F has a value' '7s/10000/100001/'
+bad 7 'no earlier record gives its commodity, or that month of its commodity' '7s/AAA,1/AAA,3/'
+bad 8 'an earlier record gives the same, a commodity stands twice in its spread, or its class is CASH' '8s/AAA2/AAA1/'
+{ cat ALL.csv; for number in 1 2 3 4 5 6 7 8 9 10 11 12 13 14 15; do echo "V,N$number,1,1"; done; } > FULL.csv
+run empty check --dir . --set FULL
+wants 'a class too many' 3 '' "spand: record 31: its table has as many rows as it may have$line"
+run empty check --dir . --set NONE
+wants 'no record to check' 3 '' "spand: record 1: the first record, and no other, must be a header: H, version 1 or 2, and a name$line"
+run empty check --dir . --set TWO
+wants 'no file to check' 3 '' "spand: set NOSET$line"
+run empty check --dir . --set DIR
+wants 'a folder to check' 3 '' "spand: set NOSET$line"
+run empty check --dir . --set LONG
+wants 'a file too long to check' 3 '' "spand: set NOSET$line"
+run empty check --dir . --set ''
+wants 'a name to check that is none' 3 '' "spand: set NOSET$line"
+: > out
+"$program" check --dir . --set FUT >&- 2> err
+status=$?
+wants 'an output of a check that is closed' 4 '' "spand: check WRITE$line"
 
 # The session.
 figures='OK 1

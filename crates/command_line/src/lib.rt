@@ -10,16 +10,26 @@ use std::rt::Env;
 /// The version of the program, and the toolchain that it is proved and built with.
 const VERSION: &str = "0.2.0 (rattle-kit-13b logic dac8208d650f15bf)";
 
-/// A script: lines on standard input, answered on standard output.
+/// The file of a parameter set, DIR/NAME.csv.
 #[derive(Drop)]
-pub struct Script {
+pub struct SetFile {
     /// The folder of the sets.
     pub dir: String,
     /// The name of the set, as it was given.
     pub set: String,
 }
 
-fn command<'a>(alloc: Global) -> Result<Command<'a>, AllocError> {
+/// What the command line asks for.
+#[derive(Drop)]
+pub enum Request {
+    /// `script`: lines on standard input are answered on standard output, under a set.
+    Script(SetFile),
+    /// `check`: what a set has is told, or why its file is none.
+    Check(SetFile),
+}
+
+// A command over the file of a set.
+fn over_a_set<'a>(alloc: Global, name: &'a str, about: &'a str) -> Result<Command<'a>, AllocError> {
     let dir = Arg::new(alloc, "dir")
         .long("dir")
         .value_name("DIR")
@@ -30,15 +40,26 @@ fn command<'a>(alloc: Global) -> Result<Command<'a>, AllocError> {
         .value_name("NAME")
         .help("The parameter set, the file DIR/NAME.csv")
         .required(true);
-    let script = Command::new(alloc, "script")
-        .about("Answers the commands on standard input, a line each, on standard output")
-        .arg(dir)?
-        .arg(set)?;
+    Command::new(alloc, name).about(about).arg(dir)?.arg(set)
+}
+
+fn command<'a>(alloc: Global) -> Result<Command<'a>, AllocError> {
+    let script = over_a_set(
+        alloc,
+        "script",
+        "Answers the commands on standard input, a line each, on standard output",
+    )?;
+    let check = over_a_set(
+        alloc,
+        "check",
+        "Tells what a parameter set has, or why its file is none",
+    )?;
     Command::new(alloc, "spand")
         .about("Margin and order credit for clearing members")
         .version(VERSION)
         .subcommand_required(true)
-        .subcommand(script)
+        .subcommand(script)?
+        .subcommand(check)
 }
 
 // An error of the command line, with its text.
@@ -51,15 +72,21 @@ fn text_of(alloc: Global, matches: &ArgMatches<'_>, id: &str) -> Result<String, 
     String::from_str(alloc, matches.get_str(id).unwrap_or(""))
 }
 
-fn script_of(alloc: Global, words: &[String]) -> Result<Script, Error> {
+fn request_of(alloc: Global, words: &[String]) -> Result<Request, Error> {
     let mut command = command(alloc)?;
     let matches = command.try_get_matches_from_mut(words)?;
-    let Some((_, found)) = matches.subcommand() else {
+    let Some((name, found)) = matches.subcommand() else {
         return Err(error_of(alloc, ErrorKind::MissingSubcommand, "no command is given")?);
     };
-    let dir = text_of(alloc, found, "dir")?;
-    let set = text_of(alloc, found, "set")?;
-    Ok(Script { dir, set })
+    let file = SetFile {
+        dir: text_of(alloc, found, "dir")?,
+        set: text_of(alloc, found, "set")?,
+    };
+    if name == "check" {
+        Ok(Request::Check(file))
+    } else {
+        Ok(Request::Script(file))
+    }
 }
 
 // The words of the command line. Words that are no text are a wrong command line.
@@ -73,7 +100,7 @@ fn words<R: Env + AllocGlobal>(rt: &R) -> Result<Vec<String>, Error> {
 
 /// What the command line asks for. An error of kind `OutOfMemory` says that memory could not be had; any other is told
 /// to the caller of the program.
-pub fn read<R: Env + AllocGlobal>(rt: &R) -> Result<Script, Error> {
+pub fn read<R: Env + AllocGlobal>(rt: &R) -> Result<Request, Error> {
     let words = words(rt)?;
-    script_of(rt.alloc(), words.as_slice())
+    request_of(rt.alloc(), words.as_slice())
 }

@@ -11,3 +11,5 @@ mod rows;
 mod shelf;
 #[cfg(test)]
 mod texts;
+#[cfg(test)]
+mod told;

@@ -1,4 +1,5 @@
 use mgn_session::SessionFault;
+use mgn_setfile::SetFault;
 use std::alloc::AllocError;
 use thiserror::Error;
 
@@ -11,12 +12,18 @@ pub enum Fault {
     /// The set's file is missing, cannot be read, or is too long, or its name is none.
     #[error("set NOSET")]
     NoSet,
-    /// The record of this number, the first that is wrong, is no record of a set.
-    #[error("set BADSET {0}")]
-    BadSet(u64),
+    /// A record is no record of a set; its number is told.
+    #[error("set BADSET {}", .0.line)]
+    BadSet(SetFault),
+    /// The same, and the cause is told in words.
+    #[error("{0}")]
+    BadRecord(SetFault),
     /// The session ended before the end of its input.
     #[error("session {}", name_of(.0))]
     Session(SessionFault),
+    /// What a set has could not be written.
+    #[error("check WRITE")]
+    Output,
     /// Memory could not be had.
     #[error("memory")]
     Memory,
@@ -42,8 +49,8 @@ impl Fault {
         let _ = eprintln!(rt; "spand: {self}");
         match self {
             Fault::Usage(_) => 2,
-            Fault::NoSet | Fault::BadSet(_) => 3,
-            Fault::Session(_) => 4,
+            Fault::NoSet | Fault::BadSet(_) | Fault::BadRecord(_) => 3,
+            Fault::Session(_) | Fault::Output => 4,
             Fault::Memory => 6,
         }
     }

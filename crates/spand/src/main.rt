@@ -1,16 +1,19 @@
 //! The program `spand`: margin and order credit of clearing members, by lines of commands on standard input.
 #![tactic(auto)]
 
+mod check;
 mod fault;
 mod script;
 mod set;
 
+use command_line::Request;
 use fault::Fault;
 use std::process::ExitCode;
 
 fn main(rt: HostRuntime) -> ExitCode {
     let ended = match command_line::read(&rt) {
-        Ok(script) => script::run(&rt, &script),
+        Ok(Request::Script(file)) => script::run(&rt, &file),
+        Ok(Request::Check(file)) => check::run(&rt, &file),
         Err(error) => Err(Fault::from(error)),
     };
     match ended {

@@ -77,7 +77,7 @@ pub fn read<S: SetSource>(alloc: Global, folder: &mut S, name: &str) -> Result<P
         Ok(set) => Ok(set),
         Err(fault) => match fault.cause {
             Cause::Memory => Err(Fault::Memory),
-            _ => Err(Fault::BadSet(fault.line)),
+            _ => Err(Fault::BadSet(fault)),
         },
     }
 }

@@ -1,0 +1,43 @@
+use crate::fault::Fault;
+use crate::set;
+use crate::set::Folder;
+use command_line::SetFile;
+use mgn_params::ParamSet;
+use std::io::ErrorKind;
+use std::rt::Files;
+use std::{io, str};
+
+/// Tells on standard output what a set has. Where its file is no set, the fault tells the first faulty record and why.
+pub fn run<R: Files + Print + AllocGlobal>(rt: &R, file: &SetFile) -> Result<(), Fault> {
+    let mut folder = Folder::new(rt, file.dir.as_str());
+    match set::read(rt.alloc(), &mut folder, file.set.as_str()) {
+        Ok(set) => tell(rt, &set).map_err(|error| fault_of(&error)),
+        Err(Fault::BadSet(fault)) => Err(Fault::BadRecord(fault)),
+        Err(fault) => Err(fault),
+    }
+}
+
+fn fault_of(error: &io::Error) -> Fault {
+    match error.kind() {
+        ErrorKind::OutOfMemory => Fault::Memory,
+        _ => Fault::Output,
+    }
+}
+
+fn tell<R: Print>(rt: &R, set: &ParamSet) -> io::Result<()> {
+    let name = set.name();
+    println!(rt; "set {}", str::from_utf8(name.as_bytes()).unwrap_or(""))?;
+    let tables = [
+        ("commodities", set.commodity_count()),
+        ("months", set.month_count()),
+        ("contracts", set.contract_count()),
+        ("intracommodity spreads", set.spreads().len()),
+        ("intercommodity spreads", set.credits().len()),
+        ("collateral classes", set.class_count()),
+        ("spot month charges", set.spots().len()),
+    ];
+    for (rows, count) in tables {
+        println!(rt; "{rows} {count}")?;
+    }
+    Ok(())
+}
