@@ -22,7 +22,7 @@ use Rattle.mgn_machine.proofs.Names.{unit_size}
 use Rattle.mgn_unit.specs.declared.row.Priced.{Priced}
 use Rattle.mgn_unit.specs.declared.row.Row.{Row}
 use Rattle.mgn_unit.specs.Changes.{Moves, moved_change}
-use Rattle.mgn_unit.specs.Rows.{IsChange, IsRoomy, IsRow, Prices, lacks_room, no_row, row_of, row_with, row_with_size}
+use Rattle.mgn_unit.specs.Rows.{IsChange, IsRoomy, Prices, lacks_room, no_row, row_of, row_with, row_with_size}
 use Rattle.mgn_unit.proofs.AccountMoves.{lot-limits}
 use Rattle.mgn_unit.proofs.Moved.{Stands, row-moved, row-apart}
 use Rattle.mgn_unit.proofs.TransferMoves.{moved-moves, row-within}

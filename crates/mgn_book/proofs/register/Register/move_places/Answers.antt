@@ -1,8 +1,7 @@
 use Rattle.std.proofs.Common.{◌≡◌, ◌<◌, ◌^◌, length, ap, ◌∙◌, sym, rules, false}
-use Rattle.std.specs.Prelude.{ℤ, pos, ◌==◌, ◌+ℤ◌, if◌then◌else◌, int_lt, unsigned_abs}
+use Rattle.std.specs.Prelude.{pos, ◌==◌, ◌+ℤ◌, if◌then◌else◌, int_lt, unsigned_abs}
 use Rattle.std.proofs.lemmas.List.{get_or_default}
-use Rattle.mgn_machine.specs.State.{AccountState, account_at, no_account}
-use Rattle.mgn_machine.specs.Portfolios.{account_size, unit_sum}
+use Rattle.mgn_machine.specs.State.{account_at, no_account}
 use Rattle.mgn_machine.specs.Transfers.{quantity_in_unit}
 use Rattle.mgn_book.specs.BookStates.{BookState}
 use Rattle.mgn_book.proofs.register.Register.move_places.Goals as goal
