@@ -17,8 +17,8 @@ from collections import namedtuple
 
 import source
 
-# What the session's contract may stand on: what it did when lines could ask for new sets and for totals. The aim is 800 without what a set's
-# file says, which is read apart.
+# What the session's contract may stand on: what it did when every command of a session was there, statements too. The aim
+# is 800 without what a set's file says, which is read apart.
 MOST = 1660
 APART = ("mgn_setfile",)
 HEAD = re.compile(r"(?:(?:pub|abbrev|unfoldable|opaque|data|record)\s+)+([^\s:({]+)")
