@@ -1,0 +1,87 @@
+#!/usr/bin/env python3
+"""Times what questions and new sets cost in `spand script`: each is the time of a session with them, less that of the same
+session without, by their number.
+
+Usage: bench/questions.py [PROGRAM]; the program that `rt run` or `rt ci` leaves by default. Sessions run in turn, five times
+from a file to a file, and of each the fastest run counts.
+"""
+import pathlib
+import random
+import subprocess
+import sys
+import tempfile
+import time
+
+HERE = pathlib.Path(__file__).resolve().parent
+ACCOUNTS = 1024
+COMMODITIES = 40
+MONTHS = 50
+LOTS = 10_000
+MOVES = [0, 0, -1, -1, 1, 1, -2, -2, 2, 2, -3, -3, 3, 3, -2.1, 2.1]
+
+
+def set_file():
+    """2,000 futures: 40 commodities of 50 months, spreads between near and far months, and one between two commodities."""
+    records = ["H,1,BENCH"]
+    records += [f"G,C{g},0" for g in range(COMMODITIES)]
+    records += [f"M,C{g},{m + 1},{1 if m < 10 else 2}" for g in range(COMMODITIES) for m in range(MONTHS)]
+    for i in range(COMMODITIES * MONTHS):
+        array = ",".join(str(int(move * (2100 - i))) for move in MOVES)
+        records.append(f"K,F{i},C{i // MONTHS},{i % MONTHS + 1},F,F,10000,0,{array}")
+    records += [f"S,C{g},1,10000,2,10000,40" for g in range(COMMODITIES)]
+    records.append("I,5000,C0,A,10000,C1,B,20000")
+    return "\n".join(records) + "\n"
+
+
+def opened():
+    """1,024 customers with two lots each."""
+    pick = random.Random(1)
+    lines = ["ORIGIN CUST GROSS"]
+    for a in range(ACCOUNTS):
+        lines.append(f"OPEN A{a} CUST")
+        for lot in (1, 2):
+            lines.append(f"TRADE A{a} {lot} F{pick.randrange(COMMODITIES * MONTHS)} {pick.choice([-1, 1]) * lot} 0")
+    return lines
+
+
+def entered():
+    """One account with 10,000 lots."""
+    pick = random.Random(2)
+    lines = ["ORIGIN HOUSE NET", "OPEN H1 HOUSE"]
+    return lines + [f"TRADE H1 {lot + 1} F{pick.randrange(40)} {pick.choice([-1, 1])} 0" for lot in range(LOTS)]
+
+
+def seconds(command, work, lines):
+    (work / "input").write_text("\n".join(lines) + "\n")
+    with open(work / "input", "rb") as given, open(work / "output", "wb") as taken:
+        begin = time.perf_counter()
+        subprocess.run(command, stdin=given, stdout=taken, check=True)
+        return time.perf_counter() - begin
+
+
+def main():
+    program = pathlib.Path(sys.argv[1] if len(sys.argv) > 1 else HERE.parent / "crates/spand/out/spand").resolve()
+    none, customers, house = ["ORIGIN CUST GROSS"], opened(), entered()
+    sessions = {
+        "read the file of a set": (none, "SWITCH BENCH", 16),
+        "SWITCH of 1,024 units": (customers, "SWITCH BENCH", 16),
+        "ASK": (customers, "ASK A7", 20_000),
+        "TOTAL of 1,024 accounts": (customers, "TOTAL CUST", 20_000),
+        "STMT of two lots": (customers, "STMT A7", 2_000),
+        "STMT of 10,000 lots": (house, "STMT H1", 100),
+    }
+    with tempfile.TemporaryDirectory() as folder:
+        work = pathlib.Path(folder)
+        (work / "BENCH.csv").write_text(set_file())
+        command = [str(program), "script", "--dir", str(work), "--set", "BENCH"]
+        runs = {name: [] for name in sessions}
+        for _ in range(5):
+            for name, (lines, line, count) in sessions.items():
+                without = seconds(command, work, lines)
+                runs[name].append((seconds(command, work, lines + [line] * count) - without) / count)
+    for name, each in runs.items():
+        print(f"{name:24} {min(each) * 1e6:12,.1f} microseconds")
+
+
+if __name__ == "__main__":
+    main()
