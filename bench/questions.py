@@ -65,9 +65,9 @@ def main():
     sessions = {
         "read the file of a set": (none, "SWITCH BENCH", 16),
         "SWITCH of 1,024 units": (customers, "SWITCH BENCH", 16),
-        "ASK": (customers, "ASK A7", 20_000),
-        "TOTAL of 1,024 accounts": (customers, "TOTAL CUST", 20_000),
-        "STMT of two lots": (customers, "STMT A7", 2_000),
+        "ASK": (customers, "ASK A7", 400_000),
+        "TOTAL of 1,024 accounts": (customers, "TOTAL CUST", 100_000),
+        "STMT of two lots": (customers, "STMT A7", 20_000),
         "STMT of 10,000 lots": (house, "STMT H1", 100),
     }
     with tempfile.TemporaryDirectory() as folder:
