@@ -43,7 +43,6 @@ pub struct Book {
 }
 
 impl Model for Book {
-    ghost use Rattle.mgn_book.specs.BookStates.{statement_found};
     ghost use Rattle.mgn_book.specs.BookViews.{BookView, IsBook};
 
     ghost Value = { BookView };

@@ -22,6 +22,7 @@ use Rattle.mgn_machine.specs.Portfolios.{OnlyLots, nets_of}
 use Rattle.mgn_machine.specs.Room.{figures_of}
 use Rattle.mgn_machine.specs.Totals.{shortfall}
 
+-- the parts of a statement: what it tells once, and its lists
 pub record Told : Type 0 where
   pub heading : Heading
   pub commodities : List CommodityLine
