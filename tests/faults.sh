@@ -131,24 +131,63 @@ END
 run empty check --dir=. --set=ALL
 wants 'rows of each kind' 0 "set NEXT${line}commodities 2${line}months 3${line}contracts 4${line}intracommodity spreads 2${line}intercommodity spreads 1${line}collateral classes 2${line}spot month charges 1$line" ''
 
-# bad RECORD CAUSE EDIT: the set, edited so, is told as wrong at this record, for this cause.
+# bad TOLD EDIT: the set, edited so, is told as this.
 bad() {
-    sed "$3" ALL.csv > WRONG.csv
+    sed "$2" ALL.csv > WRONG.csv
     run empty check --dir . --set WRONG
-    wants "record $1: $2" 3 '' "spand: record $1: $2$line"
+    wants "$1" 3 '' "spand: record $1$line"
 }
-bad 1 'the first record, and no other, must be a header: H, version 1 or 2, and a name' '1s/2/3/'
-bad 16 'it is of no kind of this version, has a wrong number of fields, is two records in one line, or lacks a side of its spread' '1s/2/1/'
-bad 7 'a field is not spelled as a name, or is none of the letters of its place' '7s/AAA1/aaa1/'
-bad 2 'a field is not spelled as a number' '2s/25/2.5/'
-bad 7 'a name has more than 16 bytes, a number is outside its limits, a future has style P, or a contract of style F has a value' '7s/10000/100001/'
-bad 7 'no earlier record gives its commodity, or that month of its commodity' '7s/AAA,1/AAA,3/'
-bad 8 'an earlier record gives the same, a commodity stands twice in its spread, or its class is CASH' '8s/AAA2/AAA1/'
+count='it has a wrong number of fields, is two records in one line, or lacks a side of its spread'
+limits='the number is outside its limits'
+spelled='a name must be 1 to 16 of the letters A to Z and digits'
+kind='this version has no record of this kind'
+header='the first record, and no other, must be a header: H, version 1 or 2, and a name'
+bad '1, field 2 (version): the version must be 1 or 2' '1s/2/3/'
+bad "1, field 3 (name): $spelled" '1s/NEXT/next/'
+bad "1: $header" '1s/,NEXT//'
+bad "1: $header" 1d
+bad "5: $header" '5s/.*/H,2,NEXT/'
+bad "16, field 1 (kind of record): $kind" '1s/2/1/'
+bad "2, field 1 (kind of record): $kind" '2s/G/g/'
+bad '2, field 3 (charge): it is not spelled as a number' '2s/25/2.5/'
+bad '3, field 2 (commodity): an earlier record gives this name' '3s/BBB/AAA/'
+bad "4, field 2 (commodity): $spelled" '4s/AAA,1,1/AA A,1,9/'
+bad '4, field 2 (commodity): no earlier record gives this commodity' '4s/AAA/CCC/'
+bad "4, field 4 (tier): $limits" '4s/AAA,1,1/CCC,1,9/'
+bad '5, field 3 (month): an earlier record gives this month of its commodity' '5s/AAA,2/AAA,1/'
+bad "7, field 2 (contract): $spelled" '7s/AAA1/aaa1/'
+bad '7, field 2 (contract): the name has more than 16 bytes' '7s/AAA1/AAAAAAAAAAAAAAAAA/'
+bad '7, field 4 (month): no earlier record gives this month of its commodity' '7s/AAA,1/AAA,3/'
+bad '7, field 5 (kind): it must be F, C or P' '7s/F,F/G,G/'
+bad '7, field 6 (style): it must be P or F' '7s/F,F/F,G/'
+bad '7, field 6 (style): the style of a future must be F' '7s/F,F/F,P/'
+bad "7, field 7 (delta): $limits" '7s/10000/100001/'
+bad '7, field 8 (value): the number is outside its limits, or is not 0 though the style is F' '7s/10000,0/10000,1/'
+bad '7, field 9 (loss in scenario 1): it is not spelled as a number' '7s/10000,0,0/10000,0,00/'
+bad "7, field 24 (loss in scenario 16): $limits" '7s/210$/100000001/'
+bad "7: $count" '7s/$/,0/'
+bad '8, field 2 (contract): an earlier record gives this name' '8s/AAA2/AAA1/'
+bad "11, field 3 (first tier): $limits" '11s/1,10000,2,10000/0,0,0,0/'
+bad "11, field 6 (second ratio): $limits" '11s/2,10000/2,0/'
+bad "12, field 7 (charge): it is not spelled as a number" '12s/50$//'
+bad '12, field 2 (commodity): no earlier record gives this commodity' '12s/AAA/AAB/'
+bad "13, field 2 (rate): $limits" '13s/5000/10001/'
+bad '13, field 4 (side of leg 1): it must be A or B' '13s/A,10000/C,10000/'
+bad "13, field 8 (ratio of leg 2): $limits" '13s/20000/0/'
+bad '13, field 6 (commodity of leg 2): no earlier record gives this commodity' '13s/BBB/CCC/'
+bad '13, field 6 (commodity of leg 2): an earlier leg is of this commodity' '13s/BBB/AAA/'
+bad "13: $count" '13s/B,20000/A,20000/'
+bad "14, field 4 (haircut): $limits" '14s/300/10001/'
+bad '14, field 2 (class): an earlier record gives this class, or it is CASH, which every set has' '14s/BILL/CASH/'
+bad '15, field 2 (class): an earlier record gives this class, or it is CASH, which every set has' '15s/NOTE/BILL/'
+bad "16, field 5 (outright rate): $limits" '16s/50$/1000000001/'
+bad '17, field 2 (commodity): an earlier record gives the charge of this commodity' '$p'
+bad '7, line 9, field 7 (delta): the number is outside its limits' '3s/^/\n\n/;7s/10000/100001/'
 { cat ALL.csv; for number in 1 2 3 4 5 6 7 8 9 10 11 12 13 14 15; do echo "V,N$number,1,1"; done; } > FULL.csv
 run empty check --dir . --set FULL
 wants 'a class too many' 3 '' "spand: record 31: its table has as many rows as it may have$line"
 run empty check --dir . --set NONE
-wants 'no record to check' 3 '' "spand: record 1: the first record, and no other, must be a header: H, version 1 or 2, and a name$line"
+wants 'no record to check' 3 '' "spand: record 1: $header$line"
 run empty check --dir . --set TWO
 wants 'no file to check' 3 '' "spand: set NOSET$line"
 run empty check --dir . --set DIR

@@ -3,32 +3,32 @@ use Rattle.std.proofs.Common.{◌≡◌, ℕ, Bool, true, false, List, [], ◌�
 use Rattle.std.specs.Prelude.{◌==◌, codes, if◌then◌else◌}
 use Rattle.std.specs.Str.{bytes_eq}
 use Rattle.mgn_laws.specs.Growth.{AddsRow, class, commodity, contract, credit_spread, month, spot, spread}
-use Rattle.mgn_setfile.specs.declared.fault.Cause.{Cause}
 use Rattle.mgn_setfile.specs.declared.fault.Cause.TheVariants.{Fields as WrongFields, Header}
-use Rattle.mgn_setfile.specs.Fields.{◌>>=◌, Fields}
+use Rattle.mgn_setfile.specs.declared.place.Field.TheVariants as field
+use Rattle.mgn_setfile.specs.Fields.{◌>>=◌, Fault, Fields, at, whole}
 use Rattle.mgn_setfile.specs.File.{SoFar, drafted, judged, later_of, with_class, with_commodity, with_contract, with_credit_spread, with_month, with_other, with_record, with_spot, with_spot_of, with_spread}
 use Rattle.mgn_setfile.specs.Records.{class_of, commodity_of, contract_of, credit_of, month_of, spot_charge_of_record, spread_of}
 use Rattle.mgn_params.specs.Tables.{Tables}
 
 -- what a row that was read gives
-row_of : {A B : Type 0} (r : Result A Cause) (f : A → B) (y : B) → (r >>= λ x. Ok (f x)) ≡ Ok y → (x : A) × (y ≡ f x)
+row_of : {A B : Type 0} (r : Result A Fault) (f : A → B) (y : B) → (r >>= λ x. Ok (f x)) ≡ Ok y → (x : A) × (y ≡ f x)
 row_of (Ok x) f y e = (x, cc)
 row_of (Err c) f y e = cc
 
 -- whichever way it came
-chosen : {B G : Type 0} (b : Bool) (r s : Result B Cause) (y : B) → (r ≡ Ok y → G) → (s ≡ Ok y → G) → (if b then r else s) ≡ Ok y → G
+chosen : {B G : Type 0} (b : Bool) (r s : Result B Fault) (y : B) → (r ≡ Ok y → G) → (s ≡ Ok y → G) → (if b then r else s) ≡ Ok y → G
 chosen true r s y p q e = p e
 chosen false r s y p q e = q e
 
-no_way : {B : Type 0} (c : Cause) (y : B) {G : Type 0} → Err c ≡ Ok y → G
+no_way : {B : Type 0} (c : Fault) (y : B) {G : Type 0} → Err c ≡ Ok y → G
 no_way c y e = cc
 
 spot_row : (version : ℕ) (t after : Tables) (fields : Fields) → with_spot_of version t fields ≡ Ok after → AddsRow t after
 unfolding with_spot_of with_spot
 spot_row version t after fields =
-    chosen (version == 2) (with_spot t fields) (Err WrongFields) after
+    chosen (version == 2) (with_spot t fields) (Err (at field.Kind WrongFields)) after
     (λ p. let row = row_of (spot_charge_of_record t fields) (λ x. record t { spots = t.spots ++ x ∷ [] }) after p in spot row.0 row.1)
-    (no_way WrongFields after)
+    (no_way (at field.Kind WrongFields) after)
 
 other_row : (version : ℕ) (t after : Tables) (kind : List ℕ) (fields : Fields) → with_other version t kind fields ≡ Ok after → AddsRow t after
 unfolding with_other with_credit_spread with_class
@@ -39,7 +39,7 @@ other_row version t after kind fields =
     (λ p. let row = row_of (class_of t fields) (λ x. record t { classes = t.classes ++ x ∷ [] }) after p in class row.0 row.1)
     (chosen (bytes_eq kind (codes "T")) (with_spot_of version t fields) _ after
     (spot_row version t after fields)
-    (chosen (bytes_eq kind (codes "H")) (Err Header) (Err WrongFields) after (no_way Header after) (no_way WrongFields after))))
+    (chosen (bytes_eq kind (codes "H")) (Err (whole Header)) (Err (at field.Kind WrongFields)) after (no_way (whole Header) after) (no_way (at field.Kind WrongFields) after))))
 
 record_row : (version : ℕ) (t after : Tables) (kind : List ℕ) (fields : Fields) → with_record version t kind fields ≡ Ok after → AddsRow t after
 unfolding with_record with_commodity with_month with_contract with_spread
@@ -56,10 +56,10 @@ record_row version t after kind fields =
 
 later_row : (version : ℕ) (t after : Tables) (fields : Fields) → later_of version t fields ≡ Ok after → AddsRow t after
 unfolding later_of
-later_row version t after [] e = no_way WrongFields after e
+later_row version t after [] e = no_way (whole WrongFields) after e
 later_row version t after (kind ∷ fields) e = record_row version t after kind fields e
 
-drafted_set : (version : ℕ) (r : Result Tables Cause) (after : SoFar) → drafted version r ≡ Ok after → r ≡ Ok after.set
+drafted_set : (version : ℕ) (r : Result Tables Fault) (after : SoFar) → drafted version r ≡ Ok after → r ≡ Ok after.set
 drafted_set version (Ok t) after e = cc
 drafted_set version (Err c) after e = cc
 

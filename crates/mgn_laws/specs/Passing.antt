@@ -2,8 +2,8 @@
 use Rattle.std.specs.Prelude.{◌≡◌, ◌⊎◌, ℕ, ◌+◌, ◌<◌, List, length, slice_index_or, take, Option, None, IsOk, Err}
 use Rattle.std.specs.List.{fold}
 use Rattle.std.specs.Result.{result_ok}
-use Rattle.mgn_setfile.specs.declared.fault.Cause.{Cause}
 use Rattle.mgn_setfile.specs.declared.fault.Cause.TheVariants.{Header}
+use Rattle.mgn_setfile.specs.Fields.{Fault, whole}
 use Rattle.mgn_setfile.specs.File.{Record, SoFar, judged}
 
 -- the record at a place, from 0
@@ -26,13 +26,13 @@ pub record IsAccepted (records : List Record) : Type 0 where
   pub some : 0 < length records
   pub each : (k : ℕ) → k < length records → Passes records k
 
--- the record at a place is the first that does not pass, with its first cause
-pub record IsRefusedAt (records : List Record) (k : ℕ) (cause : Cause) : Type 0 where
+-- the record at a place is the first that does not pass, with its first fault
+pub record IsRefusedAt (records : List Record) (k : ℕ) (fault : Fault) : Type 0 where
   pub there : k < length records
   pub earlier : (j : ℕ) → j < k → Passes records j
-  pub refused : judged (given_by (take k records)) (record_at records k) ≡ Err cause
+  pub refused : judged (given_by (take k records)) (record_at records k) ≡ Err fault
 
--- the number of that record, from 1, with its cause; or there is no record
-abbrev pub IsFault : List Record → ℕ → Cause → Type 0
-IsFault records number cause =
-    ((length records ≡ 0) × (number ≡ 1) × (cause ≡ Header)) ⊎ ((k : ℕ) × (number ≡ k + 1) × IsRefusedAt records k cause)
+-- the number of that record, from 1, with its fault; or there is no record
+abbrev pub IsFault : List Record → ℕ → Fault → Type 0
+IsFault records number fault =
+    ((length records ≡ 0) × (number ≡ 1) × (fault ≡ whole Header)) ⊎ ((k : ℕ) × (number ≡ k + 1) × IsRefusedAt records k fault)

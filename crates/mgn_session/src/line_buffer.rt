@@ -29,7 +29,7 @@ fn switch<E: Exec>(alloc: Global, exec: &mut E, file: &[u8]) -> LineReply
         Ok(set) => LineReply::Answered(exec.exec(Request::Switch(set))),
         Err(fault) => match fault.cause {
             Cause::Memory => LineReply::Answered(Answer::refused(Refusal::Memory)),
-            _ => LineReply::BadSet(fault.line),
+            _ => LineReply::BadSet(fault.number),
         },
     }
 }

@@ -1,14 +1,16 @@
 -- From line to line of a file: what the records that are left give.
-use Rattle.std.proofs.Common.{◌≡◌, ◌+◌, ◌<◌, ◌≤◌, ℕ, List, [], ◌∷◌, ◌++◌, length, Option, Some, None, Result, Ok, Err, refl, ap, ◌∙◌, arith, Bor, inl, inr}
-use Rattle.std.specs.Prelude.{◌==◌, ◌⊎◌, IfSome}
+use Rattle.std.proofs.Common.{◌≡◌, ◌+◌, ◌<◌, ◌≤◌, ℕ, List, [], ◌∷◌, ◌++◌, length, map, drop, get_or, zero, suc, Option, Some, None, Result, Ok, Err, refl, ap, sym, ◌∙◌, arith, Bor, inl, inr}
+use Rattle.std.specs.Prelude.{◌-◌, ◌==◌, ◌⊎◌, IfErr, IfNone, IfSome, slice_index_or}
 use Rattle.std.specs.List.{flat_map, slice_split}
+use Rattle.std.proofs.lemmas.List.{get_or-drop}
 use Rattle.mgn_setfile.specs.declared.draft.Draft.{Draft}
-use Rattle.mgn_setfile.specs.declared.fault.Cause.{Cause}
 use Rattle.mgn_setfile.specs.declared.fault.Cause.TheVariants.{Fields as WrongFields, Memory as NoMemory}
 use Rattle.mgn_setfile.specs.declared.fault.LineFault.{LineFault}
 use Rattle.mgn_setfile.specs.declared.fault.LineFault.TheVariants.{Memory, Second}
-use Rattle.mgn_setfile.specs.Fields.{Fields}
-use Rattle.mgn_setfile.specs.File.{Record, goes_on, judged, record_of, record_of_line, records_of, told}
+use Rattle.mgn_setfile.specs.declared.fault.SetFault.{SetFault}
+use Rattle.mgn_params.specs.Tables.{Tables}
+use Rattle.mgn_setfile.specs.Fields.{Fault, Fields, whole}
+use Rattle.mgn_setfile.specs.File.{Record, goes_on, judged, later_of, line_of_record, numbered, record_of, record_of_line, records_of, told}
 use Rattle.mgn_setfile.specs.Lines.{Fails, line_cause, line_records, lines_left, single}
 
 -- the records of what is left of a file
@@ -52,28 +54,99 @@ pub takes : (line left : List ℕ) (more : Option (List ℕ)) (count : ℕ) (bef
 unfolding record_of_line
 takes line left more count before f draft e s j =
     let r : records_of left ≡ Some f ∷ records_left more = rw (next line left more e, one_record (line_records line) f s) refl in
-    ap (λ (rs : List Record). told rs count before) r ∙ ap (λ (d : Result Draft Cause). goes_on d (λ k. told (records_left more) (count + 1) (Some k)) (count + 1)) j
+    ap (λ (rs : List Record). told rs count before) r ∙ ap (λ (d : Result Draft Fault). goes_on d (λ k. told (records_left more) (count + 1) (Some k)) (count + 1)) j
 
 -- a record that does not
-pub stops : (line left : List ℕ) (more : Option (List ℕ)) (count : ℕ) (before : Option Draft) (f : Fields) (cause : Cause) → slice_split (λ b. b == 10) left ≡ line ∷ lines_left more → single (line_records line) ≡ Ok (Some f) → judged before (Some f) ≡ Err cause
-    → told (records_of left) count before ≡ Err (count + 1, cause)
+pub stops : (line left : List ℕ) (more : Option (List ℕ)) (count : ℕ) (before : Option Draft) (f : Fields) (fault : Fault) → slice_split (λ b. b == 10) left ≡ line ∷ lines_left more → single (line_records line) ≡ Ok (Some f) → judged before (Some f) ≡ Err fault
+    → told (records_of left) count before ≡ Err (count + 1, fault)
 unfolding record_of_line
-stops line left more count before f cause e s j =
+stops line left more count before f fault e s j =
     let r : records_of left ≡ Some f ∷ records_left more = rw (next line left more e, one_record (line_records line) f s) refl in
-    ap (λ (rs : List Record). told rs count before) r ∙ ap (λ (d : Result Draft Cause). goes_on d (λ k. told (records_left more) (count + 1) (Some k)) (count + 1)) j
+    ap (λ (rs : List Record). told rs count before) r ∙ ap (λ (d : Result Draft Fault). goes_on d (λ k. told (records_left more) (count + 1) (Some k)) (count + 1)) j
 
 -- a line with a second record
 pub stops_twice : (line left : List ℕ) (more : Option (List ℕ)) (count : ℕ) (before : Option Draft) → slice_split (λ b. b == 10) left ≡ line ∷ lines_left more → single (line_records line) ≡ Err Second
-    → told (records_of left) count before ≡ Err (count + 1, WrongFields)
+    → told (records_of left) count before ≡ Err (count + 1, whole WrongFields)
 unfolding record_of_line judged
 stops_twice line left more count before e s =
     let r : records_of left ≡ None ∷ records_left more = rw (next line left more e, two_records (line_records line) s) refl in
     ap (λ (rs : List Record). told rs count before) r
 
 pub stops_at : (line left : List ℕ) (more : Option (List ℕ)) (count : ℕ) (before : Option Draft) (fault : LineFault) → slice_split (λ b. b == 10) left ≡ line ∷ lines_left more → Fails fault (single (line_records line))
-    → (line_cause fault ≡ NoMemory) ⊎ (told (records_of left) count before ≡ Err (count + 1, line_cause fault))
+    → (line_cause fault ≡ NoMemory) ⊎ (told (records_of left) count before ≡ Err (count + 1, whole (line_cause fault)))
 stops_at line left more count before Memory e s = inl refl
 stops_at line left more count before Second e s = inr (stops_twice line left more count before e s)
+
+-- a record after the first that does not pass
+pub judged_err : (before : Option Draft) (draft : Draft) (words fields : Fields) (fault : Fault) → before ≡ Some draft → words ≡ fields → later_of draft.version draft.set words ≡ Err fault → judged before (Some fields) ≡ Err fault
+unfolding judged
+judged_err before draft words fields fault is same e = rw (is, ← same, e) refl
+
+-- From line to line: the numbers of the lines that have the records that are left.
+
+abbrev pub numbers_left : ℕ → Option (List ℕ) → List ℕ
+numbers_left before None = []
+numbers_left before (Some rest) = numbered before (slice_split (λ b. b == 10) rest)
+
+numbers_rest : (before : ℕ) (more : Option (List ℕ)) → numbered before (lines_left more) ≡ numbers_left before more
+numbers_rest before None = refl
+numbers_rest before (Some rest) = refl
+
+numbers_next : (before : ℕ) (line left : List ℕ) (more : Option (List ℕ)) → slice_split (λ b. b == 10) left ≡ line ∷ lines_left more
+    → numbered before (slice_split (λ b. b == 10) left) ≡ map (λ _. before + 1) (record_of_line line) ++ numbers_left (before + 1) more
+numbers_next before line left more e = rw (e, ← numbers_rest (before + 1) more) refl
+
+-- a line without a record
+pub passes_over : (before : ℕ) (line left : List ℕ) (more : Option (List ℕ)) → slice_split (λ b. b == 10) left ≡ line ∷ lines_left more → single (line_records line) ≡ Ok None
+    → numbers_left before (Some left) ≡ numbers_left (before + 1) more
+unfolding record_of_line
+passes_over before line left more e s = rw (numbers_next before line left more e, no_record (line_records line) s) refl
+
+-- a line with one, or with more
+pub has_one : (before : ℕ) (line left : List ℕ) (more : Option (List ℕ)) (f : Fields) → slice_split (λ b. b == 10) left ≡ line ∷ lines_left more → single (line_records line) ≡ Ok (Some f)
+    → numbers_left before (Some left) ≡ (before + 1) ∷ numbers_left (before + 1) more
+unfolding record_of_line
+has_one before line left more f e s = rw (numbers_next before line left more e, one_record (line_records line) f s) refl
+
+has_two : (before : ℕ) (line left : List ℕ) (more : Option (List ℕ)) → slice_split (λ b. b == 10) left ≡ line ∷ lines_left more → single (line_records line) ≡ Err Second
+    → numbers_left before (Some left) ≡ (before + 1) ∷ numbers_left (before + 1) more
+unfolding record_of_line
+has_two before line left more e s = rw (numbers_next before line left more e, two_records (line_records line) s) refl
+
+-- the number that comes next in a list, and those after it
+next_is : (numbers rest : List ℕ) (k n : ℕ) → drop k numbers ≡ n ∷ rest → slice_index_or numbers k 1 ≡ n
+next_is numbers rest k n e =
+    let place : k + 0 ≡ k = omega arith in
+    rw place at (sym (get_or-drop k numbers 0 1)) ∙ ap (λ (ns : List ℕ). get_or ns 0 1) e
+
+pub after_next : (k : ℕ) (numbers rest : List ℕ) (n : ℕ) → drop k numbers ≡ n ∷ rest → drop (k + 1) numbers ≡ rest
+after_next zero numbers rest n e = ap (drop 1) e
+after_next (suc k) [] rest n e = cc
+after_next (suc k) (m ∷ numbers) rest n e =
+    let more : suc k + 1 ≡ suc (k + 1) = omega arith in
+    rw more (after_next k numbers rest n e)
+
+pub line_is : (file rest : List ℕ) (count line : ℕ) → drop count (numbered 0 (slice_split (λ b. b == 10) file)) ≡ line ∷ rest → line ≡ line_of_record file (count + 1)
+line_is file rest count line e =
+    let place : count + 1 - 1 ≡ count = omega arith in
+    rw place (sym (next_is (numbered 0 (slice_split (λ b. b == 10) file)) rest count line e))
+
+pub line_of_fault : (file line left : List ℕ) (more : Option (List ℕ)) (count before : ℕ) (fault : LineFault)
+    → drop count (numbered 0 (slice_split (λ b. b == 10) file)) ≡ numbers_left before (Some left)
+    → slice_split (λ b. b == 10) left ≡ line ∷ lines_left more → Fails fault (single (line_records line))
+    → (line_cause fault ≡ NoMemory) ⊎ (before + 1 ≡ line_of_record file (count + 1))
+line_of_fault file line left more count before Memory i e s = inl refl
+line_of_fault file line left more count before Second i e s = inr (line_is file (numbers_left (before + 1) more) count (before + 1) (i ∙ has_two before line left more e s))
+
+no_line : (file : List ℕ) (count : ℕ) → count ≡ 0 → drop count (numbered 0 (slice_split (λ b. b == 10) file)) ≡ [] → 1 ≡ line_of_record file 1
+no_line file count none e = sym (ap (λ (ns : List ℕ). slice_index_or ns 0 1) (rw none at e))
+
+-- a file without a record
+pub line_of_none : (r : Result Tables SetFault) (draft : Option Draft) (file : List ℕ) (count : ℕ) → IfErr r (λ e. (draft ≡ None) × (e.number ≡ 1) × (e.line ≡ 1)) → IfNone draft (count ≡ 0)
+    → drop count (numbered 0 (slice_split (λ b. b == 10) file)) ≡ [] → IfErr r (λ e. (e.cause ≡ NoMemory) ⊎ (e.line ≡ line_of_record file e.number))
+line_of_none (Ok set') draft file count h z e = tt
+line_of_none (Err fault) None file count h z e = inr (rw (h.1, h.2) (no_line file count z e))
+line_of_none (Err fault) (Some draft) file count h z e = let never = h.0 in cc
 
 -- no line is left
 pub no_more : (count : ℕ) (draft : Option Draft) → told [] count draft ≡ told [] 0 draft

@@ -1,47 +1,60 @@
 -- Reading the legs of a spread between commodities one after another.
-use Rattle.std.proofs.Common.{◌≡◌, ℕ, ◌⊎◌, ◌+◌, ◌-◌, ◌<◌, ◌≤◌, List, [], ◌∷◌, ◌++◌, Some, None, length, take, drop, set, get_or, replicate, Result, Ok, Err, All, Bool, true, false, refl, ap, ◌∙◌, arith, add-one, length-append, inr}
-use Rattle.std.specs.Prelude.{◌||◌, ◌==◌, IfOk, IfErr}
+use Rattle.std.proofs.Common.{◌≡◌, ℕ, ◌⊎◌, ◌+◌, ◌-◌, ◌<◌, ◌≤◌, List, [], ◌∷◌, ◌++◌, Some, None, length, take, drop, set, get_or, replicate, Result, Ok, Err, All, Bool, true, false, refl, ap, ◌∙◌, arith, add-one, length-append, inr, map, Bor}
+use Rattle.std.specs.Prelude.{◌||◌, ◌==◌, if◌then◌else◌, IfOk, IfErr, Option}
 use Rattle.std.specs.List.{IsDistinct, AllByRecursion, list_any}
 use Rattle.std.proofs.Math.ListN.{take-append-drop}
 use Rattle.std.proofs.Math.Seq.{drop-cons, take-append_seam}
-use Rattle.std.proofs.lemmas.List.{append-nil, drop_all, length-replicate, length-take-le, take_more_set}
+use Rattle.std.proofs.lemmas.Bool.Decides.{nat_tests}
+use Rattle.std.proofs.lemmas.List.{append-nil, drop_all, length-replicate, length-take-le, take_all, take_more, take_more_set}
 use Rattle.std.proofs.lemmas.List.Elements.{All-from_recursion, recursion_from_All}
-use Rattle.mgn_setfile.specs.declared.fault.Cause.{Cause}
 use Rattle.mgn_setfile.specs.declared.fault.Cause.TheVariants.{Memory, Unknown}
+use Rattle.mgn_setfile.specs.declared.place.Field.TheVariants as field
 use Rattle.mgn_params.specs.declared.tables.Leg.{Leg}
-use Rattle.mgn_setfile.specs.Fields.{◌>>=◌, Fields, field_number}
+use Rattle.mgn_setfile.specs.Fields.{◌>>=◌, Fault, Fields, at, field_number, in_field}
 use Rattle.mgn_params.specs.Limits.{IsLeg, IsSidedSpread}
-use Rattle.mgn_setfile.specs.Records.{FoundLeg, IsFoundLeg, credit_from, credit_row, has_side_a, has_side_b, has_twice, kept_legs, known_legs, leg_from, legs_from, padded}
+use Rattle.mgn_setfile.specs.Records.{FoundLeg, IsFoundLeg, credit_from, credit_row, has_side_a, has_side_b, kept_legs, known_legs, commodity_field, leg_from, legs_from, padded, repeat_place}
 use Rattle.mgn_params.specs.Tables.{Tables, is_side_a, is_side_b, no_leg}
 use Rattle.mgn_setfile.proofs.RecordLemmas.{fronted, fronted-more}
 
 -- three words that are a leg, and three that are none
-pub legs_more : (t : Tables) (front : List FoundLeg) (a b c : List ℕ) (more : Fields) (leg : FoundLeg) → leg_from t a b c ≡ Ok leg → fronted front (legs_from t (a ∷ b ∷ c ∷ more)) ≡ fronted (front ++ leg ∷ []) (legs_from t more)
-legs_more t front a b c more leg e = rw e (fronted-more front leg (legs_from t more))
+pub legs_more : (t : Tables) (n : ℕ) (front : List FoundLeg) (a b c : List ℕ) (more : Fields) (leg : FoundLeg) → leg_from t n a b c ≡ Ok leg → fronted front (legs_from t n (a ∷ b ∷ c ∷ more)) ≡ fronted (front ++ leg ∷ []) (legs_from t (n + 1) more)
+legs_more t n front a b c more leg e = rw e (fronted-more front leg (legs_from t (n + 1) more))
 
-pub legs_fail : (t : Tables) (front : List FoundLeg) (a b c : List ℕ) (more : Fields) (cause : Cause) → leg_from t a b c ≡ Err cause → fronted front (legs_from t (a ∷ b ∷ c ∷ more)) ≡ Err cause
-legs_fail t front a b c more cause e = rw e refl
+pub legs_step : (t : Tables) (n k : ℕ) (front : List FoundLeg) (rest : List (Bor (List ℕ))) (d : Bor (List ℕ)) (leg : FoundLeg) → 3 ≤ length rest → k ≡ length rest - 3
+    → leg_from t n (get_or rest 0 d).now (get_or rest 1 d).now (get_or rest 2 d).now ≡ Ok leg
+    → fronted front (legs_from t n (map (λ s. s.now) rest)) ≡ fronted (front ++ leg ∷ []) (legs_from t (n + 1) (map (λ s. s.now) (take k (drop 3 rest))))
+legs_step t n k front [] d leg h len e = absurd (omega arith)
+legs_step t n k front (a ∷ []) d leg h len e = absurd (omega arith)
+legs_step t n k front (a ∷ b ∷ []) d leg h len e = absurd (omega arith)
+legs_step t n k front (a ∷ b ∷ c ∷ more) d leg h len e =
+    let all : take k more ≡ more = take_all k more (omega arith) in
+    rw all (legs_more t n front a.now b.now c.now (map (λ (s : Bor (List ℕ)). s.now) more) leg e)
 
-pub legs_end : (t : Tables) (front : List FoundLeg) (rest : Fields) → length rest < 3 → fronted front (legs_from t rest) ≡ Ok front
-legs_end t front [] h = ap Ok (append-nil front)
-legs_end t front (a ∷ []) h = ap Ok (append-nil front)
-legs_end t front (a ∷ b ∷ []) h = ap Ok (append-nil front)
-legs_end t front (a ∷ b ∷ c ∷ more) h = absurd (omega arith)
+pub legs_fail : (t : Tables) (n : ℕ) (front : List FoundLeg) (a b c : List ℕ) (more : Fields) (fault : Fault) → leg_from t n a b c ≡ Err fault → fronted front (legs_from t n (a ∷ b ∷ c ∷ more)) ≡ Err fault
+legs_fail t n front a b c more fault e = rw e refl
+
+pub legs_end : (t : Tables) (n : ℕ) (front : List FoundLeg) (rest : Fields) → length rest < 3 → fronted front (legs_from t n rest) ≡ Ok front
+legs_end t n front [] h = ap Ok (append-nil front)
+legs_end t n front (a ∷ []) h = ap Ok (append-nil front)
+legs_end t n front (a ∷ b ∷ []) h = ap Ok (append-nil front)
+legs_end t n front (a ∷ b ∷ c ∷ more) h = absurd (omega arith)
 
 -- a leg of a known commodity, and one of an unknown one
-pub known_more : (legs : List FoundLeg) (i g : ℕ) (leg d : FoundLeg) (row : List Leg) → i < length legs → i < length row → get_or legs i d ≡ leg → leg.0 ≡ Some g → fronted (take i row) (known_legs (drop i legs)) ≡ fronted (take (i + 1) (set row i (record { commodity = g; side = leg.1; ratio = leg.2 }))) (known_legs (drop (i + 1) legs))
+pub known_more : (legs : List FoundLeg) (i g : ℕ) (leg d : FoundLeg) (row : List Leg) → i < length legs → i < length row → get_or legs i d ≡ leg → leg.0 ≡ Some g → fronted (take i row) (known_legs i (drop i legs)) ≡ fronted (take (i + 1) (set row i (record { commodity = g; side = leg.1; ratio = leg.2 }))) (known_legs (i + 1) (drop (i + 1) legs))
+unfolding in_field
 known_more legs i g leg d row h k is e =
     let here : drop i legs ≡ leg ∷ drop (i + 1) legs = rw (add-one, ← is) (drop-cons legs i d h) in
-    rw (here, e, take_more_set row i (record { commodity = g; side = leg.1; ratio = leg.2 }) k) (fronted-more (take i row) (record { commodity = g; side = leg.1; ratio = leg.2 }) (known_legs (drop (i + 1) legs)))
+    rw (here, e, take_more_set row i (record { commodity = g; side = leg.1; ratio = leg.2 }) k) (fronted-more (take i row) (record { commodity = g; side = leg.1; ratio = leg.2 }) (known_legs (i + 1) (drop (i + 1) legs)))
 
-pub known_fail : (legs : List FoundLeg) (i : ℕ) (leg d : FoundLeg) (row : List Leg) → i < length legs → get_or legs i d ≡ leg → leg.0 ≡ None → fronted (take i row) (known_legs (drop i legs)) ≡ Err Unknown
+pub known_fail : (legs : List FoundLeg) (i : ℕ) (leg d : FoundLeg) (row : List Leg) → i < length legs → get_or legs i d ≡ leg → leg.0 ≡ None → fronted (take i row) (known_legs i (drop i legs)) ≡ Err (at (commodity_field i) Unknown)
+unfolding in_field
 known_fail legs i leg d row h is e =
     let here : drop i legs ≡ leg ∷ drop (i + 1) legs = rw (add-one, ← is) (drop-cons legs i d h) in
     rw (here, e) refl
 
-pub known_end : (legs : List FoundLeg) (row : List Leg) (i : ℕ) → length legs ≤ i → i ≤ 4 → length row ≡ 4 → drop i row ≡ replicate (4 - i) no_leg → known_legs legs ≡ fronted (take i row) (known_legs (drop i legs)) → Ok row ≡ kept_legs legs
+pub known_end : (legs : List FoundLeg) (row : List Leg) (i : ℕ) → length legs ≤ i → i ≤ 4 → length row ≡ 4 → drop i row ≡ replicate (4 - i) no_leg → known_legs 0 legs ≡ fronted (take i row) (known_legs i (drop i legs)) → Ok row ≡ kept_legs legs
 known_end legs row i h few all rest e =
-    let known : known_legs legs ≡ Ok (take i row) = e ∙ rw (drop_all i legs h, append-nil (take i row)) refl in
+    let known : known_legs 0 legs ≡ Ok (take i row) = e ∙ rw (drop_all i legs h, append-nil (take i row)) refl in
     let len : length (take i row) ≡ i = length-take-le i row (omega (arith, all)) in
     rw (known, len, ← rest, take-append-drop i row) refl
 
@@ -50,102 +63,146 @@ or_false : (a b : Bool) → (a || b) ≡ false → (a ≡ false) × (b ≡ false
 or_false true b e = cc
 or_false false b e = (refl, e)
 
-others_differ : (g : ℕ) (gs : List ℕ) → list_any (λ h. g == h) gs ≡ false → AllByRecursion (λ h. (g == h) ≡ false) gs
-others_differ g [] e = tt
-others_differ g (h ∷ gs) e = let parts = or_false (g == h) (list_any (λ k. g == k) gs) e in (parts.0, others_differ g gs parts.1)
+some_place : (b : Bool) (n : ℕ) (p : Option ℕ) → (if b then Some n else p) ≡ None → (b ≡ false) × (p ≡ None)
+some_place true n p e = cc
+some_place false n p e = (refl, e)
 
-pub all_differ : (gs : List ℕ) → has_twice gs ≡ false → IsDistinct (λ g h. g == h) gs
+any_append : (h : ℕ) (gs : List ℕ) (g : ℕ) → list_any (λ x. h == x) (gs ++ g ∷ []) ≡ false → (list_any (λ x. h == x) gs ≡ false) × ((h == g) ≡ false)
+any_append h [] g e = (refl, (or_false (h == g) false e).0)
+any_append h (x ∷ gs) g e =
+    let parts = or_false (h == x) (list_any (λ y. h == y) (gs ++ g ∷ [])) e in
+    let rest = any_append h gs g parts.1 in
+    (rw (parts.0, rest.0) refl, rest.1)
+
+differ_sym : (g h : ℕ) → (h == g) ≡ false → (g == h) ≡ false
+differ_sym g h e = grind (arith, nat_tests)
+
+fewer_before : (before : List ℕ) (g : ℕ) (gs : List ℕ) → AllByRecursion (λ h. list_any (λ x. h == x) (before ++ g ∷ []) ≡ false) gs → AllByRecursion (λ h. list_any (λ x. h == x) before ≡ false) gs
+fewer_before before g [] all = tt
+fewer_before before g (h ∷ gs) all = ((any_append h before g all.0).0, fewer_before before g gs all.1)
+
+-- none of those after it came before
+none_before : (before : List ℕ) (gs : List ℕ) → repeat_place before gs ≡ None → AllByRecursion (λ h. list_any (λ x. h == x) before ≡ false) gs
+none_before before [] e = tt
+none_before before (g ∷ gs) e =
+    let here = some_place (list_any (λ h. g == h) before) (length before) (repeat_place (before ++ g ∷ []) gs) e in
+    (here.0, fewer_before before g gs (none_before (before ++ g ∷ []) gs here.1))
+
+last_before : (before : List ℕ) (g : ℕ) (gs : List ℕ) → AllByRecursion (λ h. list_any (λ x. h == x) (before ++ g ∷ []) ≡ false) gs → AllByRecursion (λ h. (g == h) ≡ false) gs
+last_before before g [] all = tt
+last_before before g (h ∷ gs) all = (differ_sym g h (any_append h before g all.0).1, last_before before g gs all.1)
+
+pub all_differ : (before gs : List ℕ) → repeat_place before gs ≡ None → IsDistinct (λ g h. g == h) gs
 unfolding IsDistinct
-all_differ [] e = tt
-all_differ (g ∷ gs) e = let parts = or_false (list_any (λ h. g == h) gs) (has_twice gs) e in (others_differ g gs parts.0, all_differ gs parts.1)
+all_differ before [] e = tt
+all_differ before (g ∷ gs) e =
+    let here = some_place (list_any (λ h. g == h) before) (length before) (repeat_place (before ++ g ∷ []) gs) e in
+    (last_before before g gs (none_before (before ++ g ∷ []) gs here.1), all_differ (before ++ g ∷ []) gs here.1)
+
+-- looking for the first leg of a commodity that came before
+
+pub repeat_here : (gs : List ℕ) (i : ℕ) → i < length gs → list_any (λ h. get_or gs i 0 == h) (take i gs) ≡ true → repeat_place (take i gs) (drop i gs) ≡ Some i
+repeat_here gs i h e =
+    let here : drop i gs ≡ get_or gs i 0 ∷ drop (i + 1) gs = rw add-one (drop-cons gs i 0 h) in
+    let len : length (take i gs) ≡ i = length-take-le i gs (omega arith) in
+    rw (here, e, len) refl
+
+pub repeat_later : (gs : List ℕ) (i : ℕ) → i < length gs → list_any (λ h. get_or gs i 0 == h) (take i gs) ≡ false → repeat_place (take i gs) (drop i gs) ≡ repeat_place (take (i + 1) gs) (drop (i + 1) gs)
+repeat_later gs i h e =
+    let here : drop i gs ≡ get_or gs i 0 ∷ drop (i + 1) gs = rw add-one (drop-cons gs i 0 h) in
+    rw (here, e, take_more gs i 0 h) refl
+
+pub repeat_none : (gs : List ℕ) (i : ℕ) → length gs ≤ i → repeat_place (take i gs) (drop i gs) ≡ None
+repeat_none gs i h = rw (drop_all i gs h) refl
 
 -- what known legs are
 
-split_rest : (leg : Leg) (k : Result (List Leg) Cause) (legs : List Leg) → (k >>= λ rest. Ok (leg ∷ rest)) ≡ Ok legs → (rest : List Leg) × (k ≡ Ok rest) × (leg ∷ rest ≡ legs)
+split_rest : (leg : Leg) (k : Result (List Leg) Fault) (legs : List Leg) → (k >>= λ rest. Ok (leg ∷ rest)) ≡ Ok legs → (rest : List Leg) × (k ≡ Ok rest) × (leg ∷ rest ≡ legs)
 split_rest leg (Ok rest) legs e = (rest, refl, cc)
 split_rest leg (Err c) legs e = cc
 
-pub record IsSplit (leg : FoundLeg) (found : List FoundLeg) (legs : List Leg) (g : ℕ) (rest : List Leg) : Type 0 where
+pub record IsSplit (n : ℕ) (leg : FoundLeg) (found : List FoundLeg) (legs : List Leg) (g : ℕ) (rest : List Leg) : Type 0 where
   pub place : leg.0 ≡ Some g
-  pub rest_known : known_legs found ≡ Ok rest
+  pub rest_known : known_legs (n + 1) found ≡ Ok rest
   pub first : record { commodity = g; side = leg.1; ratio = leg.2 } ∷ rest ≡ legs
 
-known_split : (leg : FoundLeg) (found : List FoundLeg) (legs : List Leg) → known_legs (leg ∷ found) ≡ Ok legs → (g : ℕ) × (rest : List Leg) × IsSplit leg found legs g rest
-known_split (None, s, r) found legs e = cc
-known_split (Some g, s, r) found legs e =
-    let k = split_rest (record { commodity = g; side = s; ratio = r }) (known_legs found) legs e in
+known_split : (n : ℕ) (leg : FoundLeg) (found : List FoundLeg) (legs : List Leg) → known_legs n (leg ∷ found) ≡ Ok legs → (g : ℕ) × (rest : List Leg) × IsSplit n leg found legs g rest
+unfolding in_field
+known_split n (None, s, r) found legs e = cc
+known_split n (Some g, s, r) found legs e =
+    let k = split_rest (record { commodity = g; side = s; ratio = r }) (known_legs (n + 1) found) legs e in
     (g, k.0, record { place = refl; rest_known = k.1; first = k.2 })
 
-pub known_length : (found : List FoundLeg) (legs : List Leg) → known_legs found ≡ Ok legs → length legs ≡ length found
-known_length [] legs e = let none : [] ≡ legs = cc in rw (← none) refl
-known_length (leg ∷ found) legs e =
-    let k = known_split leg found legs e in
-    rw (← k.2.first) (omega (arith, known_length found k.1 k.2.rest_known))
+pub known_length : (n : ℕ) (found : List FoundLeg) (legs : List Leg) → known_legs n found ≡ Ok legs → length legs ≡ length found
+known_length n [] legs e = let none : [] ≡ legs = cc in rw (← none) refl
+known_length n (leg ∷ found) legs e =
+    let k = known_split n leg found legs e in
+    rw (← k.2.first) (omega (arith, known_length (n + 1) found k.1 k.2.rest_known))
 
-known_bounds : (n : ℕ) (found : List FoundLeg) (legs : List Leg) → known_legs found ≡ Ok legs → AllByRecursion (IsFoundLeg n) found → AllByRecursion (IsLeg n) legs
-known_bounds n [] legs e h = let none : [] ≡ legs = cc in rw (← none) tt
-known_bounds n (leg ∷ found) legs e h =
-    let k = known_split leg found legs e in
+known_bounds : (n most : ℕ) (found : List FoundLeg) (legs : List Leg) → known_legs n found ≡ Ok legs → AllByRecursion (IsFoundLeg most) found → AllByRecursion (IsLeg most) legs
+known_bounds n most [] legs e h = let none : [] ≡ legs = cc in rw (← none) tt
+known_bounds n most (leg ∷ found) legs e h =
+    let k = known_split n leg found legs e in
     let place = rw k.2.place at h.0.commodity in
-    rw (← k.2.first) (record { commodity = place; ratio = h.0.ratio; small_ratio = h.0.small_ratio }, known_bounds n found k.1 k.2.rest_known h.1)
+    rw (← k.2.first) (record { commodity = place; ratio = h.0.ratio; small_ratio = h.0.small_ratio }, known_bounds (n + 1) most found k.1 k.2.rest_known h.1)
 
-known_side_a : (found : List FoundLeg) (legs : List Leg) → known_legs found ≡ Ok legs → list_any (λ (leg : Leg). is_side_a leg.side) legs ≡ has_side_a found
-known_side_a [] legs e = let none : [] ≡ legs = cc in rw (← none) refl
-known_side_a (leg ∷ found) legs e =
-    let k = known_split leg found legs e in
-    rw (← k.2.first, known_side_a found k.1 k.2.rest_known) refl
+known_side_a : (n : ℕ) (found : List FoundLeg) (legs : List Leg) → known_legs n found ≡ Ok legs → list_any (λ (leg : Leg). is_side_a leg.side) legs ≡ has_side_a found
+known_side_a n [] legs e = let none : [] ≡ legs = cc in rw (← none) refl
+known_side_a n (leg ∷ found) legs e =
+    let k = known_split n leg found legs e in
+    rw (← k.2.first, known_side_a (n + 1) found k.1 k.2.rest_known) refl
 
-known_side_b : (found : List FoundLeg) (legs : List Leg) → known_legs found ≡ Ok legs → list_any (λ (leg : Leg). is_side_b leg.side) legs ≡ has_side_b found
-known_side_b [] legs e = let none : [] ≡ legs = cc in rw (← none) refl
-known_side_b (leg ∷ found) legs e =
-    let k = known_split leg found legs e in
-    rw (← k.2.first, known_side_b found k.1 k.2.rest_known) refl
+known_side_b : (n : ℕ) (found : List FoundLeg) (legs : List Leg) → known_legs n found ≡ Ok legs → list_any (λ (leg : Leg). is_side_b leg.side) legs ≡ has_side_b found
+known_side_b n [] legs e = let none : [] ≡ legs = cc in rw (← none) refl
+known_side_b n (leg ∷ found) legs e =
+    let k = known_split n leg found legs e in
+    rw (← k.2.first, known_side_b (n + 1) found k.1 k.2.rest_known) refl
 
-kept_split : (k : Result (List Leg) Cause) (row : List Leg) → (k >>= λ known. Ok (padded known)) ≡ Ok row → (legs : List Leg) × (k ≡ Ok legs) × (padded legs ≡ row)
+kept_split : (k : Result (List Leg) Fault) (row : List Leg) → (k >>= λ known. Ok (padded known)) ≡ Ok row → (legs : List Leg) × (k ≡ Ok legs) × (padded legs ≡ row)
 kept_split (Ok legs) row e = (legs, refl, cc)
 kept_split (Err c) row e = cc
 
 -- a spread of known legs on both sides
 
-sided_from : (n rate : ℕ) (found : List FoundLeg) (legs row : List Leg) → known_legs found ≡ Ok legs → padded legs ≡ row → All (IsFoundLeg n) found → has_side_a found ≡ true → has_side_b found ≡ true → 2 ≤ length found → length found ≤ 4 → rate ≤ 10000
+sided_from : (n rate : ℕ) (found : List FoundLeg) (legs row : List Leg) → known_legs 0 found ≡ Ok legs → padded legs ≡ row → All (IsFoundLeg n) found → has_side_a found ≡ true → has_side_b found ≡ true → 2 ≤ length found → length found ≤ 4 → rate ≤ 10000
     → IsSidedSpread n (record { rate = rate; count = length found; legs = row })
 sided_from n rate found legs row e pad bounds a b some few small =
-    let len = known_length found legs e in
+    let len = known_length 0 found legs e in
     let is : take (length found) row ≡ legs = rw (← pad, ← len) (take-append_seam legs (replicate (4 - length legs) no_leg)) in
-    let all = All-from_recursion (IsLeg n) legs (known_bounds n found legs e (recursion_from_All (IsFoundLeg n) found bounds)) in
+    let all = All-from_recursion (IsLeg n) legs (known_bounds 0 n found legs e (recursion_from_All (IsFoundLeg n) found bounds)) in
     record {
       rate = small;
       some = some;
       few = few;
       row = rw (← pad) (omega (arith, length-append legs (replicate (4 - length legs) no_leg), length-replicate (4 - length legs) no_leg, len));
       legs = rw is all;
-      side_a = rw is (known_side_a found legs e ∙ a);
-      side_b = rw is (known_side_b found legs e ∙ b);
+      side_a = rw is (known_side_a 0 found legs e ∙ a);
+      side_b = rw is (known_side_b 0 found legs e ∙ b);
     }
 
 pub sided_is : (n rate : ℕ) (found : List FoundLeg) (row : List Leg) → kept_legs found ≡ Ok row → All (IsFoundLeg n) found → has_side_a found ≡ true → has_side_b found ≡ true → 2 ≤ length found → length found ≤ 4 → rate ≤ 10000
     → IsSidedSpread n (record { rate = rate; count = length found; legs = row })
-sided_is n rate found row e = let k = kept_split (known_legs found) row e in sided_from n rate found k.0 row k.1 k.2
+sided_is n rate found row e = let k = kept_split (known_legs 0 found) row e in sided_from n rate found k.0 row k.1 k.2
 
 -- what a record of known legs on both sides adds
 
-credit_from_parts : (t : Tables) (r : ℕ) (word : List ℕ) (words : Fields) (found : List FoundLeg) (legs row : List Leg) → field_number 0 10000 word ≡ Ok r → legs_from t words ≡ Ok found → has_side_a found ≡ true → has_side_b found ≡ true → known_legs found ≡ Ok legs → padded legs ≡ row
+credit_from_parts : (t : Tables) (r : ℕ) (word : List ℕ) (words : Fields) (found : List FoundLeg) (legs row : List Leg) → in_field (field.CreditSpread 2) (field_number 0 10000 word) ≡ Ok r → legs_from t 0 words ≡ Ok found → has_side_a found ≡ true → has_side_b found ≡ true → known_legs 0 found ≡ Ok legs → padded legs ≡ row
     → credit_from t word words ≡ credit_row t (record { rate = r; count = length found; legs = row })
 unfolding credit_from
 credit_from_parts t r word words found legs row number all a b e pad =
-    rw (number, all, a, b, e) (rw (← pad, ← known_length found legs e) refl)
+    rw (number, all, a, b, e) (rw (← pad, ← known_length 0 found legs e) refl)
 
-pub credit_is : (t : Tables) (r : ℕ) (word : List ℕ) (words : Fields) (found : List FoundLeg) (row : List Leg) → field_number 0 10000 word ≡ Ok r → legs_from t words ≡ Ok found → has_side_a found ≡ true → has_side_b found ≡ true → kept_legs found ≡ Ok row
+pub credit_is : (t : Tables) (r : ℕ) (word : List ℕ) (words : Fields) (found : List FoundLeg) (row : List Leg) → in_field (field.CreditSpread 2) (field_number 0 10000 word) ≡ Ok r → legs_from t 0 words ≡ Ok found → has_side_a found ≡ true → has_side_b found ≡ true → kept_legs found ≡ Ok row
     → credit_from t word words ≡ credit_row t (record { rate = r; count = length found; legs = row })
 credit_is t r word words found row number all a b e =
-    let k = kept_split (known_legs found) row e in
+    let k = kept_split (known_legs 0 found) row e in
     credit_from_parts t r word words found k.0 row number all a b k.1 k.2
 
 -- an answer that is what a definition gives
-pub ok_along : {X : Type 0} (r want : Result X Cause) → want ≡ r → IfOk r (λ x. want ≡ Ok x)
+pub ok_along : {X : Type 0} (r want : Result X Fault) → want ≡ r → IfOk r (λ x. want ≡ Ok x)
 ok_along (Ok x) want e = e
 ok_along (Err c) want e = tt
 
-pub err_along : {X : Type 0} (r want : Result X Cause) → want ≡ r → IfErr r (λ c. (c ≡ Memory) ⊎ (want ≡ Err c))
+pub err_along : {X : Type 0} (r want : Result X Fault) → want ≡ r → IfErr r (λ c. (c.cause ≡ Memory) ⊎ (want ≡ Err c))
 err_along (Ok x) want e = tt
 err_along (Err c) want e = inr e

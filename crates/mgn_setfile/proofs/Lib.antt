@@ -3,3 +3,4 @@ pub mod RecordLemmas
 pub mod LineLemmas
 pub mod FileLemmas
 pub mod LegLemmas
+pub mod RowLemmas

@@ -9,6 +9,8 @@ use Rattle.mgn_num.specs.declared.reading.NumFault.{NumFault}
 use Rattle.mgn_num.specs.declared.reading.NumFault.TheVariants as num
 use Rattle.mgn_setfile.specs.declared.fault.Cause.{Cause}
 use Rattle.mgn_setfile.specs.declared.fault.Cause.TheVariants.{Name, Number, Range, Unknown, Double, Limit}
+use Rattle.mgn_setfile.specs.declared.fault.RecordFault.{RecordFault}
+use Rattle.mgn_setfile.specs.declared.place.Field.{Field}
 use Rattle.mgn_params.specs.declared.tables.Kind.{Kind}
 use Rattle.mgn_params.specs.declared.tables.Kind.TheVariants.{Future, Call, Put}
 use Rattle.mgn_params.specs.declared.tables.LegSide.{LegSide}
@@ -20,9 +22,24 @@ use Rattle.mgn_params.specs.declared.tables.Style.TheVariants.{Premium, Other}
 abbrev pub Fields : Type 0
 Fields = List (List ℕ)
 
--- one test after another: the first cause found is the record's
+-- What is wrong with a record: a cause, and the field that has it, where it is one field's alone.
+abbrev pub Fault : Type 0
+Fault = RecordFault
+
+abbrev pub at : Field → Cause → Fault
+at field cause = record { field = Some field; cause = cause }
+
+abbrev pub whole : Cause → Fault
+whole cause = record { field = None; cause = cause }
+
+-- what a field says, or its fault
+unfoldable pub in_field : {A : Type 0} → Field → Result A Cause → Result A Fault
+in_field field (Ok x) = Ok x
+in_field field (Err cause) = Err (at field cause)
+
+-- one test after another: the first fault found is the record's
 infixl 10 ◌>>=◌
-abbrev pub ◌>>=◌ : {A B : Type 0} → Result A Cause → (A → Result B Cause) → Result B Cause
+abbrev pub ◌>>=◌ : {A B : Type 0} → Result A Fault → (A → Result B Fault) → Result B Fault
 (Ok x) >>= f = f x
 (Err e) >>= f = Err e
 
@@ -73,11 +90,15 @@ value_of_style Other n = if n == 0 then Ok 0 else Err Range
 unfoldable pub field_side : List ℕ → Result LegSide Cause
 field_side word = if bytes_eq word (codes "A") then Ok A else (if bytes_eq word (codes "B") then Ok B else Err Name)
 
--- what earlier records give
-abbrev pub known : {A : Type 0} → Option A → Result A Cause
-known None = Err Unknown
-known (Some x) = Ok x
+-- what earlier records give by a field
+abbrev pub known : {A : Type 0} → Field → Option A → Result A Fault
+known field None = Err (at field Unknown)
+known field (Some x) = Ok x
 
--- a row that no earlier record gives, where its table has room
-abbrev pub fresh : {A : Type 0} → Bool → Bool → A → Result A Cause
-fresh double full row = if double then Err Double else (if full then Err Limit else Ok row)
+-- a row, where its table has room
+abbrev pub roomy : {A : Type 0} → Bool → A → Result A Fault
+roomy full row = if full then Err (whole Limit) else Ok row
+
+-- a row that no earlier record gives, by the field that names it, where its table has room
+abbrev pub fresh : {A : Type 0} → Field → Bool → Bool → A → Result A Fault
+fresh field double full row = if double then Err (at field Double) else roomy full row

@@ -3,3 +3,4 @@ pub mod Fields
 pub mod Records
 pub mod Lines
 pub mod File
+pub mod Inside

@@ -1,13 +1,14 @@
 //! The record of a spread between commodities, against the tables so far.
 
-ghost use Rattle.std.specs.Prelude.{◌≡◌, ◌⊎◌, ◌==◌, ◌+◌, ◌*◌, ◌<◌, ◌≤◌, ◌^◌, map, IfErr, IfOk, IfSome, Err, Ok, length, All};
+ghost use Rattle.std.specs.Prelude.{◌≡◌, ◌⊎◌, ◌==◌, ◌+◌, ◌*◌, ◌<◌, ◌≤◌, ◌^◌, map, IfErr, IfOk, IfSome, Err, Ok, length, All, []};
 ghost use Rattle.std.specs.List.{list_any};
 ghost use Rattle.mgn_params.specs.Limits.{IsNextCreditSpread, IsSidedSpread};
-ghost use Rattle.mgn_setfile.specs.Records.{IsFoundLeg, credit_from, credit_of, credit_row, has_side_a, has_side_b, has_twice, kept_legs, leg_from, legs_from};
+ghost use Rattle.mgn_setfile.specs.Records.{IsFoundLeg, commodity_field, credit_from, credit_of, credit_row, has_side_a, has_side_b, kept_legs, leg_from, legs_from, repeat_place};
 ghost use Rattle.mgn_params.specs.Tables.{is_side_a, is_side_b, legs_of};
 
-use crate::fault::Cause;
+use crate::fault::{Cause, RecordFault};
 use crate::fields::{read_commodity_name, read_number, read_side};
+use crate::place::Field;
 use mgn_params::{CreditSpread, Leg, LegSide, ParamSet};
 use std::alloc::Global;
 
@@ -20,30 +21,49 @@ const NO_LEG: Leg = Leg {
     ratio: 0,
 };
 
+// The field of a leg's commodity, after so many legs.
+fn commodity_field(before: usize) -> Field
+    requires { before < 4 }
+    ensures { result ≡ commodity_field before }
+{
+    Field::CreditSpread(3 * before + 3)
+}
+
+// The leg that comes after so many.
 #[tactic(auto, unfolding(crate::specs::Records::leg_from))]
-fn read_leg(set: &ParamSet, commodity: &[u8], side: &[u8], ratio: &[u8]) -> Result<FoundLeg, Cause>
-    ensures value { result ≡ leg_from set.now commodity.now side.now ratio.now }
+fn read_leg(
+    set: &ParamSet,
+    before: usize,
+    commodity: &[u8],
+    side: &[u8],
+    ratio: &[u8],
+) -> Result<FoundLeg, RecordFault>
+    requires { before < 4 }
+    ensures value { result ≡ leg_from set.now before commodity.now side.now ratio.now }
     ensures bound { IfOk result (IsFoundLeg (length set.now.commodities)) }
 {
-    let name = read_commodity_name(commodity)?;
-    let side = read_side(side)?;
-    let ratio = read_number(ratio, 1, 1_000_000)?;
+    let name = read_commodity_name(commodity_field(before), commodity)?;
+    let side = read_side(Field::CreditSpread(3 * before + 4), side)?;
+    let ratio = read_number(Field::CreditSpread(3 * before + 5), ratio, 1, 1_000_000)?;
     Ok((set.commodity(name), side, ratio))
 }
 
-fn read_legs(alloc: Global, set: &ParamSet, words: &[&[u8]]) -> Result<Vec<FoundLeg>, Cause>
-    ensures ok { IfOk result (λ legs. legs_from set.now (map (λ s. s.now) words.now) ≡ Ok legs.items) }
-    ensures err { IfErr result (λ e. (e ≡ Cause.Memory) ⊎ (legs_from set.now (map (λ s. s.now) words.now) ≡ Err e)) }
+fn read_legs(alloc: Global, set: &ParamSet, words: &[&[u8]]) -> Result<Vec<FoundLeg>, RecordFault>
+    requires { length words.now ≤ 12 }
+    ensures ok { IfOk result (λ legs. legs_from set.now 0 (map (λ s. s.now) words.now) ≡ Ok legs.items) }
+    ensures err { IfErr result (λ e. (e.cause ≡ Cause.Memory) ⊎ (legs_from set.now 0 (map (λ s. s.now) words.now) ≡ Err e)) }
     ensures bound { IfOk result (λ legs. All (IsFoundLeg (length set.now.commodities)) legs.items) }
     ensures count { IfOk result (λ legs. (3 * length legs.items ≤ length words.now) × (length words.now < 3 * length legs.items + 3)) }
 {
     let mut legs = Vec::new(alloc);
+    let mut before = 0;
     let mut rest = words;
     while let [commodity, side, ratio, more @ ..] = rest {
-        let leg = read_leg(set, commodity, side, ratio)?;
+        let leg = read_leg(set, before, commodity, side, ratio)?;
         if legs.push(leg).is_err() {
-            return Err(Cause::Memory);
+            return Err(RecordFault::whole(Cause::Memory));
         }
+        before += 1;
         rest = more;
     }
     Ok(legs)
@@ -74,7 +94,7 @@ fn has_side_b(legs: &[FoundLeg]) -> bool
 }
 
 // The legs, where earlier records give each commodity.
-fn known_legs(legs: &[FoundLeg]) -> Result<[Leg; 4], Cause>
+fn known_legs(legs: &[FoundLeg]) -> Result<[Leg; 4], RecordFault>
     requires { length legs.now ≤ 4 }
     ensures { result ≡ kept_legs legs.now }
 {
@@ -82,7 +102,7 @@ fn known_legs(legs: &[FoundLeg]) -> Result<[Leg; 4], Cause>
     for i in 0..legs.len() {
         let (place, side, ratio) = legs[i];
         let Some(commodity) = place else {
-            return Err(Cause::Unknown);
+            return Err(RecordFault::at(commodity_field(i), Cause::Unknown));
         };
         row[i] = Leg {
             commodity,
@@ -102,26 +122,30 @@ fn is_named(legs: &[Leg], commodity: usize) -> bool
         .any(|other| commodity == other)
 }
 
-// Whether two legs are of one commodity.
-fn has_twice(legs: &[Leg]) -> bool
-    ensures { result ≡ has_twice (map (λ leg. leg.commodity) legs.now) }
+// The place of the first leg whose commodity is that of a leg before it.
+fn repeat_place(legs: &[Leg]) -> Option<usize>
+    requires { length legs.now ≤ 4 }
+    ensures place { result ≡ repeat_place [] (map (λ leg. leg.commodity) legs.now) }
+    ensures within { IfSome result (λ i. i < length legs.now) }
 {
-    match legs {
-        [first, rest @ ..] => is_named(rest, first.commodity) || has_twice(rest),
-        [] => false,
+    for i in 0..legs.len() {
+        if is_named(&legs[..i], legs[i].commodity) {
+            return Some(i);
+        }
     }
+    None
 }
 
-fn credit_row(set: &ParamSet, spread: &CreditSpread) -> Result<CreditSpread, Cause>
+fn credit_row(set: &ParamSet, spread: &CreditSpread) -> Result<CreditSpread, RecordFault>
     requires { IsSidedSpread (length set.now.commodities) spread.now }
     ensures value { result ≡ credit_row set.now spread.now }
     ensures next { IfOk result (λ row. IsNextCreditSpread set.now row) }
 {
-    if has_twice(&spread.legs[..spread.count]) {
-        return Err(Cause::Double);
+    if let Some(leg) = repeat_place(&spread.legs[..spread.count]) {
+        return Err(RecordFault::at(commodity_field(leg), Cause::Double));
     }
     if set.credits().len() >= 64 {
-        return Err(Cause::Limit);
+        return Err(RecordFault::whole(Cause::Limit));
     }
     Ok(*spread)
 }
@@ -132,17 +156,17 @@ fn credit_from(
     set: &ParamSet,
     rate: &[u8],
     words: &[&[u8]],
-) -> Result<CreditSpread, Cause>
+) -> Result<CreditSpread, RecordFault>
     requires low { 6 ≤ length words.now }
     requires high { length words.now ≤ 12 }
     ensures ok { IfOk result (λ row. credit_from set.now rate.now (map (λ s. s.now) words.now) ≡ Ok row) }
-    ensures err { IfErr result (λ e. (e ≡ Cause.Memory) ⊎ (credit_from set.now rate.now (map (λ s. s.now) words.now) ≡ Err e)) }
+    ensures err { IfErr result (λ e. (e.cause ≡ Cause.Memory) ⊎ (credit_from set.now rate.now (map (λ s. s.now) words.now) ≡ Err e)) }
     ensures next { IfOk result (λ row. IsNextCreditSpread set.now row) }
 {
-    let rate = read_number(rate, 0, 10_000)?;
+    let rate = read_number(Field::CreditSpread(2), rate, 0, 10_000)?;
     let found = read_legs(alloc, set, words)?;
     if !has_side_a(found.as_slice()) || !has_side_b(found.as_slice()) {
-        return Err(Cause::Fields);
+        return Err(RecordFault::whole(Cause::Fields));
     }
     let legs = known_legs(found.as_slice())?;
     let spread = CreditSpread {
@@ -158,16 +182,16 @@ pub(crate) fn read_credit_spread(
     alloc: Global,
     set: &ParamSet,
     args: &[&[u8]],
-) -> Result<CreditSpread, Cause>
+) -> Result<CreditSpread, RecordFault>
     ensures ok { IfOk result (λ row. credit_of set.now (map (λ s. s.now) args.now) ≡ Ok row) }
-    ensures err { IfErr result (λ e. (e ≡ Cause.Memory) ⊎ (credit_of set.now (map (λ s. s.now) args.now) ≡ Err e)) }
+    ensures err { IfErr result (λ e. (e.cause ≡ Cause.Memory) ⊎ (credit_of set.now (map (λ s. s.now) args.now) ≡ Err e)) }
     ensures next { IfOk result (λ row. IsNextCreditSpread set.now row) }
 {
     match args {
-        [] => Err(Cause::Fields),
+        [] => Err(RecordFault::whole(Cause::Fields)),
         [rate, words @ ..] => match words.len() {
             6 | 9 | 12 => credit_from(alloc, set, rate, words),
-            _ => Err(Cause::Fields),
+            _ => Err(RecordFault::whole(Cause::Fields)),
         },
     }
 }

@@ -1,94 +1,104 @@
 //! The set of a file.
 
-ghost use Rattle.std.specs.Prelude.{◌≡◌, ◌⊎◌, ◌==◌, [], map, Ok, Err, Some, OnOk, IfOk, IfErr};
+ghost use Rattle.std.specs.Prelude.{◌≡◌, ◌⊎◌, ◌==◌, [], map, Ok, Err, None, Some, OnOk, IfOk, IfErr};
 ghost use Rattle.csv.specs.Records.{fields_of};
-ghost use Rattle.mgn_setfile.specs.File.{Tells, head_from, head_of, judged, later_of, outcome, records_of, told, version_of, with_class, with_commodity, with_contract, with_credit_spread, with_month, with_other, with_record, with_spot, with_spot_of, with_spread};
+ghost use Rattle.mgn_setfile.specs.Fields.{in_field};
+ghost use Rattle.mgn_setfile.specs.File.{Tells, fault_in, head_from, head_of, judged, later_of, line_of_record, outcome, records_of, told, version_of, with_class, with_commodity, with_contract, with_credit_spread, with_month, with_other, with_record, with_spot, with_spot_of, with_spread};
 
 use crate::contracts::read_contract;
 use crate::credits::read_credit_spread;
 use crate::draft::Draft;
-use crate::fault::{Cause, SetFault};
+use crate::fault::{Cause, RecordFault, SetFault};
 use crate::fields::read_set_name;
 use crate::line::{cut_line, fields, read_record};
+use crate::place::Field;
 use crate::records::{read_class, read_commodity, read_month};
+use crate::rows::Rows;
 use crate::spreads::{read_spot, read_spread};
 use csv::ByteRecord;
 use mgn_params::ParamSet;
 use std::alloc::Global;
 
 #[tactic(auto, unfolding(crate::specs::File::with_commodity))]
-fn add_commodity(set: &mut ParamSet, args: &[&[u8]]) -> Result<(), Cause>
-    ensures ok { OnOk result (with_commodity set.old (map (λ s. s.now) args.now) ≡ Ok set.new) }
-    ensures err { IfErr result (λ e. (e ≡ Cause.Memory) ⊎ (with_commodity set.old (map (λ s. s.now) args.now) ≡ Err e)) }
+fn add_commodity(rows: &mut Rows, args: &[&[u8]]) -> Result<(), RecordFault>
+    ensures ok { OnOk result (with_commodity rows.old (map (λ s. s.now) args.now) ≡ Ok rows.new) }
+    ensures err { IfErr result (λ e. (e.cause ≡ Cause.Memory) ⊎ (with_commodity rows.old (map (λ s. s.now) args.now) ≡ Err e)) }
 {
-    let row = read_commodity(set, args)?;
-    set.push_commodity(row).map_err(|_| Cause::Memory)
+    let row = read_commodity(rows.set(), args)?;
+    rows.push_commodity(row)
+        .map_err(|_| RecordFault::whole(Cause::Memory))
 }
 
 #[tactic(auto, unfolding(crate::specs::File::with_month))]
-fn add_month(set: &mut ParamSet, args: &[&[u8]]) -> Result<(), Cause>
-    ensures ok { OnOk result (with_month set.old (map (λ s. s.now) args.now) ≡ Ok set.new) }
-    ensures err { IfErr result (λ e. (e ≡ Cause.Memory) ⊎ (with_month set.old (map (λ s. s.now) args.now) ≡ Err e)) }
+fn add_month(rows: &mut Rows, args: &[&[u8]]) -> Result<(), RecordFault>
+    ensures ok { OnOk result (with_month rows.old (map (λ s. s.now) args.now) ≡ Ok rows.new) }
+    ensures err { IfErr result (λ e. (e.cause ≡ Cause.Memory) ⊎ (with_month rows.old (map (λ s. s.now) args.now) ≡ Err e)) }
 {
-    let row = read_month(set, args)?;
-    set.push_month(row).map_err(|_| Cause::Memory)
+    let row = read_month(rows, args)?;
+    rows.push_month(row)
+        .map_err(|_| RecordFault::whole(Cause::Memory))
 }
 
 #[tactic(auto, unfolding(crate::specs::File::with_contract))]
-fn add_contract(set: &mut ParamSet, args: &[&[u8]]) -> Result<(), Cause>
-    ensures ok { OnOk result (with_contract set.old (map (λ s. s.now) args.now) ≡ Ok set.new) }
-    ensures err { IfErr result (λ e. (e ≡ Cause.Memory) ⊎ (with_contract set.old (map (λ s. s.now) args.now) ≡ Err e)) }
+fn add_contract(rows: &mut Rows, args: &[&[u8]]) -> Result<(), RecordFault>
+    ensures ok { OnOk result (with_contract rows.old (map (λ s. s.now) args.now) ≡ Ok rows.new) }
+    ensures err { IfErr result (λ e. (e.cause ≡ Cause.Memory) ⊎ (with_contract rows.old (map (λ s. s.now) args.now) ≡ Err e)) }
 {
-    let row = read_contract(set, args)?;
-    set.push_contract(row).map_err(|_| Cause::Memory)
+    let row = read_contract(rows, args)?;
+    rows.push_contract(row)
+        .map_err(|_| RecordFault::whole(Cause::Memory))
 }
 
 #[tactic(auto, unfolding(crate::specs::File::with_spread))]
-fn add_spread(set: &mut ParamSet, args: &[&[u8]]) -> Result<(), Cause>
-    ensures ok { OnOk result (with_spread set.old (map (λ s. s.now) args.now) ≡ Ok set.new) }
-    ensures err { IfErr result (λ e. (e ≡ Cause.Memory) ⊎ (with_spread set.old (map (λ s. s.now) args.now) ≡ Err e)) }
+fn add_spread(rows: &mut Rows, args: &[&[u8]]) -> Result<(), RecordFault>
+    ensures ok { OnOk result (with_spread rows.old (map (λ s. s.now) args.now) ≡ Ok rows.new) }
+    ensures err { IfErr result (λ e. (e.cause ≡ Cause.Memory) ⊎ (with_spread rows.old (map (λ s. s.now) args.now) ≡ Err e)) }
 {
-    let row = read_spread(set, args)?;
-    set.push_spread(row).map_err(|_| Cause::Memory)
+    let row = read_spread(rows, args)?;
+    rows.push_spread(row)
+        .map_err(|_| RecordFault::whole(Cause::Memory))
 }
 
 #[tactic(auto, unfolding(crate::specs::File::with_class))]
-fn add_class(set: &mut ParamSet, args: &[&[u8]]) -> Result<(), Cause>
-    ensures ok { OnOk result (with_class set.old (map (λ s. s.now) args.now) ≡ Ok set.new) }
-    ensures err { IfErr result (λ e. (e ≡ Cause.Memory) ⊎ (with_class set.old (map (λ s. s.now) args.now) ≡ Err e)) }
+fn add_class(rows: &mut Rows, args: &[&[u8]]) -> Result<(), RecordFault>
+    ensures ok { OnOk result (with_class rows.old (map (λ s. s.now) args.now) ≡ Ok rows.new) }
+    ensures err { IfErr result (λ e. (e.cause ≡ Cause.Memory) ⊎ (with_class rows.old (map (λ s. s.now) args.now) ≡ Err e)) }
 {
-    let row = read_class(set, args)?;
-    set.push_class(row).map_err(|_| Cause::Memory)
+    let row = read_class(rows.set(), args)?;
+    rows.push_class(row)
+        .map_err(|_| RecordFault::whole(Cause::Memory))
 }
 
 #[tactic(auto, unfolding(crate::specs::File::with_spot))]
-fn add_spot(set: &mut ParamSet, args: &[&[u8]]) -> Result<(), Cause>
-    ensures ok { OnOk result (with_spot set.old (map (λ s. s.now) args.now) ≡ Ok set.new) }
-    ensures err { IfErr result (λ e. (e ≡ Cause.Memory) ⊎ (with_spot set.old (map (λ s. s.now) args.now) ≡ Err e)) }
+fn add_spot(rows: &mut Rows, args: &[&[u8]]) -> Result<(), RecordFault>
+    ensures ok { OnOk result (with_spot rows.old (map (λ s. s.now) args.now) ≡ Ok rows.new) }
+    ensures err { IfErr result (λ e. (e.cause ≡ Cause.Memory) ⊎ (with_spot rows.old (map (λ s. s.now) args.now) ≡ Err e)) }
 {
-    let row = read_spot(set, args)?;
-    set.push_spot(row).map_err(|_| Cause::Memory)
+    let row = read_spot(rows.set(), args)?;
+    rows.push_spot(row)
+        .map_err(|_| RecordFault::whole(Cause::Memory))
 }
 
 #[tactic(auto, unfolding(crate::specs::File::with_credit_spread))]
-fn add_credit_spread(alloc: Global, set: &mut ParamSet, args: &[&[u8]]) -> Result<(), Cause>
-    ensures ok { OnOk result (with_credit_spread set.old (map (λ s. s.now) args.now) ≡ Ok set.new) }
-    ensures err { IfErr result (λ e. (e ≡ Cause.Memory) ⊎ (with_credit_spread set.old (map (λ s. s.now) args.now) ≡ Err e)) }
+fn add_credit_spread(alloc: Global, rows: &mut Rows, args: &[&[u8]]) -> Result<(), RecordFault>
+    ensures ok { OnOk result (with_credit_spread rows.old (map (λ s. s.now) args.now) ≡ Ok rows.new) }
+    ensures err { IfErr result (λ e. (e.cause ≡ Cause.Memory) ⊎ (with_credit_spread rows.old (map (λ s. s.now) args.now) ≡ Err e)) }
 {
-    let row = read_credit_spread(alloc, set, args)?;
-    set.push_credit_spread(row).map_err(|_| Cause::Memory)
+    let row = read_credit_spread(alloc, rows.set(), args)?;
+    rows.push_credit_spread(row)
+        .map_err(|_| RecordFault::whole(Cause::Memory))
 }
 
 // A spot charge is a record of version 2 alone.
 #[tactic(auto, unfolding(crate::specs::File::with_spot_of))]
-fn add_spot_of(version: u64, set: &mut ParamSet, args: &[&[u8]]) -> Result<(), Cause>
-    ensures ok { OnOk result (with_spot_of version set.old (map (λ s. s.now) args.now) ≡ Ok set.new) }
-    ensures err { IfErr result (λ e. (e ≡ Cause.Memory) ⊎ (with_spot_of version set.old (map (λ s. s.now) args.now) ≡ Err e)) }
+fn add_spot_of(version: u64, rows: &mut Rows, args: &[&[u8]]) -> Result<(), RecordFault>
+    ensures ok { OnOk result (with_spot_of version rows.old (map (λ s. s.now) args.now) ≡ Ok rows.new) }
+    ensures err { IfErr result (λ e. (e.cause ≡ Cause.Memory) ⊎ (with_spot_of version rows.old (map (λ s. s.now) args.now) ≡ Err e)) }
 {
     if version == 2 {
-        add_spot(set, args)
+        add_spot(rows, args)
     } else {
-        Err(Cause::Fields)
+        Err(RecordFault::at(Field::Kind, Cause::Fields))
     }
 }
 
@@ -97,23 +107,23 @@ fn add_spot_of(version: u64, set: &mut ParamSet, args: &[&[u8]]) -> Result<(), C
 fn add_other(
     alloc: Global,
     version: u64,
-    set: &mut ParamSet,
+    rows: &mut Rows,
     kind: &[u8],
     args: &[&[u8]],
-) -> Result<(), Cause>
-    ensures ok { OnOk result (with_other version set.old kind.now (map (λ s. s.now) args.now) ≡ Ok set.new) }
-    ensures err { IfErr result (λ e. (e ≡ Cause.Memory) ⊎ (with_other version set.old kind.now (map (λ s. s.now) args.now) ≡ Err e)) }
+) -> Result<(), RecordFault>
+    ensures ok { OnOk result (with_other version rows.old kind.now (map (λ s. s.now) args.now) ≡ Ok rows.new) }
+    ensures err { IfErr result (λ e. (e.cause ≡ Cause.Memory) ⊎ (with_other version rows.old kind.now (map (λ s. s.now) args.now) ≡ Err e)) }
 {
     if kind == b"I".as_slice() {
-        add_credit_spread(alloc, set, args)
+        add_credit_spread(alloc, rows, args)
     } else if kind == b"V".as_slice() {
-        add_class(set, args)
+        add_class(rows, args)
     } else if kind == b"T".as_slice() {
-        add_spot_of(version, set, args)
+        add_spot_of(version, rows, args)
     } else if kind == b"H".as_slice() {
-        Err(Cause::Header)
+        Err(RecordFault::whole(Cause::Header))
     } else {
-        Err(Cause::Fields)
+        Err(RecordFault::at(Field::Kind, Cause::Fields))
     }
 }
 
@@ -121,85 +131,90 @@ fn add_other(
 fn add_record(
     alloc: Global,
     version: u64,
-    set: &mut ParamSet,
+    rows: &mut Rows,
     kind: &[u8],
     args: &[&[u8]],
-) -> Result<(), Cause>
-    ensures ok { OnOk result (with_record version set.old kind.now (map (λ s. s.now) args.now) ≡ Ok set.new) }
-    ensures err { IfErr result (λ e. (e ≡ Cause.Memory) ⊎ (with_record version set.old kind.now (map (λ s. s.now) args.now) ≡ Err e)) }
+) -> Result<(), RecordFault>
+    ensures ok { OnOk result (with_record version rows.old kind.now (map (λ s. s.now) args.now) ≡ Ok rows.new) }
+    ensures err { IfErr result (λ e. (e.cause ≡ Cause.Memory) ⊎ (with_record version rows.old kind.now (map (λ s. s.now) args.now) ≡ Err e)) }
 {
     if kind == b"G".as_slice() {
-        add_commodity(set, args)
+        add_commodity(rows, args)
     } else if kind == b"M".as_slice() {
-        add_month(set, args)
+        add_month(rows, args)
     } else if kind == b"K".as_slice() {
-        add_contract(set, args)
+        add_contract(rows, args)
     } else if kind == b"S".as_slice() {
-        add_spread(set, args)
+        add_spread(rows, args)
     } else {
-        add_other(alloc, version, set, kind, args)
+        add_other(alloc, version, rows, kind, args)
     }
 }
 
 // A record after the first.
 #[tactic(auto, unfolding(crate::specs::File::later_of))]
-fn add_later(alloc: Global, version: u64, set: &mut ParamSet, words: &[&[u8]]) -> Result<(), Cause>
-    ensures ok { OnOk result (later_of version set.old (map (λ s. s.now) words.now) ≡ Ok set.new) }
-    ensures err { IfErr result (λ e. (e ≡ Cause.Memory) ⊎ (later_of version set.old (map (λ s. s.now) words.now) ≡ Err e)) }
+fn add_later(
+    alloc: Global,
+    version: u64,
+    rows: &mut Rows,
+    words: &[&[u8]],
+) -> Result<(), RecordFault>
+    ensures ok { OnOk result (later_of version rows.old (map (λ s. s.now) words.now) ≡ Ok rows.new) }
+    ensures err { IfErr result (λ e. (e.cause ≡ Cause.Memory) ⊎ (later_of version rows.old (map (λ s. s.now) words.now) ≡ Err e)) }
 {
     match words {
-        [kind, args @ ..] => add_record(alloc, version, set, kind, args),
-        [] => Err(Cause::Fields),
+        [kind, args @ ..] => add_record(alloc, version, rows, kind, args),
+        [] => Err(RecordFault::whole(Cause::Fields)),
     }
 }
 
-#[tactic(auto, unfolding(crate::specs::File::version_of))]
-fn read_version(word: &[u8]) -> Result<u64, Cause>
-    ensures { result ≡ version_of word.now }
+#[tactic(auto, unfolding(crate::specs::File::version_of, crate::specs::Fields::in_field))]
+fn read_version(field: Field, word: &[u8]) -> Result<u64, RecordFault>
+    ensures { result ≡ in_field field (version_of word.now) }
 {
     if word == b"1".as_slice() {
         Ok(1)
     } else if word == b"2".as_slice() {
         Ok(2)
     } else {
-        Err(Cause::Header)
+        Err(RecordFault::at(field, Cause::Header))
     }
 }
 
 #[tactic(auto, unfolding(crate::specs::File::head_from))]
-fn head_from(alloc: Global, kind: &[u8], version: &[u8], name: &[u8]) -> Result<Draft, Cause>
+fn head_from(alloc: Global, kind: &[u8], version: &[u8], name: &[u8]) -> Result<Draft, RecordFault>
     ensures { result ≡ head_from kind.now version.now name.now }
 {
     if kind != b"H".as_slice() {
-        return Err(Cause::Header);
+        return Err(RecordFault::whole(Cause::Header));
     }
-    let version = read_version(version)?;
-    let name = read_set_name(name)?;
+    let version = read_version(Field::Header(2), version)?;
+    let name = read_set_name(Field::Header(3), name)?;
     Ok(Draft {
         version,
-        set: ParamSet::new(alloc, name),
+        set: Rows::new(alloc, name),
     })
 }
 
 // The first record.
 #[tactic(auto, unfolding(crate::specs::File::head_of))]
-fn read_head(alloc: Global, words: &[&[u8]]) -> Result<Draft, Cause>
+fn read_head(alloc: Global, words: &[&[u8]]) -> Result<Draft, RecordFault>
     ensures { result ≡ head_of (map (λ s. s.now) words.now) }
 {
     match words {
         [kind, version, name] => head_from(alloc, kind, version, name),
-        _ => Err(Cause::Header),
+        _ => Err(RecordFault::whole(Cause::Header)),
     }
 }
 
 // A record after those that gave this much, or as the first.
 #[tactic(auto, unfolding(crate::specs::File::judged))]
-fn add(alloc: Global, before: Option<Draft>, row: &ByteRecord) -> Result<Draft, Cause>
+fn add(alloc: Global, before: Option<Draft>, row: &ByteRecord) -> Result<Draft, RecordFault>
     ensures ok { IfOk result (λ draft. judged before (Some (fields_of row.now)) ≡ Ok draft) }
-    ensures err { IfErr result (λ e. (e ≡ Cause.Memory) ⊎ (judged before (Some (fields_of row.now)) ≡ Err e)) }
+    ensures err { IfErr result (λ e. (e.cause ≡ Cause.Memory) ⊎ (judged before (Some (fields_of row.now)) ≡ Err e)) }
 {
     let Ok(words) = fields(alloc, row) else {
-        return Err(Cause::Memory);
+        return Err(RecordFault::whole(Cause::Memory));
     };
     match before {
         None => read_head(alloc, words.as_slice()),
@@ -210,30 +225,40 @@ fn add(alloc: Global, before: Option<Draft>, row: &ByteRecord) -> Result<Draft, 
     }
 }
 
-// The same at a place among the records, from 1.
+// The same of the record of a number in a line, both from 1.
 fn add_at(
     alloc: Global,
     before: Option<Draft>,
     row: &ByteRecord,
+    number: u64,
     line: u64,
 ) -> Result<Draft, SetFault>
     ensures ok { IfOk result (λ draft. judged before (Some (fields_of row.now)) ≡ Ok draft) }
-    ensures err { IfErr result (λ e. (e.cause ≡ Cause.Memory) ⊎ ((judged before (Some (fields_of row.now)) ≡ Err e.cause) × (e.line ≡ line))) }
+    ensures err { IfErr result (λ e. (e.cause ≡ Cause.Memory) ⊎ (judged before (Some (fields_of row.now)) ≡ Err (fault_in e))) }
+    ensures place { IfErr result (λ e. (e.number ≡ number) × (e.line ≡ line)) }
 {
     match add(alloc, before, row) {
         Ok(draft) => Ok(draft),
-        Err(cause) => Err(SetFault { line, cause }),
+        Err(RecordFault { field, cause }) => Err(SetFault {
+            number,
+            line,
+            field,
+            cause,
+        }),
     }
 }
 
 // The set of the records, if there were any.
 fn set_of(draft: Option<Draft>) -> Result<ParamSet, SetFault>
-    ensures { Tells result (told [] 0 draft) }
+    ensures tells { Tells result (told [] 0 draft) }
+    ensures none { IfErr result (λ e. (draft ≡ None) × (e.number ≡ 1) × (e.line ≡ 1)) }
 {
     match draft {
-        Some(draft) => Ok(draft.set),
+        Some(draft) => Ok(draft.set.into_set()),
         None => Err(SetFault {
+            number: 1,
             line: 1,
+            field: None,
             cause: Cause::Header,
         }),
     }
@@ -244,26 +269,29 @@ fn set_of(draft: Option<Draft>) -> Result<ParamSet, SetFault>
 /// between commodities), `V` (collateral class) and, in version 2, `T` (spot month charge). A record refers only to
 /// records before it.
 ///
-/// Fails with the number of the first faulty record, from 1, and its first cause, or with `Memory` where a growth was
-/// refused.
+/// Fails with the number of the first faulty record, from 1, its line, its first cause and the field that has it, or
+/// with `Memory` where a growth was refused.
 pub fn read_set(alloc: Global, text: &[u8]) -> Result<ParamSet, SetFault>
-    ensures { Tells result (outcome (records_of text.now)) }
+    ensures fault { Tells result (outcome (records_of text.now)) }
+    ensures line { IfErr result (λ e. (e.cause ≡ Cause.Memory) ⊎ (e.line ≡ line_of_record text.now e.number)) }
 {
     let mut draft: Option<Draft> = None;
     let mut count = 0u64;
+    let mut lines = 0u64;
     let mut rest = Some(text);
     while let Some(left) = rest {
         let (line, more) = cut_line(left);
         rest = more;
+        lines += 1;
         let number = count + 1;
         match read_record(alloc, line) {
             Ok(None) => {}
             Ok(Some(row)) => {
-                let next = add_at(alloc, draft, &row, number)?;
+                let next = add_at(alloc, draft, &row, number, lines)?;
                 draft = Some(next);
                 count = number;
             }
-            Err(fault) => return Err(fault.at(number)),
+            Err(fault) => return Err(fault.at(number, lines)),
         }
     }
     set_of(draft)

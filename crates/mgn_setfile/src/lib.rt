@@ -8,8 +8,11 @@ mod fault;
 mod fields;
 mod file;
 mod line;
+mod place;
 mod records;
+mod rows;
 mod spreads;
 
 pub use fault::{Cause, SetFault};
 pub use file::read_set;
+pub use place::Field;

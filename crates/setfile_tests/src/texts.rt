@@ -7,7 +7,7 @@ use std::alloc::{AllocError, Global};
 pub(crate) fn fault_of(alloc: Global, text: &[u8]) -> Option<(u64, Cause)> {
     match read_set(alloc, text) {
         Ok(_) => None,
-        Err(SetFault { line, cause }) => Some((line, cause)),
+        Err(SetFault { number, cause, .. }) => Some((number, cause)),
     }
 }
 

@@ -13,7 +13,7 @@ pub enum Fault {
     #[error("set NOSET")]
     NoSet,
     /// A record is no record of a set; its number is told.
-    #[error("set BADSET {}", .0.line)]
+    #[error("set BADSET {}", .0.number)]
     BadSet(SetFault),
     /// The same, and the cause is told in words.
     #[error("{0}")]

@@ -5,4 +5,4 @@ use Rattle.mgn_setfile.proofs.contracts.contract_after_names.Goals as goal
 
 pub returns-in_default-clause-value : goal.returns-in_default-clause-value
 returns-in_default-clause-value c =
-    sym (after_names_short c.args.set.now c.args.names (map (λ (s : Bor (List ℕ)). s.now) c.args.args.now) (omega (arith, c.in_default.len_below, length-map c.args.args.now (λ (s : Bor (List ℕ)). s.now))))
+    rw c.whole.ensures (sym (after_names_short c.args.rows.now c.args.names (map (λ (s : Bor (List ℕ)). s.now) c.args.args.now) (omega (arith, c.in_default.len_below, length-map c.args.args.now (λ (s : Bor (List ℕ)). s.now)))))

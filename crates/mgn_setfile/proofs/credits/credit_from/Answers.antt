@@ -1,5 +1,6 @@
 use Rattle.std.proofs.Common.{arith, rules, map, ◌∙◌, ◌≡◌, true, sym, length, Ok, Bor, List, ℕ}
-use Rattle.mgn_setfile.specs.Fields.{field_number}
+use Rattle.mgn_setfile.specs.Fields.{field_number, in_field}
+use Rattle.mgn_setfile.specs.declared.place.Field.TheVariants as field
 use Rattle.mgn_setfile.specs.Records.{has_side_a, has_side_b, kept_legs}
 use Rattle.mgn_setfile.proofs.LegLemmas.{credit_is, ok_along, err_along, sided_is}
 use Rattle.mgn_setfile.proofs.credits.credit_from.Goals as goal
@@ -21,7 +22,7 @@ returns-clause-ok c =
     let a : has_side_a found ≡ true = search rules in
     let b : has_side_b found ≡ true = search rules in
     let len : c.len.result ≡ length found = search rules in
-    let number : field_number 0 10000 c.args.rate.now ≡ Ok c.in_ok-rate.rate = search rules in
+    let number : in_field (field.CreditSpread 2) (field_number 0 10000 c.args.rate.now) ≡ Ok c.in_ok-rate.rate = search rules in
     let is = credit_is c.args.set.now c.in_ok-rate.rate c.args.rate.now (map (λ (s : Bor (List ℕ)). s.now) c.args.words.now) found c.in_ok-legs.legs number c.in_ok-found.ensures.ok a b kept in
     ok_along _ _ (is ∙ sym (rw len at c.credit_row.ensures.value))
 
@@ -32,6 +33,6 @@ returns-clause-err c =
     let a : has_side_a found ≡ true = search rules in
     let b : has_side_b found ≡ true = search rules in
     let len : c.len.result ≡ length found = search rules in
-    let number : field_number 0 10000 c.args.rate.now ≡ Ok c.in_ok-rate.rate = search rules in
+    let number : in_field (field.CreditSpread 2) (field_number 0 10000 c.args.rate.now) ≡ Ok c.in_ok-rate.rate = search rules in
     let is = credit_is c.args.set.now c.in_ok-rate.rate c.args.rate.now (map (λ (s : Bor (List ℕ)). s.now) c.args.words.now) found c.in_ok-legs.legs number c.in_ok-found.ensures.ok a b kept in
     err_along _ _ (is ∙ sym (rw len at c.credit_row.ensures.value))

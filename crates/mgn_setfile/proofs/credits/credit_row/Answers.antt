@@ -1,4 +1,4 @@
-use Rattle.std.proofs.Common.{rules, map, ◌∙◌, sym}
+use Rattle.std.proofs.Common.{rules, [], map, ◌∙◌, sym}
 use Rattle.mgn_params.specs.declared.tables.Leg.{Leg}
 use Rattle.mgn_params.specs.Tables.{legs_of}
 use Rattle.mgn_setfile.proofs.LegLemmas.{all_differ}
@@ -6,7 +6,7 @@ use Rattle.mgn_setfile.proofs.credits.credit_row.Goals as goal
 
 pub returns-clause-next : goal.returns-clause-next
 returns-clause-next c =
-    let apart = all_differ (map (λ (leg : Leg). leg.commodity) (legs_of c.args.spread.now)) (sym c.has_twice.ensures ∙ c.if-has_twice.false) in
+    let apart = all_differ [] (map (λ (leg : Leg). leg.commodity) (legs_of c.args.spread.now)) (sym c.repeat_place.ensures.place ∙ c.in_default.is) in
     record {
       limits = record {
         rate = c.requires.rate;

@@ -6,7 +6,7 @@ use Rattle.mgn_setfile.proofs.credits.known_legs.Given as goal
 
 abbrev pub invariant-loop-i : goal.invariant-loop-i
 invariant-loop-i l = record {
-  so_far : known_legs l.legs ≡ fronted (take l.i l.row) (known_legs (drop l.i l.legs));
+  so_far : known_legs 0 l.legs ≡ fronted (take l.i l.row) (known_legs l.i (drop l.i l.legs));
   rest : drop l.i l.row ≡ replicate (4 - l.i) no_leg;
   all : length l.row ≡ 4;
 }

@@ -1,15 +1,16 @@
-use Rattle.std.proofs.Common.{arith, rules, ◌≡◌, ◌∙◌, ◌+◌, ◌≤◌, ℕ, List, length, option_map, Bor, Err, inl, inr, refl, sym}
+use Rattle.std.proofs.Common.{arith, rules, ◌≡◌, ◌∙◌, ◌+◌, ◌≤◌, ℕ, List, length, option_map, Bor, Err, inl, inr, refl}
 use Rattle.std.specs.Prelude.{◌⊎◌}
 use Rattle.csv.specs.Records.{fields_of}
 use Rattle.mgn_setfile.specs.declared.fault.Cause.TheVariants.{Memory}
-use Rattle.mgn_setfile.specs.File.{outcome, records_of}
+use Rattle.mgn_setfile.specs.Fields.{whole}
+use Rattle.mgn_setfile.specs.File.{fault_in, line_of_record, outcome, records_of}
 use Rattle.mgn_setfile.specs.Lines.{line_cause}
-use Rattle.mgn_setfile.proofs.FileLemmas.{left_of, less, no_more, skips, stops, stops_at, takes}
+use Rattle.mgn_setfile.proofs.FileLemmas.{after_next, has_one, left_of, less, line_is, line_of_fault, line_of_none, no_more, numbers_left, passes_over, skips, stops, stops_at, takes}
 use Rattle.mgn_setfile.proofs.file.read_set.Goals as goal
 
 pub loop-rest-init : goal.loop-rest-init
 unfolding outcome
-loop-rest-init c = record { room = omega arith; so_far = refl }
+loop-rest-init c = record { room = omega arith; few = omega arith; none = refl; so_far = refl; numbers = refl }
 
 pub loop-rest-preserved-in-Ok-None : goal.loop-rest-preserved-in-Ok-None
 loop-rest-preserved-in-Ok-None c =
@@ -18,20 +19,35 @@ loop-rest-preserved-in-Ok-None c =
     let h : left_of c.cut_line.result.1 ≤ length c.in-Some.left.now = less c.cut_line.result.1 (length c.in-Some.left.now) c.cut_line.ensures.shorter in
     record {
       room = omega (arith, i.room);
+      few = omega (arith, i.few);
+      none = i.none;
       so_far = i.so_far ∙ skips c.cut_line.result.0.now c.in-Some.left.now (option_map (λ (t : Bor (List ℕ)). t.now) c.cut_line.result.1) c.loop-rest.count c.loop-rest.draft c.cut_line.ensures.parts s;
+      numbers = i.numbers ∙ passes_over c.loop-rest.lines c.cut_line.result.0.now c.in-Some.left.now (option_map (λ (t : Bor (List ℕ)). t.now) c.cut_line.result.1) c.cut_line.ensures.parts s;
     }
 
-pub returns-in_err-next-in-Ok-Some : goal.returns-in_err-next-in-Ok-Some
-returns-in_err-next-in-Ok-Some c =
+pub returns-in_err-next-in-Ok-Some-clause-fault : goal.returns-in_err-next-in-Ok-Some-clause-fault
+returns-in_err-next-in-Ok-Some-clause-fault c =
     let i = rw c.in-Some.is at c.loop-rest.invariant in
     let s = rw (c.in-Ok-Some.is, c.in-Ok-Some.field-0-is) at c.read_record.ensures in
     let fault = c.in_err-next-in-Ok-Some.field-0.0 in
     let err : c.from_residual.result ≡ Err fault = search rules in
-    let told_at = elim c.in_err-next-in-Ok-Some.ensures.err as (λ _. (fault.cause ≡ Memory) ⊎ (outcome (records_of c.args.text.now) ≡ Err (fault.line, fault.cause))) [
+    let number = c.in_err-next-in-Ok-Some.ensures.place.0 in
+    let told_at = elim c.in_err-next-in-Ok-Some.ensures.err as (λ _. (fault.cause ≡ Memory) ⊎ (outcome (records_of c.args.text.now) ≡ Err (fault.number, fault_in fault))) [
       | inl m ↦ inl m
-      | inr h ↦ inr (i.so_far ∙ stops c.cut_line.result.0.now c.in-Some.left.now (option_map (λ (t : Bor (List ℕ)). t.now) c.cut_line.result.1) c.loop-rest.count c.loop-rest.draft (fields_of c.in-Ok-Some.row) fault.cause c.cut_line.ensures.parts s h.0 ∙ rw (sym h.1) refl)
+      | inr h ↦ inr (i.so_far ∙ stops c.cut_line.result.0.now c.in-Some.left.now (option_map (λ (t : Bor (List ℕ)). t.now) c.cut_line.result.1) c.loop-rest.count c.loop-rest.draft (fields_of c.in-Ok-Some.row) (fault_in fault) c.cut_line.ensures.parts s h ∙ rw number refl)
     ] in
     rw err told_at
+
+pub returns-in_err-next-in-Ok-Some-clause-line : goal.returns-in_err-next-in-Ok-Some-clause-line
+returns-in_err-next-in-Ok-Some-clause-line c =
+    let i = rw c.in-Some.is at c.loop-rest.invariant in
+    let s = rw (c.in-Ok-Some.is, c.in-Ok-Some.field-0-is) at c.read_record.ensures in
+    let fault = c.in_err-next-in-Ok-Some.field-0.0 in
+    let err : c.from_residual.result ≡ Err fault = search rules in
+    let place = c.in_err-next-in-Ok-Some.ensures.place in
+    let line = line_is c.args.text.now (numbers_left (c.loop-rest.lines + 1) (option_map (λ (t : Bor (List ℕ)). t.now) c.cut_line.result.1)) c.loop-rest.count (c.loop-rest.lines + 1) (i.numbers ∙ has_one c.loop-rest.lines c.cut_line.result.0.now c.in-Some.left.now (option_map (λ (t : Bor (List ℕ)). t.now) c.cut_line.result.1) (fields_of c.in-Ok-Some.row) c.cut_line.ensures.parts s) in
+    let told_line : (fault.cause ≡ Memory) ⊎ (fault.line ≡ line_of_record c.args.text.now fault.number) = inr (rw (place.0, place.1) line) in
+    rw err told_line
 
 pub loop-rest-preserved : goal.loop-rest-preserved
 loop-rest-preserved c =
@@ -41,17 +57,31 @@ loop-rest-preserved c =
     let h : left_of c.cut_line.result.1 ≤ length c.in-Some.left.now = less c.cut_line.result.1 (length c.in-Some.left.now) c.cut_line.ensures.shorter in
     record {
       room = omega (arith, i.room);
+      few = omega (arith, i.few);
+      none = tt;
       so_far = i.so_far ∙ takes c.cut_line.result.0.now c.in-Some.left.now (option_map (λ (t : Bor (List ℕ)). t.now) c.cut_line.result.1) c.loop-rest.count c.loop-rest.draft (fields_of c.in-Ok-Some.row) c.in_ok-next-in-Ok-Some.next c.cut_line.ensures.parts s a;
+      numbers = after_next c.loop-rest.count _ _ (c.loop-rest.lines + 1) (i.numbers ∙ has_one c.loop-rest.lines c.cut_line.result.0.now c.in-Some.left.now (option_map (λ (t : Bor (List ℕ)). t.now) c.cut_line.result.1) (fields_of c.in-Ok-Some.row) c.cut_line.ensures.parts s);
     }
 
-pub returns-in-Err : goal.returns-in-Err
-returns-in-Err c =
+pub returns-in-Err-clause-fault : goal.returns-in-Err-clause-fault
+returns-in-Err-clause-fault c =
     let i = rw c.in-Some.is at c.loop-rest.invariant in
     let s = rw (c.in-Err.is, c.in-Err.fault-is) at c.read_record.ensures in
     let at = stops_at c.cut_line.result.0.now c.in-Some.left.now (option_map (λ (t : Bor (List ℕ)). t.now) c.cut_line.result.1) c.loop-rest.count c.loop-rest.draft c.in-Err.fault c.cut_line.ensures.parts s in
-    rw c.at.ensures (elim at as (λ _. (line_cause c.in-Err.fault ≡ Memory) ⊎ (outcome (records_of c.args.text.now) ≡ Err (c.loop-rest.count + 1, line_cause c.in-Err.fault))) [ inl m ↦ inl m | inr h ↦ inr (i.so_far ∙ h) ])
+    rw c.at.ensures (elim at as (λ _. (line_cause c.in-Err.fault ≡ Memory) ⊎ (outcome (records_of c.args.text.now) ≡ Err (c.loop-rest.count + 1, whole (line_cause c.in-Err.fault)))) [ inl m ↦ inl m | inr h ↦ inr (i.so_far ∙ h) ])
 
-pub returns : goal.returns
-returns c =
+pub returns-in-Err-clause-line : goal.returns-in-Err-clause-line
+returns-in-Err-clause-line c =
+    let i = rw c.in-Some.is at c.loop-rest.invariant in
+    let s = rw (c.in-Err.is, c.in-Err.fault-is) at c.read_record.ensures in
+    rw c.at.ensures (line_of_fault c.args.text.now c.cut_line.result.0.now c.in-Some.left.now (option_map (λ (t : Bor (List ℕ)). t.now) c.cut_line.result.1) c.loop-rest.count c.loop-rest.lines c.in-Err.fault i.numbers c.cut_line.ensures.parts s)
+
+pub returns-clause-fault : goal.returns-clause-fault
+returns-clause-fault c =
     let i = rw c.in_default.is at c.loop-rest.invariant in
-    rw (i.so_far ∙ no_more c.loop-rest.count c.loop-rest.draft) c.set_of.ensures
+    rw (i.so_far ∙ no_more c.loop-rest.count c.loop-rest.draft) c.set_of.ensures.tells
+
+pub returns-clause-line : goal.returns-clause-line
+returns-clause-line c =
+    let i = rw c.in_default.is at c.loop-rest.invariant in
+    line_of_none c.set_of.result c.loop-rest.draft c.args.text.now c.loop-rest.count c.set_of.ensures.none i.none i.numbers
