@@ -7,14 +7,15 @@ mod plain_run;
 mod scan_run;
 mod side;
 
-ghost use Rattle.std.specs.Prelude.{◌≤◌};
+ghost use Rattle.std.specs.Prelude.{◌≡◌, ◌≤◌, pos, length, replicate, IfOk};
 
 use anyhow::{Result, bail};
+use mgn_num::Quantity;
 use mgn_option::OptionSums;
 use mgn_params::ParamSet;
 use mgn_scan::ScanTotals;
 use mgn_setfile::read_set;
-use std::alloc::Global;
+use std::alloc::{AllocError, Global};
 use std::env;
 use std::rt::{Clock, Env};
 use worked_sets::calls;
@@ -65,15 +66,26 @@ fn rounds_of(set: &ParamSet) -> usize {
     CHANGES / set.contract_count().max(1) + 1
 }
 
+// Nets of 0.
+fn flat_nets(alloc: Global, set: &ParamSet) -> Result<Vec<Quantity>, AllocError>
+    ensures { IfOk result (λ nets. nets.items ≡ replicate (length set.now.contracts) (pos 0)) }
+{
+    let mut nets = Vec::new(alloc);
+    nets.resize(set.contract_count(), Quantity::ZERO)?;
+    Ok(nets)
+}
+
 fn measure(clock: &impl Clock, alloc: Global, set: &ParamSet) -> Result<Costs> {
     let rounds = rounds_of(set);
     let mut totals = ScanTotals::new(alloc, set)?;
     let mut sums = OptionSums::new(alloc, set)?;
-    let followed = scan_run::measure(clock, set, &mut totals, rounds)?;
-    let summed = option_run::measure(clock, set, &mut sums, rounds)?;
+    let mut followed_nets = flat_nets(alloc, set)?;
+    let mut summed_nets = flat_nets(alloc, set)?;
+    let followed = scan_run::measure(clock, set, &mut followed_nets, &mut totals, rounds)?;
+    let summed = option_run::measure(clock, set, &mut summed_nets, &mut sums, rounds)?;
     let commodities = set.commodity_count();
     let (asked, first) = scan_run::measure_questions(clock, &totals, commodities, rounds)?;
-    let (anew, second) = plain_run::measure(clock, alloc, set, totals.nets(), ANEW)?;
+    let (anew, second) = plain_run::measure(clock, alloc, set, &followed_nets, ANEW)?;
     Ok(Costs {
         totals: followed,
         sums: summed,

@@ -10,25 +10,33 @@ use std::rt::Clock;
 use std::time::Instant;
 
 /// Changes a net and its sums. A change that would take the net past its limit is not made.
-pub fn follow(set: &ParamSet, sums: &mut OptionSums, i: usize, quantity: Quantity)
-    requires sums { AreSums set.now sums.old }
+pub fn follow(
+    set: &ParamSet,
+    nets: &mut [Quantity],
+    sums: &mut OptionSums,
+    i: usize,
+    quantity: Quantity,
+)
+    requires sums { AreSums set.now nets.old sums.old }
     requires contract { i < length set.now.contracts }
     requires quantity { unsigned_abs quantity ≤ 2 * 10 ^ 7 }
-    ensures { AreSums set.now sums.new }
+    ensures { AreSums set.now nets.new sums.new }
 {
-    if sums.net(i).plus(quantity).size() <= 10_000_000 {
-        sums.add(set, i, quantity);
+    let net = nets[i].plus(quantity);
+    if net.size() <= 10_000_000 {
+        sums.add(set, nets, i, quantity);
+        nets[i] = net;
     }
 }
 
 // A contract more, or less, of each.
-fn follow_all(set: &ParamSet, sums: &mut OptionSums, quantity: Quantity)
-    requires sums { AreSums set.now sums.old }
+fn follow_all(set: &ParamSet, nets: &mut [Quantity], sums: &mut OptionSums, quantity: Quantity)
+    requires sums { AreSums set.now nets.old sums.old }
     requires quantity { unsigned_abs quantity ≤ 2 * 10 ^ 7 }
-    ensures { AreSums set.now sums.new }
+    ensures { AreSums set.now nets.new sums.new }
 {
     for i in 0..set.contract_count() {
-        follow(set, sums, i, quantity);
+        follow(set, nets, sums, i, quantity);
     }
 }
 
@@ -36,14 +44,15 @@ fn follow_all(set: &ParamSet, sums: &mut OptionSums, quantity: Quantity)
 pub fn measure(
     clock: &impl Clock,
     set: &ParamSet,
+    nets: &mut [Quantity],
     sums: &mut OptionSums,
     rounds: usize,
 ) -> io::Result<u128>
-    requires { AreSums set.now sums.old }
+    requires { AreSums set.now nets.old sums.old }
 {
     let start = Instant::now(clock)?;
     for round in 0..rounds {
-        follow_all(set, sums, one_contract(round % 2 == 1));
+        follow_all(set, nets, sums, one_contract(round % 2 == 1));
     }
     Ok(start.elapsed(clock)?.as_nanos())
 }

@@ -12,29 +12,38 @@ use std::time::Instant;
 /// Changes a net, and the totals after it. A change that would take the net past its limit is not made.
 pub fn follow(
     set: &ParamSet,
+    nets: &mut [Quantity],
     totals: &mut ScanTotals,
     i: usize,
     quantity: Quantity,
     work: &mut Work,
 )
-    requires totals { AreTotals set.now totals.old }
+    requires totals { AreTotals set.now nets.old totals.old }
     requires contract { i < length set.now.contracts }
     requires quantity { unsigned_abs quantity ≤ 2 * 10 ^ 7 }
-    ensures { AreTotals set.now totals.new }
+    ensures { AreTotals set.now nets.new totals.new }
 {
-    if totals.net(i).plus(quantity).size() <= 10_000_000 {
-        totals.add(set, i, quantity, work);
+    let net = nets[i].plus(quantity);
+    if net.size() <= 10_000_000 {
+        totals.add(set, nets, i, quantity, work);
+        nets[i] = net;
     }
 }
 
 // A contract more, or less, of each.
-fn follow_all(set: &ParamSet, totals: &mut ScanTotals, quantity: Quantity, work: &mut Work)
-    requires totals { AreTotals set.now totals.old }
+fn follow_all(
+    set: &ParamSet,
+    nets: &mut [Quantity],
+    totals: &mut ScanTotals,
+    quantity: Quantity,
+    work: &mut Work,
+)
+    requires totals { AreTotals set.now nets.old totals.old }
     requires quantity { unsigned_abs quantity ≤ 2 * 10 ^ 7 }
-    ensures { AreTotals set.now totals.new }
+    ensures { AreTotals set.now nets.new totals.new }
 {
     for i in 0..set.contract_count() {
-        follow(set, totals, i, quantity, work);
+        follow(set, nets, totals, i, quantity, work);
     }
 }
 
@@ -42,16 +51,17 @@ fn follow_all(set: &ParamSet, totals: &mut ScanTotals, quantity: Quantity, work:
 pub fn measure(
     clock: &impl Clock,
     set: &ParamSet,
+    nets: &mut [Quantity],
     totals: &mut ScanTotals,
     rounds: usize,
 ) -> io::Result<u128>
-    requires { AreTotals set.now totals.old }
-    ensures { AreTotals set.now totals.new }
+    requires { AreTotals set.now nets.old totals.old }
+    ensures { AreTotals set.now nets.new totals.new }
 {
     let mut work = Work::new();
     let start = Instant::now(clock)?;
     for round in 0..rounds {
-        follow_all(set, totals, one_contract(round % 2 == 0), &mut work);
+        follow_all(set, nets, totals, one_contract(round % 2 == 0), &mut work);
     }
     Ok(start.elapsed(clock)?.as_nanos())
 }
@@ -64,7 +74,7 @@ pub fn measure_questions(
     commodities: usize,
     rounds: usize,
 ) -> io::Result<(u128, i128)>
-    requires { commodities ≤ length totals.now.rows }
+    requires { commodities ≤ length totals.now }
 {
     let mut sum: i128 = 0;
     let start = Instant::now(clock)?;

@@ -3,7 +3,7 @@
 ghost use Rattle.std.specs.Prelude.{◌≡◌, ◌*◌, ◌<◌, ◌≤◌, ◌^◌, length, unsigned_abs};
 ghost use Rattle.mgn_option.specs.Sums.{AreSums};
 
-use crate::sets::Worked;
+use crate::sets::{Worked, flat_nets};
 use mgn_num::Quantity;
 use mgn_option::OptionSums;
 use mgn_params::ParamSet;
@@ -24,17 +24,22 @@ fn some_quantity(rt: &impl Abort, contracts: i64) -> Quantity
 }
 
 // Makes a change, which leaves the net within its limit.
-fn follow(rt: &impl Abort, set: &ParamSet, sums: &mut OptionSums, change: &Change)
-    requires { AreSums set.now sums.old }
-    ensures { AreSums set.now sums.new }
+fn follow(
+    rt: &impl Abort,
+    set: &ParamSet,
+    nets: &mut [Quantity],
+    sums: &mut OptionSums,
+    change: &Change,
+)
+    requires { AreSums set.now nets.old sums.old }
+    ensures { AreSums set.now nets.new sums.new }
 {
     let quantity = some_quantity(rt, change.1);
     assert!(rt; change.0 < set.contract_count());
-    let net = sums.net(change.0).plus(quantity);
+    let net = nets[change.0].plus(quantity);
     assert!(rt; net.size() <= 10_000_000);
-    sums.add(set, change.0, quantity);
-    assert_eq!(rt; sums.net(change.0), net);
-    assert_eq!(rt; sums.nets().get(change.0).copied(), Some(net));
+    sums.add(set, nets, change.0, quantity);
+    nets[change.0] = net;
 }
 
 fn amounts_of(sums: &OptionSums) -> [i128; 3]
@@ -56,8 +61,9 @@ fn check_under(
 ) -> Result<(), Fail> {
     assert_eq!(rt; set.commodity_count(), 2);
     let mut sums = OptionSums::new(alloc, set)?;
+    let mut nets = flat_nets(alloc, set)?;
     for change in changes {
-        follow(rt, set, &mut sums, change);
+        follow(rt, set, &mut nets, &mut sums, change);
         assert_eq!(rt; amounts_of(&sums), change.2);
     }
     Ok(())

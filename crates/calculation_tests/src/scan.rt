@@ -3,7 +3,7 @@
 ghost use Rattle.std.specs.Prelude.{◌≡◌, ◌*◌, ◌<◌, ◌≤◌, ◌^◌, length, unsigned_abs};
 ghost use Rattle.mgn_scan.specs.Totals.{AreTotals};
 
-use crate::sets::Worked;
+use crate::sets::{Worked, flat_nets};
 use mgn_num::Quantity;
 use mgn_params::{ParamSet, Work};
 use mgn_scan::ScanTotals;
@@ -32,24 +32,24 @@ fn some_quantity(rt: &impl Abort, contracts: i64) -> Quantity
 fn follow(
     rt: &impl Abort,
     set: &ParamSet,
+    nets: &mut [Quantity],
     totals: &mut ScanTotals,
     change: &Change,
     work: &mut Work,
 )
-    requires { AreTotals set.now totals.old }
-    ensures { AreTotals set.now totals.new }
+    requires { AreTotals set.now nets.old totals.old }
+    ensures { AreTotals set.now nets.new totals.new }
 {
     let quantity = some_quantity(rt, change.1);
     assert!(rt; change.0 < set.contract_count());
-    let net = totals.net(change.0).plus(quantity);
+    let net = nets[change.0].plus(quantity);
     assert!(rt; net.size() <= 10_000_000);
-    totals.add(set, change.0, quantity, work);
-    assert_eq!(rt; totals.net(change.0), net);
-    assert_eq!(rt; totals.nets().get(change.0).copied(), Some(net));
+    totals.add(set, nets, change.0, quantity, work);
+    nets[change.0] = net;
 }
 
 fn figures_of(totals: &ScanTotals, commodity: usize) -> Scanned
-    requires { commodity < length totals.now.rows }
+    requires { commodity < length totals.now }
 {
     (
         totals.scan(commodity).amount(),
@@ -67,9 +67,10 @@ fn check_under(
 ) -> Result<(), Fail> {
     assert_eq!(rt; set.commodity_count(), 2);
     let mut totals = ScanTotals::new(alloc, set)?;
+    let mut nets = flat_nets(alloc, set)?;
     let mut work = Work::new();
     for change in changes {
-        follow(rt, set, &mut totals, change, &mut work);
+        follow(rt, set, &mut nets, &mut totals, change, &mut work);
         assert_eq!(rt;
             [figures_of(&totals, 0), figures_of(&totals, 1)],
             [change.2, change.3]

@@ -1,8 +1,11 @@
-//! Sets that tests read.
+//! Sets that tests read, and nets to begin with.
 
+ghost use Rattle.std.specs.Prelude.{◌≡◌, pos, length, replicate, IfOk};
+
+use mgn_num::Quantity;
 use mgn_params::ParamSet;
 use mgn_setfile::read_set;
-use std::alloc::Global;
+use std::alloc::{AllocError, Global};
 use std::test::Fail;
 use worked_sets::{
     extreme, flat, fut, legs, neg, odd, odd_legs, one, options, shared, spodd, spot,
@@ -82,4 +85,13 @@ impl Worked {
 /// The set of a text, read.
 pub(crate) fn read_text(alloc: Global, text: &str) -> Result<ParamSet, Fail> {
     Ok(read_set(alloc, text.as_bytes())?)
+}
+
+/// Nets of 0, one for each contract of a set.
+pub(crate) fn flat_nets(alloc: Global, set: &ParamSet) -> Result<Vec<Quantity>, AllocError>
+    ensures { IfOk result (λ nets. nets.items ≡ replicate (length set.now.contracts) (pos 0)) }
+{
+    let mut nets = Vec::new(alloc);
+    nets.resize(set.contract_count(), Quantity::ZERO)?;
+    Ok(nets)
 }

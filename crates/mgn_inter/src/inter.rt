@@ -1,6 +1,6 @@
 ghost use Rattle.std.specs.Prelude.{◌≡◌, ℕ, ◌+◌, ◌*◌, ◌^◌, ◌<◌, ◌≤◌, ◌≤ℤ◌, pos, unsigned_abs, length, replicate, slice_index, slice_set, IfOk, min};
 ghost use Rattle.mgn_inter.specs.Credited.{AreCreditsOf};
-ghost use Rattle.mgn_inter.specs.Rows.{AreFormed, KeepsNumbers};
+ghost use Rattle.mgn_inter.specs.Rows.{AreFormed, KeepsNumbers, MissesBelow};
 ghost use Rattle.mgn_inter.specs.Sizes.{IsRisk};
 ghost use Rattle.mgn_span.specs.Credits.{credits_of};
 ghost use Rattle.mgn_params.specs.Tables.{Tables};
@@ -144,10 +144,13 @@ impl InterCredits {
         self.rests[g] = delta;
     }
 
-    // The first spread that names a commodity, or the end of the spreads.
-    fn first_with(&self, set: &ParamSet, g: usize) -> usize
-        requires { g < length self.now.firsts }
-        ensures { result ≡ min (slice_index self.now.firsts g) (length set.now.credits) }
+    /// The place of the first spread that names the commodity at a place, or the number of spreads where none does. A
+    /// change of the commodity's numbers reaches no spread before it.
+    pub fn first_with(&self, set: &ParamSet, g: usize) -> usize
+        requires of_set { AreCreditsOf set.now self.now }
+        requires commodity { g < length set.now.commodities }
+        ensures place { result ≤ length set.now.credits }
+        ensures misses { MissesBelow set.now.credits result g }
     {
         usize::from(self.firsts[g]).min(set.credits().len())
     }
@@ -181,6 +184,7 @@ impl InterCredits {
     pub fn credit(&self, g: usize) -> Cents
         requires { (set : Tables) × AreCreditsOf set self.now × (g < length set.commodities) }
         ensures value { (set : Tables) → AreCreditsOf set self.now → result ≡ pos (slice_index (credits_of self.now.deltas self.now.risks set.credits) g) }
+        ensures kept { result ≡ pos (slice_index self.now.credits g) }
         ensures small { unsigned_abs result ≤ 256 * 10 ^ 33 }
     {
         Cents::new(self.credited(g) as i128)

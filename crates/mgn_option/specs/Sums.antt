@@ -1,4 +1,4 @@
--- Nets with their short option minimums, one for each commodity of a set in file order, and their net option value.
+-- Short option minimums, one for each commodity of a set in file order, and the net option value.
 use Rattle.std.specs.Prelude.{ℕ, ◌*◌, ◌≡◌, ◌<◌, ◌≤◌, ◌^◌, ℤ, unsigned_abs, List, length, slice_index, All}
 use Rattle.mgn_span.specs.Options.{net_option_value}
 use Rattle.mgn_span.specs.Positions.{IsNet, positions}
@@ -14,15 +14,14 @@ abbrev pub IsOptionValue : ℤ → Type 0
 IsOptionValue value = unsigned_abs value ≤ 4096 * 10 ^ 15
 
 pub record Sums : Type 0 where
-  pub nets : List ℤ
   pub minimums : List ℕ
   pub value : ℤ
 
--- the minimums and the value are those of the nets under this set (CME SPAN), one net for each contract and within its
+-- the minimums and the value are those of these nets under this set (CME SPAN), one net for each contract and within its
 -- limit
-pub record AreSums (set : Tables) (sums : Sums) : Type 0 where
-  pub one_each : length sums.nets ≡ length set.contracts
-  pub small : All IsNet sums.nets
+pub record AreSums (set : Tables) (nets : List ℤ) (sums : Sums) : Type 0 where
+  pub one_each : length nets ≡ length set.contracts
+  pub small : All IsNet nets
   pub one_minimum_each : length sums.minimums ≡ length set.commodities
-  pub each : (g : ℕ) → g < length set.commodities → slice_index sums.minimums g ≡ minimum set (positions set.contracts sums.nets) g
-  pub value_is : sums.value ≡ net_option_value (positions set.contracts sums.nets)
+  pub each : (g : ℕ) → g < length set.commodities → slice_index sums.minimums g ≡ minimum set (positions set.contracts nets) g
+  pub value_is : sums.value ≡ net_option_value (positions set.contracts nets)

@@ -1,4 +1,4 @@
-ghost use Rattle.std.specs.Prelude.{◌≡◌, ◌*◌, ◌<◌, ◌≤◌, ◌^◌, pos, ◌+ℤ◌, ◌≤ℤ◌, unsigned_abs, length, replicate, slice_index, slice_set, IfOk};
+ghost use Rattle.std.specs.Prelude.{◌≡◌, ℤ, List, ◌*◌, ◌<◌, ◌≤◌, ◌^◌, pos, ◌+ℤ◌, ◌≤ℤ◌, unsigned_abs, length, replicate, slice_index, slice_set, IfOk};
 ghost use Rattle.mgn_span.specs.Options.{net_option_value};
 ghost use Rattle.mgn_span.specs.Positions.{IsNet, positions};
 ghost use Rattle.mgn_span.specs.Requirement.{minimum};
@@ -16,11 +16,10 @@ use std::marker::Model;
 /// The short option minimum of each commodity of a set and the net option value, kept while the nets of its contracts
 /// change.
 ///
-/// The nets are kept too, since a sale counts only for the part that leaves a net short. Contracts see the nets with
-/// their sums; `AreSums set sums` says that they are sums under this set.
+/// The nets themselves are the caller's. Contracts see the minimums and the value; `AreSums set nets sums` says that they
+/// are those of these nets under this set.
 #[derive(Drop)]
 pub struct OptionSums {
-    nets: Vec<Quantity>,
     minimums: Vec<Minimum>,
     value: Cents,
 }
@@ -30,18 +29,9 @@ impl Model for OptionSums {
 
     ghost Value = { Sums };
 
-    ghost view = { λ s. record { nets = s.nets.items; minimums = s.minimums.items; value = s.value } };
+    ghost view = { λ s. record { minimums = s.minimums.items; value = s.value } };
 
     ghost invariant = { λ s. IsOptionValue s.value };
-}
-
-// Nets of 0.
-fn flat_nets(alloc: Global, count: usize) -> Result<Vec<Quantity>, AllocError>
-    ensures { IfOk result (λ nets. nets.items ≡ replicate count (pos 0)) }
-{
-    let mut nets = Vec::new(alloc);
-    nets.resize(count, Quantity::ZERO)?;
-    Ok(nets)
 }
 
 // Minimums of 0.
@@ -70,64 +60,46 @@ fn minimum_at(minimums: &[Minimum], commodity: usize) -> Minimum
 impl OptionSums {
     /// The sums of nets of 0 under a set. An error says that memory was refused; no later call takes any.
     pub fn new(alloc: Global, set: &ParamSet) -> Result<Self, AllocError>
-        ensures sums { IfOk result (AreSums set.now) }
-        ensures nets { IfOk result (λ sums. sums.nets ≡ replicate (length set.now.contracts) (pos 0)) }
+        ensures { IfOk result (AreSums set.now (replicate (length set.now.contracts) (pos 0))) }
     {
-        let nets = flat_nets(alloc, set.contract_count())?;
         let minimums = flat_minimums(alloc, set.commodity_count())?;
         Ok(OptionSums {
-            nets,
             minimums,
             value: Cents::ZERO,
         })
     }
 
-    /// Changes one net: a quantity more of the contract at `i`, bought above 0 and sold below.
+    /// Follows a change of one net: a quantity more of the contract at `i`, bought above 0 and sold below.
     ///
-    /// The set must be the one of the sums, and the changed net at most 10,000,000 in size. The cost does not hang on
-    /// the number of contracts.
-    pub fn add(&mut self, set: &ParamSet, i: usize, quantity: Quantity)
-        requires sums { AreSums set.now self.old }
+    /// The nets are those before the change, since a sale counts only for the part that leaves a net short. The set must
+    /// be the one of the sums, and the changed net at most 10,000,000 in size. The cost does not hang on the number of
+    /// contracts.
+    pub fn add(&mut self, set: &ParamSet, nets: &[Quantity], i: usize, quantity: Quantity)
+        requires sums { AreSums set.now nets.now self.old }
         requires contract { i < length set.now.contracts }
-        requires net { IsNet (value_at self.old.nets i +ℤ quantity) }
-        ensures sums { AreSums set.now self.new }
-        ensures nets { self.new.nets ≡ slice_set self.old.nets i (value_at self.old.nets i +ℤ quantity) }
+        requires net { IsNet (value_at nets.now i +ℤ quantity) }
+        ensures { AreSums set.now (slice_set nets.now i (value_at nets.now i +ℤ quantity)) self.new }
     {
         set.limits();
         let contract = set.contract_at(i);
         let commodity = contract.commodity;
         let charge = &set.commodity_at(commodity).short_option_charge;
-        let before = net_at(&self.nets, i);
+        let before = net_at(nets, i);
         let after = before.plus(quantity);
         self.minimums[commodity] = minimum_at(&self.minimums, commodity).moved(
             share_of_minimum(contract, before, charge),
             share_of_minimum(contract, after, charge),
         );
         self.value = self.value.plus(share_of_value(contract, quantity));
-        self.nets[i] = after;
-    }
-
-    /// The net of a contract.
-    pub fn net(&self, contract: usize) -> Quantity
-        requires { contract < length self.now.nets }
-        ensures { result ≡ value_at self.now.nets contract }
-    {
-        net_at(&self.nets, contract)
-    }
-
-    /// The nets, one for each contract of the set in file order.
-    pub fn nets(&self) -> &[Quantity]
-        ensures { result.now ≡ self.now.nets }
-    {
-        self.nets.as_slice()
     }
 
     /// The short option minimum of a commodity in cents, 0 to 256 * 10^16: its charge for each option sold and not
     /// bought back, puts and calls added (CME SPAN).
     pub fn minimum(&self, commodity: usize) -> Cents
         requires { commodity < length self.now.minimums }
-        ensures minimum { (set : Tables) → AreSums set self.now →
-            result ≡ pos (minimum set (positions set.contracts self.now.nets) commodity) }
+        ensures minimum { (set : Tables) (nets : List ℤ) → AreSums set nets self.now →
+            result ≡ pos (minimum set (positions set.contracts nets) commodity) }
+        ensures kept { result ≡ pos (slice_index self.now.minimums commodity) }
         ensures not_negative { pos 0 ≤ℤ result }
         ensures small { unsigned_abs result ≤ 256 * 10 ^ 16 }
     {
@@ -137,8 +109,8 @@ impl OptionSums {
     /// The net option value in cents, at most 4,096 * 10^15 in size: net times market value over the options that are
     /// paid for at once (CME SPAN).
     pub fn value(&self) -> Cents
-        ensures value { (set : Tables) → AreSums set self.now →
-            result ≡ net_option_value (positions set.contracts self.now.nets) }
+        ensures value { (set : Tables) (nets : List ℤ) → AreSums set nets self.now →
+            result ≡ net_option_value (positions set.contracts nets) }
         ensures small { unsigned_abs result ≤ 4096 * 10 ^ 15 }
     {
         self.value

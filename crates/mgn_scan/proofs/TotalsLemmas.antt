@@ -17,22 +17,22 @@ use Rattle.mgn_span.proofs.FlatLemmas.{AreFlat-replicate, scenario_total_flat}
 use Rattle.mgn_span.proofs.PositionLemmas.{position_sum-set}
 use Rattle.mgn_span.proofs.ScanLemmas.{active_same, price_risk2_same, scan_risk_same}
 use Rattle.mgn_span.proofs.ShareLemmas.{scenario_share_out, scenario_total_small}
-use Rattle.mgn_scan.specs.Totals.{AreTotals, IsTotal, Totals}
+use Rattle.mgn_scan.specs.Totals.{AreTotals, IsTotal}
 
 -- The start.
 
 -- rows of 0 are the totals of nets of 0
-pub AreTotals-flat : (t : Tables) (totals : Totals) → totals.nets ≡ replicate (length t.contracts) (pos 0) → totals.rows ≡ replicate (length t.commodities) (replicate 16 (pos 0)) → AreTotals t totals
-AreTotals-flat t totals nets rows =
+pub AreTotals-flat : (t : Tables) (rows : List (List ℤ)) → rows ≡ replicate (length t.commodities) (replicate 16 (pos 0)) → AreTotals t (replicate (length t.contracts) (pos 0)) rows
+AreTotals-flat t rows are =
     let n = length t.contracts in
     let m = length t.commodities in
     let zeros : List ℤ = replicate 16 (pos 0) in
     record {
-      one_each = ap length nets ∙ length-replicate {A = ℤ} n (pos 0);
-      small = rw nets (All-replicate IsNet n (pos 0) (omega (arith, ints)));
-      one_row_each = ap length rows ∙ length-replicate {A = List ℤ} m zeros;
+      one_each = length-replicate {A = ℤ} n (pos 0);
+      small = All-replicate IsNet n (pos 0) (omega (arith, ints));
+      one_row_each = ap length are ∙ length-replicate {A = List ℤ} m zeros;
       each = λ g s h k.
-          ap (λ (xs : List (List ℤ)). total_of xs g s) rows ∙ ap (λ (row : List ℤ). value_at row s) (get_or-replicate m g zeros [] h) ∙ get_or-replicate 16 s (pos 0) (pos 0) k ∙ sym (scenario_total_flat t.contracts (replicate n (pos 0)) g s (AreFlat-replicate n)) ∙ ap (λ (ns : List ℤ). scenario_total g (positions t.contracts ns) s) (sym nets);
+          ap (λ (xs : List (List ℤ)). total_of xs g s) are ∙ ap (λ (row : List ℤ). value_at row s) (get_or-replicate m g zeros [] h) ∙ get_or-replicate 16 s (pos 0) (pos 0) k ∙ sym (scenario_total_flat t.contracts (replicate n (pos 0)) g s (AreFlat-replicate n));
     }
 
 -- A change.
@@ -52,47 +52,47 @@ scenario_share_in : (g s : ℕ) (c : Contract) (n : ℤ) → c.commodity ≡ g �
 scenario_share_in g s c n e = grind arith
 
 -- each total of the contract's commodity moves by its array times the quantity
-changed_total : (t : Tables) (totals : Totals) (i g s : ℕ) (q : ℤ) → AreTotals t totals → i < length t.contracts → (contract_at t.contracts i).commodity ≡ g → g < length t.commodities → s < 16 → scenario_total g (positions t.contracts (set totals.nets i (value_at totals.nets i +ℤ q))) s ≡ total_of totals.rows g s +ℤ q *ℤ value_at (contract_at t.contracts i).array s
-changed_total t totals i g s q are h is low k =
-    let moved = scenario_total-set t totals.nets g s i q h are.one_each in
+changed_total : (t : Tables) (nets : List ℤ) (rows : List (List ℤ)) (i g s : ℕ) (q : ℤ) → AreTotals t nets rows → i < length t.contracts → (contract_at t.contracts i).commodity ≡ g → g < length t.commodities → s < 16 → scenario_total g (positions t.contracts (set nets i (value_at nets i +ℤ q))) s ≡ total_of rows g s +ℤ q *ℤ value_at (contract_at t.contracts i).array s
+changed_total t nets rows i g s q are h is low k =
+    let moved = scenario_total-set t nets g s i q h are.one_each in
     let share = scenario_share_in g s (contract_at t.contracts i) q is in
     omega (arith, ints, moved, share, are.each g s low k)
 
 -- and is still a total
-pub changed_total_small : (t : Tables) (totals : Totals) (i g s : ℕ) (q : ℤ) → IsWithinLimits t → AreTotals t totals → i < length t.contracts → IsNet (value_at totals.nets i +ℤ q) → (contract_at t.contracts i).commodity ≡ g → g < length t.commodities → s < 16 → IsTotal (total_of totals.rows g s +ℤ q *ℤ value_at (contract_at t.contracts i).array s)
-changed_total_small t totals i g s q limits are h net is low k =
-    let now : List ℤ = set totals.nets i (value_at totals.nets i +ℤ q) in
-    let one_each : length now ≡ length t.contracts = length-set totals.nets i (value_at totals.nets i +ℤ q) ∙ are.one_each in
-    let small = scenario_total_small t now g s limits one_each (All-set IsNet totals.nets i (value_at totals.nets i +ℤ q) net are.small) in
-    omega (arith, ints, small, changed_total t totals i g s q are h is low k)
+pub changed_total_small : (t : Tables) (nets : List ℤ) (rows : List (List ℤ)) (i g s : ℕ) (q : ℤ) → IsWithinLimits t → AreTotals t nets rows → i < length t.contracts → IsNet (value_at nets i +ℤ q) → (contract_at t.contracts i).commodity ≡ g → g < length t.commodities → s < 16 → IsTotal (total_of rows g s +ℤ q *ℤ value_at (contract_at t.contracts i).array s)
+changed_total_small t nets rows i g s q limits are h net is low k =
+    let now : List ℤ = set nets i (value_at nets i +ℤ q) in
+    let one_each : length now ≡ length t.contracts = length-set nets i (value_at nets i +ℤ q) ∙ are.one_each in
+    let small = scenario_total_small t now g s limits one_each (All-set IsNet nets i (value_at nets i +ℤ q) net are.small) in
+    omega (arith, ints, small, changed_total t nets rows i g s q are h is low k)
 
 -- a net of the totals is within its limit
-net_small : (t : Tables) (totals : Totals) (i : ℕ) → AreTotals t totals → i < length t.contracts → IsNet (value_at totals.nets i)
-net_small t totals i are h = are.small i (pos 0) (omega (arith, are.one_each, h))
+net_small : (t : Tables) (nets : List ℤ) (rows : List (List ℤ)) (i : ℕ) → AreTotals t nets rows → i < length t.contracts → IsNet (value_at nets i)
+net_small t nets rows i are h = are.small i (pos 0) (omega (arith, are.one_each, h))
 
 -- a change of a net within its limit is no larger than twice that
-pub quantity_small : (t : Tables) (totals : Totals) (i : ℕ) (q : ℤ) → AreTotals t totals → i < length t.contracts → IsNet (value_at totals.nets i +ℤ q) → unsigned_abs q ≤ 2 * 10 ^ 7
-quantity_small t totals i q are h net = omega (arith, ints, net_small t totals i are h, net)
+pub quantity_small : (t : Tables) (nets : List ℤ) (rows : List (List ℤ)) (i : ℕ) (q : ℤ) → AreTotals t nets rows → i < length t.contracts → IsNet (value_at nets i +ℤ q) → unsigned_abs q ≤ 2 * 10 ^ 7
+quantity_small t nets rows i q are h net = omega (arith, ints, net_small t nets rows i are h, net)
 
 -- the totals afterwards: the row of the contract's commodity has moved, and the others are as they were
-pub AreTotals-changed : (t : Tables) (totals : Totals) (i g : ℕ) (q : ℤ) (row : List ℤ) → AreTotals t totals → i < length t.contracts → IsNet (value_at totals.nets i +ℤ q) → (contract_at t.contracts i).commodity ≡ g → g < length t.commodities → ((s : ℕ) → s < 16 → value_at row s ≡ total_of totals.rows g s +ℤ q *ℤ value_at (contract_at t.contracts i).array s) → (let now : Totals = record { nets = set totals.nets i (value_at totals.nets i +ℤ q); rows = set totals.rows g row } in AreTotals t now)
-AreTotals-changed t totals i g q row are h small is low added =
-    let net = value_at totals.nets i +ℤ q in
-    let here : g < length totals.rows = omega (arith, are.one_row_each) in
+pub AreTotals-changed : (t : Tables) (nets : List ℤ) (rows : List (List ℤ)) (i g : ℕ) (q : ℤ) (row : List ℤ) → AreTotals t nets rows → i < length t.contracts → IsNet (value_at nets i +ℤ q) → (contract_at t.contracts i).commodity ≡ g → g < length t.commodities → ((s : ℕ) → s < 16 → value_at row s ≡ total_of rows g s +ℤ q *ℤ value_at (contract_at t.contracts i).array s) → AreTotals t (set nets i (value_at nets i +ℤ q)) (set rows g row)
+AreTotals-changed t nets rows i g q row are h small is low added =
+    let net = value_at nets i +ℤ q in
+    let here : g < length rows = omega (arith, are.one_row_each) in
     record {
-      one_each = length-set totals.nets i net ∙ are.one_each;
-      small = All-set IsNet totals.nets i net small are.small;
-      one_row_each = length-set totals.rows g row ∙ are.one_row_each;
+      one_each = length-set nets i net ∙ are.one_each;
+      small = All-set IsNet nets i net small are.small;
+      one_row_each = length-set rows g row ∙ are.one_row_each;
       each = λ k s p b.
           ⊎_elim
           (λ (same : k ≡ g).
-          let row_now = ap (λ (xs : List ℤ). value_at xs s) (ap (λ (j : ℕ). get_or (set totals.rows g row) j []) same ∙ get_or-set_same totals.rows g row [] here) in
-          let total = changed_total t totals i g s q are h is low b in
-          let there = ap (λ (j : ℕ). scenario_total j (positions t.contracts (set totals.nets i net)) s) same in
+          let row_now = ap (λ (xs : List ℤ). value_at xs s) (ap (λ (j : ℕ). get_or (set rows g row) j []) same ∙ get_or-set_same rows g row [] here) in
+          let total = changed_total t nets rows i g s q are h is low b in
+          let there = ap (λ (j : ℕ). scenario_total j (positions t.contracts (set nets i net)) s) same in
           omega (arith, ints, row_now, added s b, total, there))
           (λ (other : k ≢ g).
-          let row_now = ap (λ (xs : List ℤ). value_at xs s) (get_or-set_other totals.rows g k row [] other) in
-          let moved = scenario_total-set t totals.nets k s i q h are.one_each in
+          let row_now = ap (λ (xs : List ℤ). value_at xs s) (get_or-set_other rows g k row [] other) in
+          let moved = scenario_total-set t nets k s i q h are.one_each in
           let share = scenario_share_out k s (contract_at t.contracts i) q (λ e. other (sym e ∙ is)) in
           omega (arith, ints, row_now, moved, share, are.each k s p b))
           (cases_eq k g);
@@ -101,18 +101,18 @@ AreTotals-changed t totals i g q row are h small is low added =
 -- Questions.
 
 -- the row of a commodity is its totals
-row_is : (t : Tables) (totals : Totals) (row : List ℤ) (g : ℕ) → AreTotals t totals → g < length totals.rows → row ≡ totals_of totals.rows g → (s : ℕ) → s < 16 → value_at row s ≡ scenario_total g (positions t.contracts totals.nets) s
-row_is t totals row g are h is s k =
+row_is : (t : Tables) (nets : List ℤ) (rows : List (List ℤ)) (row : List ℤ) (g : ℕ) → AreTotals t nets rows → g < length rows → row ≡ totals_of rows g → (s : ℕ) → s < 16 → value_at row s ≡ scenario_total g (positions t.contracts nets) s
+row_is t nets rows row g are h is s k =
     ap (λ (xs : List ℤ). value_at xs s) is ∙ are.each g s (omega (arith, are.one_row_each)) k
 
-pub scan_is : (t : Tables) (totals : Totals) (row : List ℤ) (g : ℕ) → AreTotals t totals → g < length totals.rows → row ≡ totals_of totals.rows g → scan_risk (value_at row) ≡ scan_of (positions t.contracts totals.nets) g
-scan_is t totals row g are h is =
-    scan_risk_same (value_at row) (scenario_total g (positions t.contracts totals.nets)) (row_is t totals row g are h is)
+pub scan_is : (t : Tables) (nets : List ℤ) (rows : List (List ℤ)) (row : List ℤ) (g : ℕ) → AreTotals t nets rows → g < length rows → row ≡ totals_of rows g → scan_risk (value_at row) ≡ scan_of (positions t.contracts nets) g
+scan_is t nets rows row g are h is =
+    scan_risk_same (value_at row) (scenario_total g (positions t.contracts nets)) (row_is t nets rows row g are h is)
 
-pub active_is : (t : Tables) (totals : Totals) (row : List ℤ) (g : ℕ) → AreTotals t totals → g < length totals.rows → row ≡ totals_of totals.rows g → active (value_at row) ≡ active (scenario_total g (positions t.contracts totals.nets))
-active_is t totals row g are h is =
-    active_same (value_at row) (scenario_total g (positions t.contracts totals.nets)) (row_is t totals row g are h is)
+pub active_is : (t : Tables) (nets : List ℤ) (rows : List (List ℤ)) (row : List ℤ) (g : ℕ) → AreTotals t nets rows → g < length rows → row ≡ totals_of rows g → active (value_at row) ≡ active (scenario_total g (positions t.contracts nets))
+active_is t nets rows row g are h is =
+    active_same (value_at row) (scenario_total g (positions t.contracts nets)) (row_is t nets rows row g are h is)
 
-pub price_risk2_is : (t : Tables) (totals : Totals) (row : List ℤ) (g : ℕ) → AreTotals t totals → g < length totals.rows → row ≡ totals_of totals.rows g → price_risk2 (value_at row) ≡ price_risk2 (scenario_total g (positions t.contracts totals.nets))
-price_risk2_is t totals row g are h is =
-    price_risk2_same (value_at row) (scenario_total g (positions t.contracts totals.nets)) (row_is t totals row g are h is)
+pub price_risk2_is : (t : Tables) (nets : List ℤ) (rows : List (List ℤ)) (row : List ℤ) (g : ℕ) → AreTotals t nets rows → g < length rows → row ≡ totals_of rows g → price_risk2 (value_at row) ≡ price_risk2 (scenario_total g (positions t.contracts nets))
+price_risk2_is t nets rows row g are h is =
+    price_risk2_same (value_at row) (scenario_total g (positions t.contracts nets)) (row_is t nets rows row g are h is)

@@ -1,5 +1,4 @@
--- Nets with their rows of totals: one row for each commodity of a set in file order, and in it one total for each of the
--- 16 scenarios.
+-- Rows of totals: one row for each commodity of a set in file order, and in it one total for each of the 16 scenarios.
 use Rattle.std.specs.Prelude.{ℕ, ◌*◌, ◌≡◌, ◌<◌, ◌≤◌, ◌^◌, ℤ, unsigned_abs, List, length, All}
 use Rattle.mgn_span.specs.Positions.{IsNet, positions}
 use Rattle.mgn_span.specs.Scan.{scenario_total}
@@ -10,13 +9,9 @@ use Rattle.mgn_span.specs.Words.{total_of}
 abbrev pub IsTotal : ℤ → Type 0
 IsTotal total = unsigned_abs total ≤ 256 * 10 ^ 15
 
-pub record Totals : Type 0 where
-  pub nets : List ℤ
-  pub rows : List (List ℤ)
-
--- each is the total of the nets under this set (CME SPAN), one net for each contract and within its limit
-pub record AreTotals (set : Tables) (totals : Totals) : Type 0 where
-  pub one_each : length totals.nets ≡ length set.contracts
-  pub small : All IsNet totals.nets
-  pub one_row_each : length totals.rows ≡ length set.commodities
-  pub each : (g s : ℕ) → g < length set.commodities → s < 16 → total_of totals.rows g s ≡ scenario_total g (positions set.contracts totals.nets) s
+-- each is the total of these nets under this set (CME SPAN), one net for each contract and within its limit
+pub record AreTotals (set : Tables) (nets : List ℤ) (rows : List (List ℤ)) : Type 0 where
+  pub one_each : length nets ≡ length set.contracts
+  pub small : All IsNet nets
+  pub one_row_each : length rows ≡ length set.commodities
+  pub each : (g s : ℕ) → g < length set.commodities → s < 16 → total_of rows g s ≡ scenario_total g (positions set.contracts nets) s

@@ -1,4 +1,4 @@
-ghost use Rattle.std.specs.Prelude.{◌≡◌, ◌+◌, ◌-◌, ◌*◌, ◌<◌, ◌≤◌, ◌^◌, pos, ◌+ℤ◌, ◌≤ℤ◌, unsigned_abs, length, min, replicate, slice_set, IfOk};
+ghost use Rattle.std.specs.Prelude.{◌≡◌, ℤ, List, ◌+◌, ◌-◌, ◌*◌, ◌<◌, ◌≤◌, ◌^◌, pos, ◌+ℤ◌, ◌≤ℤ◌, unsigned_abs, length, min, replicate, slice_set, IfOk};
 ghost use Rattle.mgn_span.specs.Positions.{IsNet, positions};
 ghost use Rattle.mgn_span.specs.Requirement.{scan_of};
 ghost use Rattle.mgn_span.specs.Scan.{active, price_risk2, scenario_total, value_at};
@@ -15,29 +15,19 @@ use std::marker::Model;
 
 /// The totals of the 16 scenarios of each commodity of a set, kept while the nets of its contracts change.
 ///
-/// The nets are kept too, so that the totals say whose they are. Contracts see the nets with the rows of totals, one
-/// for each commodity in file order; `AreTotals set totals` says that they are totals under this set.
+/// The nets themselves are the caller's. Contracts see the rows of totals, one for each commodity in file order;
+/// `AreTotals set nets totals` says that they are the totals of these nets under this set.
 #[derive(Drop)]
 pub struct ScanTotals {
-    nets: Vec<Quantity>,
     rows: Vec<[Total; 16]>,
 }
 
 impl Model for ScanTotals {
-    ghost use Rattle.mgn_scan.specs.Totals.{Totals};
+    ghost use Rattle.std.specs.Prelude.{List, ℤ};
 
-    ghost Value = { Totals };
+    ghost Value = { List (List ℤ) };
 
-    ghost view = { λ t. record { nets = t.nets.items; rows = t.rows.items } };
-}
-
-// Nets of 0.
-fn flat_nets(alloc: Global, count: usize) -> Result<Vec<Quantity>, AllocError>
-    ensures { IfOk result (λ nets. nets.items ≡ replicate count (pos 0)) }
-{
-    let mut nets = Vec::new(alloc);
-    nets.resize(count, Quantity::ZERO)?;
-    Ok(nets)
+    ghost view = { λ t. t.rows.items };
 }
 
 // Rows of totals of 0.
@@ -49,61 +39,42 @@ fn flat_rows(alloc: Global, count: usize) -> Result<Vec<[Total; 16]>, AllocError
     Ok(rows)
 }
 
-fn net_at(nets: &[Quantity], contract: usize) -> Quantity
-    requires { contract < length nets.now }
-    ensures { result ≡ value_at nets.now contract }
-{
-    nets[contract]
-}
-
 impl ScanTotals {
     /// The totals of nets of 0 under a set. An error says that memory was refused; no later call takes any.
     pub fn new(alloc: Global, set: &ParamSet) -> Result<Self, AllocError>
-        ensures totals { IfOk result (AreTotals set.now) }
-        ensures nets { IfOk result (λ totals. totals.nets ≡ replicate (length set.now.contracts) (pos 0)) }
+        ensures { IfOk result (AreTotals set.now (replicate (length set.now.contracts) (pos 0))) }
     {
-        let nets = flat_nets(alloc, set.contract_count())?;
         let rows = flat_rows(alloc, set.commodity_count())?;
-        Ok(ScanTotals { nets, rows })
+        Ok(ScanTotals { rows })
     }
 
-    /// Changes one net: a quantity more of the contract at `i`, bought above 0 and sold below.
+    /// Follows a change of one net: a quantity more of the contract at `i`, bought above 0 and sold below.
     ///
-    /// The set must be the one of the totals, and the changed net at most 10,000,000 in size. One array is read, whatever
-    /// the number of contracts.
-    pub fn add(&mut self, set: &ParamSet, i: usize, quantity: Quantity, work: &mut Work)
-        requires totals { AreTotals set.now self.old }
+    /// The nets are those before the change, the set must be the one of the totals, and the changed net at most
+    /// 10,000,000 in size. One array is read, whatever the number of contracts.
+    pub fn add(
+        &mut self,
+        set: &ParamSet,
+        nets: &[Quantity],
+        i: usize,
+        quantity: Quantity,
+        work: &mut Work,
+    )
+        requires totals { AreTotals set.now nets.now self.old }
         requires contract { i < length set.now.contracts }
-        requires net { IsNet (value_at self.old.nets i +ℤ quantity) }
-        ensures totals { AreTotals set.now self.new }
-        ensures nets { self.new.nets ≡ slice_set self.old.nets i (value_at self.old.nets i +ℤ quantity) }
+        requires net { IsNet (value_at nets.now i +ℤ quantity) }
+        ensures totals { AreTotals set.now (slice_set nets.now i (value_at nets.now i +ℤ quantity)) self.new }
         ensures counted { work.new ≡ min (work.old + 1) (2 ^ 64 - 1) }
     {
         set.limits();
         let row = &mut self.rows[set.contract_at(i).commodity];
         add_scaled(row, set.array(i, work), quantity);
-        self.nets[i] = net_at(&self.nets, i).plus(quantity);
-    }
-
-    /// The net of a contract.
-    pub fn net(&self, contract: usize) -> Quantity
-        requires { contract < length self.now.nets }
-        ensures { result ≡ value_at self.now.nets contract }
-    {
-        net_at(&self.nets, contract)
-    }
-
-    /// The nets, one for each contract of the set in file order.
-    pub fn nets(&self) -> &[Quantity]
-        ensures { result.now ≡ self.now.nets }
-    {
-        self.nets.as_slice()
     }
 
     // The totals of a commodity.
     fn row(&self, commodity: usize) -> &[Total; 16]
-        requires { commodity < length self.now.rows }
-        ensures { result.now ≡ totals_of self.now.rows commodity }
+        requires { commodity < length self.now }
+        ensures { result.now ≡ totals_of self.now commodity }
     {
         &self.rows[commodity]
     }
@@ -111,9 +82,9 @@ impl ScanTotals {
     /// The scan risk of a commodity in cents, 0 to 256 * 10^15: the largest total, or 0 where none is above it (CME
     /// SPAN).
     pub fn scan(&self, commodity: usize) -> Cents
-        requires commodity { commodity < length self.now.rows }
-        ensures scan { (set : Tables) → AreTotals set self.now →
-            result ≡ scan_of (positions set.contracts self.now.nets) commodity }
+        requires commodity { commodity < length self.now }
+        ensures scan { (set : Tables) (nets : List ℤ) → AreTotals set nets self.now →
+            result ≡ scan_of (positions set.contracts nets) commodity }
         ensures not_negative { pos 0 ≤ℤ result }
         ensures small { unsigned_abs result ≤ 256 * 10 ^ 15 }
     {
@@ -123,9 +94,9 @@ impl ScanTotals {
     /// The place of the active scenario of a commodity, 0 to 15: its number less 1. It is the lowest-numbered of those
     /// with the largest total (CME SPAN; the lowest of ties is of this profile).
     pub fn active(&self, commodity: usize) -> usize
-        requires commodity { commodity < length self.now.rows }
-        ensures active { (set : Tables) → AreTotals set self.now →
-            result ≡ active (scenario_total commodity (positions set.contracts self.now.nets)) }
+        requires commodity { commodity < length self.now }
+        ensures active { (set : Tables) (nets : List ℤ) → AreTotals set nets self.now →
+            result ≡ active (scenario_total commodity (positions set.contracts nets)) }
         ensures scenario { result < 16 }
     {
         active_scenario(self.row(commodity))
@@ -133,9 +104,9 @@ impl ScanTotals {
 
     /// Twice the price risk of a commodity in cents, 0 to 1.1 * 10^18 (own profile, after SPAN).
     pub fn price_risk2(&self, commodity: usize) -> Cents
-        requires commodity { commodity < length self.now.rows }
-        ensures price_risk2 { (set : Tables) → AreTotals set self.now →
-            result ≡ price_risk2 (scenario_total commodity (positions set.contracts self.now.nets)) }
+        requires commodity { commodity < length self.now }
+        ensures price_risk2 { (set : Tables) (nets : List ℤ) → AreTotals set nets self.now →
+            result ≡ price_risk2 (scenario_total commodity (positions set.contracts nets)) }
         ensures not_negative { pos 0 ≤ℤ result }
         ensures small { unsigned_abs result ≤ 11 * 10 ^ 17 }
     {

@@ -201,3 +201,25 @@ short_option_minimum_flat cs ns g charge h =
 
 pub net_option_value_flat : (cs : List Contract) (ns : List ℤ) → AreFlat ns → net_option_value (positions cs ns) ≡ pos 0
 net_option_value_flat cs ns h = value_flat (positions cs ns) (held_flat cs ns h)
+
+-- nor does a commodity risk anything
+
+pub scan_of_flat : (cs : List Contract) (ns : List ℤ) (g : ℕ) → AreFlat ns → scan_of (positions cs ns) g ≡ pos 0
+scan_of_flat cs ns g h = scan_flat (positions cs ns) (held_flat cs ns h) g
+
+pub intra_charge_flat : (set : Tables) (ns : List ℤ) (g : ℕ) → AreFlat ns → intra_charge set (positions set.contracts ns) g ≡ 0
+unfolding intra_charge
+intra_charge_flat set ns g h =
+    let held = positions set.contracts ns in
+    charges_zero (starts_of set.months held g) (starts_flat set.months held (held_flat set.contracts ns h) g) (stages_of set.spreads g)
+
+pub spot_charge_flat : (set : Tables) (ns : List ℤ) (g : ℕ) → AreFlat ns → spot_charge set (positions set.contracts ns) g ≡ 0
+unfolding spot_charge
+spot_charge_flat set ns g h =
+    let held = positions set.contracts ns in
+    let starts = starts_flat set.months held (held_flat set.contracts ns h) g in
+    let stages = stages_of set.spreads g in
+    spot_zero (starts_of set.months held g) (left_by (starts_of set.months held g) stages) starts (left_by_zero (starts_of set.months held g) starts stages) (spot_of set.spots g)
+
+pub risk_of_flat : (set : Tables) (ns : List ℤ) (g : ℕ) → AreFlat ns → risk set (positions set.contracts ns) g ≡ pos 0
+risk_of_flat set ns g h = risk_flat set (positions set.contracts ns) (held_flat set.contracts ns h) g

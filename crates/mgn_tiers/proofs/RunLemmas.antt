@@ -18,7 +18,7 @@ left_small run left charged kept firsts is k =
     rw is.left_is (omega (arith, left_by_le run.starts (take run.formed run.stages) k, is.small k))
 
 -- the stages that are formed charge no more than 10^28 each
-pub charged_small : (run : Run) (left : List ℕ) (charged : ℕ) (kept : List Kept) (firsts : List ℕ) → IsRun run left charged kept firsts → charged ≤ run.formed * 10 ^ 28
+pub charged_small : (run : Run) (left : List ℕ) (charged : ℕ) (kept : List Kept) (firsts : List ℕ) → IsRun run left charged kept firsts → charged ≤ run.formed * (2 * 10 ^ 25)
 charged_small run left charged kept firsts is =
     omega (arith, is.charged_is, charges_of_small run.starts run.stages run.formed is.formed is.stages is.small)
 

@@ -32,16 +32,16 @@ pub left_by_long : (starts : List ℕ) (stages : List Stage) → length (left_by
 left_by_long starts [] = refl
 left_by_long starts (s ∷ stages) = left_by_long (left_after starts s) stages ∙ simp length-set
 
--- what stages charge, where no leg has more than 5 * 10^18
-pub charge_of_small : (left : List ℕ) (s : Stage) → IsStage s → ((k : ℕ) → IsStart (slice_index left k)) → charge_of left s ≤ 10 ^ 28
+-- what stages charge, where no leg has more than 2 * 10^16
+pub charge_of_small : (left : List ℕ) (s : Stage) → IsStage s → ((k : ℕ) → IsStart (slice_index left k)) → charge_of left s ≤ 2 * 10 ^ 25
 charge_of_small left s is small =
     let most = small s.first_leg in
     let ratio = is.first_ratio in
-    let amount : amount_of left s ≤ 5 * 10 ^ 22 = grind arith in
+    let amount : amount_of left s ≤ 2 * 10 ^ 20 = grind arith in
     let product = mul-le-mul amount is.charge in
     omega (arith, product)
 
-pub charges_of_small : (starts : List ℕ) (stages : List Stage) (n : ℕ) → n ≤ length stages → All IsStage stages → ((k : ℕ) → IsStart (slice_index starts k)) → charges_of starts (take n stages) ≤ n * 10 ^ 28
+pub charges_of_small : (starts : List ℕ) (stages : List Stage) (n : ℕ) → n ≤ length stages → All IsStage stages → ((k : ℕ) → IsStart (slice_index starts k)) → charges_of starts (take n stages) ≤ n * (2 * 10 ^ 25)
 charges_of_small starts stages zero h are small = omega arith
 charges_of_small starts stages (suc n) h are small =
     let left = left_by starts (take n stages) in

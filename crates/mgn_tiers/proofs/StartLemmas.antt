@@ -1,6 +1,8 @@
 -- What legs start with, and net deltas, after the delta of one month changes.
-use Rattle.std.proofs.Common.{◌≡◌, ◌≢◌, ℕ, ◌+◌, ◌-◌, ◌*◌, ◌<◌, ◌≤◌, ◌^◌, Bool, true, false, List, length, slice_index, slice_set, pos, ℤ, ⊎_elim, ap, ◌∙◌, sym, arith, refl, All, length-set, get_or-set_same, get_or-set_other, unsigned_abs, replicate}
-use Rattle.std.specs.Prelude.{◌+ℤ◌, ◌==◌, if◌then◌else◌}
+use Rattle.std.proofs.Common.{add-one, take, take_all, eq-eqb, ne_eqb, zero, suc, ◌≡◌, ◌≢◌, ℕ, ◌+◌, ◌-◌, ◌*◌, ◌<◌, ◌≤◌, ◌^◌, Bool, true, false, List, length, slice_index, slice_set, pos, ℤ, ⊎_elim, ap, ◌∙◌, sym, arith, refl, All, length-set, get_or-set_same, get_or-set_other, unsigned_abs, replicate}
+use Rattle.mgn_num.specs.Signed.{sum_below}
+use Rattle.std.specs.Prelude.{count_by, ◌+ℤ◌, ◌==◌, if◌then◌else◌}
+use Rattle.std.proofs.lemmas.List.Sums.{count_by_more_no, count_by_more_yes}
 use Rattle.std.proofs.lemmas.Bool.{cases_eq, cases_lt}
 use Rattle.std.proofs.lemmas.Int.{ints}
 use Rattle.std.proofs.lemmas.List.{get_or-replicate, get_or_past, length-replicate}
@@ -9,7 +11,7 @@ use Rattle.mgn_params.specs.declared.tables.Month.{Month}
 use Rattle.mgn_span.specs.Deltas.{negative_part, positive_part, start_from, starts_from}
 use Rattle.mgn_span.specs.MonthDeltas.{start_share, leg_share, net_delta_by, net_share_by, start_by, starts_by}
 use Rattle.mgn_span.specs.Scan.{value_at}
-use Rattle.mgn_params.specs.Tables.{month_at}
+use Rattle.mgn_params.specs.Tables.{month_at, no_month}
 use Rattle.mgn_tiers.specs.Sizes.{IsStart}
 use Rattle.mgn_tiers.proofs.SumLemmas.{signed_sum_below_moved, signed_sum_below_none, sum_below_at, sum_below_moved, sum_below_small}
 use Rattle.mgn_span.proofs.MonthDeltaLemmas.{start_by-is}
@@ -57,13 +59,28 @@ starts_read : (months : List Month) (deltas : List ℤ) (g : ℕ) (row : List �
 unfolding starts_from
 starts_read months deltas g row long each = fill_by_all (start_from months (value_at deltas) g) row 16 0 long (λ leg h. each leg h ∙ start_by-is months deltas g leg)
 
--- no leg starts with more than all months at their limits
-pub start_small : (months : List Month) (deltas : List ℤ) (g leg : ℕ) → length deltas ≡ length months → length months ≤ 256 * 64 → All IsDelta deltas → IsStart (start_by months deltas g leg)
+-- no leg starts with more than the months of its commodity at their limits
+start_below : (months : List Month) (deltas : List ℤ) (g leg n : ℕ) → n ≤ length months → length deltas ≡ length months → All IsDelta deltas → sum_below (leg_share months deltas g leg) n ≤ count_by (λ m. m.commodity == g) (take n months) * (256 * 10 ^ 12)
+start_below months deltas g leg zero h one_each small = omega arith
+start_below months deltas g leg (suc n) h one_each small =
+    let before = start_below months deltas g leg n (omega arith) one_each small in
+    let own : IsDelta (value_at deltas n) = small n (pos 0) (omega (arith, one_each)) in
+    let is = leg_share_is months deltas g leg n in
+    let share = share_small (month_at months n) (value_at deltas n) g leg in
+    ⊎_elim
+    (λ (same : (month_at months n).commodity ≡ g).
+    let counted = rw add-one at (count_by_more_yes (λ (m : Month). m.commodity == g) months n no_month (omega arith) (eq-eqb (month_at months n).commodity g same)) in
+    omega (arith, before, is, share, own, ap (λ (k : ℕ). k * (256 * 10 ^ 12)) counted))
+    (λ (other : (month_at months n).commodity ≢ g).
+    let counted = rw add-one at (count_by_more_no (λ (m : Month). m.commodity == g) months n no_month (omega arith) (ne_eqb (month_at months n).commodity g other)) in
+    omega (arith, before, is, share_out (month_at months n) (value_at deltas n) g leg other, ap (λ (k : ℕ). k * (256 * 10 ^ 12)) counted))
+    (cases_eq (month_at months n).commodity g)
+
+pub start_small : (months : List Month) (deltas : List ℤ) (g leg : ℕ) → length deltas ≡ length months → count_by (λ m. m.commodity == g) months ≤ 64 → All IsDelta deltas → IsStart (start_by months deltas g leg)
 start_small months deltas g leg one_each few small =
-    let each = sum_below_small (leg_share months deltas g leg) (256 * 10 ^ 12) (length months) (λ m h.
-    let own : IsDelta (value_at deltas m) = small m (pos 0) (omega (arith, one_each)) in
-    omega (arith, leg_share_is months deltas g leg m, share_small (month_at months m) (value_at deltas m) g leg, own)) in
-    omega (arith, each)
+    let n = length months in
+    let every = ap (λ (ms : List Month). count_by (λ (m : Month). m.commodity == g) ms) (take_all n months (omega arith)) in
+    omega (arith, start_below months deltas g leg n (omega arith) one_each small, every, few)
 
 -- another delta at one month
 shares_kept : (months : List Month) (deltas : List ℤ) (m : ℕ) (d : ℤ) (g leg k : ℕ) → k ≢ m → leg_share months (slice_set deltas m d) g leg k ≡ leg_share months deltas g leg k

@@ -29,8 +29,8 @@ has_room set' t m d limits are h small =
       formed = refl;
       long = long_there set'.months t.deltas m h limit.tier;
       short = short_there set'.months t.deltas m h limit.tier;
-      small_long = rw (long_moved set'.months t.deltas m d each h limit.tier) (start_small set'.months deltas' month.commodity month.tier long' limits.few_months all);
-      small_short = rw (short_moved set'.months t.deltas m d each h limit.tier) (start_small set'.months deltas' month.commodity (8 + month.tier) long' limits.few_months all);
+      small_long = rw (long_moved set'.months t.deltas m d each h limit.tier) (start_small set'.months deltas' month.commodity month.tier long' (limits.few_months_in_each month.commodity) all);
+      small_short = rw (short_moved set'.months t.deltas m d each h limit.tier) (start_small set'.months deltas' month.commodity (8 + month.tier) long' (limits.few_months_in_each month.commodity) all);
     })
 
 -- the rows after a change of one month's delta, where the run and the net delta of its commodity are written

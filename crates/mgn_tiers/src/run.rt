@@ -202,7 +202,7 @@ impl StageRun {
     pub fn charge(&self) -> u128
         requires { self.now.formed ≡ length self.now.stages }
         ensures charge { result ≡ charges_of self.now.starts self.now.stages }
-        ensures small { result ≤ 10 ^ 30 }
+        ensures small { result ≤ 2 * 10 ^ 27 }
     {
         self.charged
     }
@@ -211,7 +211,7 @@ impl StageRun {
     pub fn spot_charge(&self) -> u128
         requires { self.now.formed ≡ length self.now.stages }
         ensures charge { result ≡ spot_charge_from self.now.starts (left_by self.now.starts self.now.stages) self.now.spot }
-        ensures small { result ≤ 10 ^ 30 }
+        ensures small { result ≤ 10 ^ 26 }
     {
         match &self.spot {
             None => 0,

@@ -12,7 +12,7 @@ pub(crate) fn charge_by(starts: &[u64; 16], left: &[u64; 16], spot: &SpotCharge)
     requires starts { (k : ℕ) → IsStart (slice_index starts.now k) }
     requires left { (k : ℕ) → slice_index left.now k ≤ slice_index starts.now k }
     ensures charge { result ≡ spot_charge_from starts.now left.now (Some spot.now) }
-    ensures small { result ≤ 10 ^ 30 }
+    ensures small { result ≤ 10 ^ 26 }
 {
     let (long, short) = (spot.tier, 8 + spot.tier);
     let outright = left[long] + left[short];

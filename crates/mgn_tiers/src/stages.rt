@@ -16,7 +16,7 @@ fn leg_amount(left: u64, ratio: u64) -> u128
     requires left { IsStart left }
     requires ratio { 0 < ratio }
     ensures amount { result ≡ 10000 * left / ratio }
-    ensures small { result ≤ 5 * 10 ^ 22 }
+    ensures small { result ≤ 2 * 10 ^ 20 }
 {
     if left < SHORT_START {
         return u128::from(10000 * left / ratio);
@@ -29,7 +29,7 @@ fn stage_amount(left: &[u64; 16], stage: &Stage) -> u128
     requires stage { IsStage stage.now }
     requires left { (k : ℕ) → IsStart (slice_index left.now k) }
     ensures amount { result ≡ amount_of left.now stage.now }
-    ensures small { result ≤ 5 * 10 ^ 22 }
+    ensures small { result ≤ 2 * 10 ^ 20 }
 {
     let first = left[stage.first_leg];
     let second = left[stage.second_leg];
@@ -41,7 +41,7 @@ fn stage_amount(left: &[u64; 16], stage: &Stage) -> u128
 
 // What a leg uses for an amount of spreads.
 fn used(amount: u128, ratio: u64) -> u64
-    requires amount { amount ≤ 5 * 10 ^ 22 }
+    requires amount { amount ≤ 2 * 10 ^ 20 }
     requires ratio { ratio ≤ 10 ^ 6 }
     requires small { IsStart (used amount ratio) }
     ensures { result ≡ used amount ratio }
@@ -54,10 +54,10 @@ fn used(amount: u128, ratio: u64) -> u64
 
 // What an amount of spreads is charged, by the charge for each.
 fn charge(amount: u128, each: u64) -> u128
-    requires amount { amount ≤ 5 * 10 ^ 22 }
+    requires amount { amount ≤ 2 * 10 ^ 20 }
     requires each { each ≤ 10 ^ 9 }
     ensures charge { result ≡ div_ceil (amount * each) 10000 }
-    ensures small { result ≤ 10 ^ 28 }
+    ensures small { result ≤ 2 * 10 ^ 25 }
 {
     if amount < SHORT_AMOUNT {
         return u128::from((amount as u64 * each).div_ceil(10000));
@@ -71,7 +71,7 @@ pub(crate) fn form_stage(left: &mut [u64; 16], stage: &Stage) -> u128
     requires left { (k : ℕ) → IsStart (slice_index left.old k) }
     ensures charge { result ≡ charge_of left.old stage.now }
     ensures left { left.new ≡ left_after left.old stage.now }
-    ensures small_charge { result ≤ 10 ^ 28 }
+    ensures small_charge { result ≤ 2 * 10 ^ 25 }
 {
     let amount = stage_amount(left, stage);
     left[stage.first_leg] -= used(amount, stage.first_ratio);

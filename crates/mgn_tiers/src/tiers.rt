@@ -1,4 +1,4 @@
-ghost use Rattle.std.specs.Prelude.{◌≡◌, ◌<◌, ◌≤◌, ◌^◌, ◌+ℤ◌, unsigned_abs, pos, length, replicate, slice_set, IfOk};
+ghost use Rattle.std.specs.Prelude.{◌≡◌, ◌*◌, ◌<◌, ◌≤◌, ◌^◌, ◌+ℤ◌, unsigned_abs, pos, length, replicate, slice_set, IfOk};
 ghost use Rattle.mgn_span.specs.MonthDeltas.{intra_charge_by, net_delta_by, spot_charge_by};
 ghost use Rattle.mgn_span.specs.Scan.{value_at};
 ghost use Rattle.mgn_params.specs.Tables.{month_at, Tables};
@@ -82,7 +82,7 @@ impl TierStages {
     pub fn charge(&self, g: usize) -> Cents
         requires { (set : Tables) × AreTiersOf set self.now × (g < length set.commodities) }
         ensures value { (set : Tables) → AreTiersOf set self.now → result ≡ pos (intra_charge_by set self.now.deltas g) }
-        ensures small { unsigned_abs result ≤ 10 ^ 30 }
+        ensures small { unsigned_abs result ≤ 2 * 10 ^ 27 }
     {
         Cents::new(self.runs[g].charge() as i128)
     }
@@ -91,7 +91,7 @@ impl TierStages {
     pub fn spot(&self, g: usize) -> Cents
         requires { (set : Tables) × AreTiersOf set self.now × (g < length set.commodities) }
         ensures value { (set : Tables) → AreTiersOf set self.now → result ≡ pos (spot_charge_by set self.now.deltas g) }
-        ensures small { unsigned_abs result ≤ 10 ^ 30 }
+        ensures small { unsigned_abs result ≤ 10 ^ 26 }
     {
         Cents::new(self.runs[g].spot_charge() as i128)
     }

@@ -1,9 +1,9 @@
 //! All that is kept of the nets under a set.
 
 ghost use Rattle.std.specs.Prelude.{◌≡◌, ◌*◌, ◌<◌, ◌≤◌, ◌^◌, length, unsigned_abs, All};
-ghost use Rattle.mgn_scan.specs.Totals.{AreTotals};
 ghost use Rattle.mgn_span.specs.Positions.{IsNet};
 
+use crate::sets::flat_nets;
 use mgn_inter::InterCredits;
 use mgn_num::{Quantity, TenThousandths};
 use mgn_option::OptionSums;
@@ -19,10 +19,11 @@ use std::test::Fail;
 // What a month delta and a net delta are at most in size.
 const LARGEST_DELTA: u128 = 256_000_000_000_000;
 
-/// The totals, option sums, stages and credits of one list of nets. Contracts see the totals, which show the nets.
+/// One list of nets with its totals, option sums, stages and credits. Contracts see the nets.
 #[derive(Drop)]
 pub(super) struct Kept<'a> {
     set: &'a ParamSet,
+    nets: Vec<Quantity>,
     totals: ScanTotals,
     sums: OptionSums,
     tiers: TierStages,
@@ -32,15 +33,16 @@ pub(super) struct Kept<'a> {
 impl<'a> Model for Kept<'a> {
     ghost use Rattle.mgn_inter.specs.Credited.{AreCreditsOf};
     ghost use Rattle.mgn_option.specs.Sums.{AreSums};
-    ghost use Rattle.mgn_scan.specs.Totals.{AreTotals, Totals};
+    ghost use Rattle.mgn_scan.specs.Totals.{AreTotals};
+    ghost use Rattle.std.specs.Prelude.{List, ℤ};
     ghost use Rattle.mgn_tiers.specs.Tiers.{AreTiersOf};
 
-    ghost Value = { Totals };
+    ghost Value = { List ℤ };
 
-    ghost view = { λ k. k.totals };
+    ghost view = { λ k. k.nets.items };
 
-    ghost invariant = { λ k. AreTotals k.set.now k.totals
-        × AreSums k.set.now k.sums
+    ghost invariant = { λ k. AreTotals k.set.now k.nets.items k.totals
+        × AreSums k.set.now k.nets.items k.sums
         × AreTiersOf k.set.now k.tiers
         × AreCreditsOf k.set.now k.credits };
 }
@@ -84,12 +86,14 @@ fn delta_of(set: &ParamSet, i: usize, quantity: Quantity) -> TenThousandths
 impl<'a> Kept<'a> {
     /// What is kept of nets of 0.
     pub(super) fn new(alloc: Global, set: &'a ParamSet) -> Result<Kept<'a>, AllocError> {
+        let nets = flat_nets(alloc, set)?;
         let totals = ScanTotals::new(alloc, set)?;
         let sums = OptionSums::new(alloc, set)?;
         let tiers = TierStages::new(alloc, set)?;
         let credits = InterCredits::new(alloc, set)?;
         Ok(Kept {
             set,
+            nets,
             totals,
             sums,
             tiers,
@@ -102,11 +106,13 @@ impl<'a> Kept<'a> {
         requires { unsigned_abs quantity ≤ 2 * 10 ^ 7 }
     {
         assert!(rt; i < self.set.contract_count());
-        assert!(rt; self.totals.net(i).plus(quantity).size() <= 10_000_000);
-        assert!(rt; self.sums.net(i).plus(quantity).size() <= 10_000_000);
+        let net = self.nets[i].plus(quantity);
+        assert!(rt; net.size() <= 10_000_000);
         let mut work = Work::new();
-        self.totals.add(self.set, i, quantity, &mut work);
-        self.sums.add(self.set, i, quantity);
+        self.totals
+            .add(self.set, &self.nets, i, quantity, &mut work);
+        self.sums.add(self.set, &self.nets, i, quantity);
+        self.nets[i] = net;
         assert_eq!(rt; work.arrays(), 1);
     }
 
@@ -139,8 +145,7 @@ impl<'a> Kept<'a> {
         ensures { IsNet result }
     {
         assert!(rt; i < self.set.contract_count());
-        assert_eq!(rt; self.sums.net(i), self.totals.net(i));
-        self.totals.net(i)
+        self.nets[i]
     }
 
     /// Brings the net of a contract to so many, and all that is kept after it.
@@ -179,7 +184,7 @@ impl<'a> Kept<'a> {
     /// Compares all that is kept with what the nets come to anew.
     pub(super) fn agree(&self, rt: &impl Abort, alloc: Global) -> Result<(), Fail> {
         let mut work = Work::new();
-        let anew = figures(alloc, self.set, self.totals.nets(), &mut work)?;
+        let anew = figures(alloc, self.set, &self.nets, &mut work)?;
         self.compare_sums(rt, anew.commodities());
         self.compare_stages(rt, anew.commodities());
         self.net_deltas_agree(rt);

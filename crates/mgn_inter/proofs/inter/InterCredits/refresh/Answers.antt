@@ -13,5 +13,4 @@ form_from-requires-clause-formed c =
     let place = c.first_with-place.result in
     let low : c.args.g < length c.args.self.now.deltas = omega (arith, c.requires.of_set.one_each, c.requires.commodity) in
     let here : c.args.g < length c.undo_to.new.self.deltas = omega (arith, low, ap (λ (ds : List ℤ). length ds) c.undo_to.ensures.numbers.0) in
-    let misses = c.requires.of_set.formed.firsts_are c.args.g low in
-    rw c.write_numbers.ensures (rows_renumbered set'.credits place c.undo_to.new.self c.args.g c.new.result c.size.result c.undo_to.ensures.formed here (λ i below there. misses i (omega (arith, below, c.first_with-place.ensures)) there) (rw c.new.ensures c.requires.net_delta) (rw c.size.ensures.value c.requires.price_risk2))
+    rw c.write_numbers.ensures (rows_renumbered set'.credits place c.undo_to.new.self c.args.g c.new.result c.size.result c.undo_to.ensures.formed here c.first_with-place.ensures.misses (rw c.new.ensures c.requires.net_delta) (rw c.size.ensures.value c.requires.price_risk2))

@@ -3,8 +3,7 @@ use Rattle.std.specs.Prelude.{◌+ℤ◌, ◌*ℤ◌}
 use Rattle.std.proofs.lemmas.List.{get_or_default}
 use Rattle.mgn_params.specs.declared.tables.Contract.{Contract}
 use Rattle.mgn_span.specs.Scan.{value_at}
-use Rattle.mgn_params.specs.Tables.{Tables, contract_at, no_contract}
-use Rattle.mgn_scan.specs.Totals.{AreTotals, Totals}
+use Rattle.mgn_params.specs.Tables.{contract_at, no_contract}
 use Rattle.mgn_span.specs.Words.{total_of, totals_of}
 use Rattle.mgn_scan.proofs.TotalsLemmas.{AreTotals-changed, changed_total_small, quantity_small}
 use Rattle.mgn_scan.proofs.totals.ScanTotals.add.Goals as goal
@@ -21,11 +20,11 @@ low c =
     rw c.contract_at.ensures limit.commodity
 
 -- the rows that are kept
-rows_are : (c : After-array) → c.self.inside.rows.items ≡ c.args.self.now.rows
-rows_are c = ap (λ (t : Totals). t.rows) c.self.view_is
+rows_are : (c : After-array) → c.self.inside.rows.items ≡ c.args.self.now
+rows_are c = c.self.view_is
 
 -- the row that was lent is the commodity's
-read : (c : After-array) → c.index_mut-row.result.now ≡ totals_of c.args.self.now.rows c.contract_at.result.now.commodity
+read : (c : After-array) → c.index_mut-row.result.now ≡ totals_of c.args.self.now c.contract_at.result.now.commodity
 read c =
     let commodity = c.contract_at.result.now.commodity in
     let is = ap (λ (rows : List (List ℤ)). totals_of rows commodity) (rows_are c) in
@@ -34,27 +33,21 @@ read c =
 
 pub add_scaled-requires-clause-quantity : goal.add_scaled-requires-clause-quantity
 add_scaled-requires-clause-quantity c =
-    quantity_small c.args.set.now c.args.self.now c.args.i c.args.quantity c.requires.totals c.requires.contract c.requires.net
+    quantity_small c.args.set.now c.args.nets.now c.args.self.now c.args.i c.args.quantity c.requires.totals c.requires.contract c.requires.net
 
 pub add_scaled-requires-clause-room : goal.add_scaled-requires-clause-room
 add_scaled-requires-clause-room c =
     λ s h.
     let before = (goal.at.add_scaled-requires-clause-room c).After-array in
     let g = c.contract_at.result.now.commodity in
-    let small = changed_total_small c.args.set.now c.args.self.now c.args.i g s c.args.quantity c.limits.ensures c.requires.totals c.requires.contract c.requires.net (commodity_is before) (low before) h in
+    let small = changed_total_small c.args.set.now c.args.nets.now c.args.self.now c.args.i g s c.args.quantity c.limits.ensures c.requires.totals c.requires.contract c.requires.net (commodity_is before) (low before) h in
     rw (read before, c.array.ensures.array) small
-
-AreTotals-along : (t : Tables) (nets now : List ℤ) (rows moved : List (List ℤ)) → nets ≡ now → rows ≡ moved → (let totals : Totals = record { nets = now; rows = moved } in AreTotals t totals) → (let totals : Totals = record { nets = nets; rows = rows } in AreTotals t totals)
-AreTotals-along t nets now rows moved e f are = rw (e, f) are
 
 pub returns-clause-totals : goal.returns-clause-totals
 returns-clause-totals c =
     let before = (goal.at.returns-clause-totals c).After-array in
     let g = c.contract_at.result.now.commodity in
-    let added : (s : ℕ) → s < 16 → value_at c.add_scaled.new.totals s ≡ total_of c.args.self.now.rows g s +ℤ c.args.quantity *ℤ value_at (contract_at c.args.set.now.contracts c.args.i).array s =
-    λ s h. c.add_scaled.ensures s h ∙ ap (λ (xs : List ℤ). value_at xs s +ℤ c.args.quantity *ℤ value_at c.array.result.now s) (read before) ∙ ap (λ (xs : List ℤ). total_of c.args.self.now.rows g s +ℤ c.args.quantity *ℤ value_at xs s) c.array.ensures.array in
-    let nets_were = ap (λ (t : Totals). t.nets) c.self.view_is in
-    let net = c.net_at.ensures ∙ ap (λ (xs : List ℤ). value_at xs c.args.i) (c.deref.ensures.value ∙ nets_were) in
-    let nets = ap (λ (xs : List ℤ). set xs c.args.i c.plus.result) nets_were ∙ ap (λ (n : ℤ). set c.args.self.now.nets c.args.i n) (c.plus.ensures ∙ ap (λ (n : ℤ). n +ℤ c.args.quantity) net) in
+    let added : (s : ℕ) → s < 16 → value_at c.add_scaled.new.totals s ≡ total_of c.args.self.now g s +ℤ c.args.quantity *ℤ value_at (contract_at c.args.set.now.contracts c.args.i).array s =
+    λ s h. c.add_scaled.ensures s h ∙ ap (λ (xs : List ℤ). value_at xs s +ℤ c.args.quantity *ℤ value_at c.array.result.now s) (read before) ∙ ap (λ (xs : List ℤ). total_of c.args.self.now g s +ℤ c.args.quantity *ℤ value_at xs s) c.array.ensures.array in
     let rows = ap (λ (xs : List (List ℤ)). set xs g c.add_scaled.new.totals) (rows_are before) in
-    AreTotals-along c.args.set.now _ _ _ _ nets rows (AreTotals-changed c.args.set.now c.args.self.now c.args.i g c.args.quantity c.add_scaled.new.totals c.requires.totals c.requires.contract c.requires.net (commodity_is before) (low before) added)
+    rw rows (AreTotals-changed c.args.set.now c.args.nets.now c.args.self.now c.args.i g c.args.quantity c.add_scaled.new.totals c.requires.totals c.requires.contract c.requires.net (commodity_is before) (low before) added)

@@ -1,0 +1,12 @@
+-- Why what is kept is that of the nets after a change.
+pub mod SumLemmas
+pub mod SizeLemmas
+pub mod RowLemmas
+pub mod RiskLemmas
+pub mod FrameLemmas
+pub mod MoveLemmas
+pub mod CreditLemmas
+pub mod KeptLemmas
+pub mod StartLemmas
+pub mod MovedLemmas
+pub mod DeskLemmas

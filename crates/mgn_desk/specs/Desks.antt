@@ -1,0 +1,67 @@
+-- The desk of a margin unit: empty, or its four portfolios under the set of a version.
+use Rattle.std.specs.Prelude.{ℕ, ◌≡◌, Option, Some, None}
+use Rattle.mgn_params.specs.Tables.{Tables}
+use Rattle.mgn_desk.specs.declared.desk.Marked.{Marked}
+use Rattle.mgn_desk.specs.declared.moves.Moves.{Moves}
+use Rattle.mgn_desk.specs.declared.moves.Requirements.{Requirements}
+use Rattle.mgn_desk.specs.Portfolios.{ArePortfolios, CanMove, FourNets, moved_by, nets_of, requirements_of}
+
+pub record DeskRows : Type 0 where
+  pub unit : ℕ
+  pub marked : Option Marked
+
+-- What a desk shows.
+
+pub record MarkedNets : Type 0 where
+  pub version : ℕ
+  pub nets : FourNets
+
+pub record Shown : Type 0 where
+  pub unit : ℕ
+  pub marked : Option MarkedNets
+
+abbrev pub marked_nets : Option Marked → Option MarkedNets
+marked_nets None = None
+marked_nets (Some m) = Some (record { version = m.version; nets = nets_of m.portfolios })
+
+abbrev pub shown : DeskRows → Shown
+shown d = record { unit = d.unit; marked = marked_nets d.marked }
+
+-- the version that it was marked under
+abbrev pub version_of : Option Marked → Option ℕ
+version_of None = None
+version_of (Some m) = Some m.version
+
+-- the desk with these nets under the set of a version
+abbrev pub marked_with : ℕ → ℕ → FourNets → Shown
+marked_with unit version nets = record { unit = unit; marked = Some (record { version = version; nets = nets }) }
+
+-- the desk after moves, in which nothing else changes
+abbrev pub moved_marked : Moves → Option MarkedNets → Option MarkedNets
+moved_marked m None = None
+moved_marked m (Some n) = Some (record { version = n.version; nets = moved_by m n.nets })
+
+abbrev pub moved_desk : Moves → Shown → Shown
+moved_desk m d = record { unit = d.unit; marked = moved_marked m d.marked }
+
+-- Facts on a desk's portfolios.
+
+-- it is marked, and all that is kept is that of its nets under this set
+abbrev pub IsMarkedBy : Tables → Option Marked → Type 0
+IsMarkedBy set None = ⊥
+IsMarkedBy set (Some m) = ArePortfolios set m.portfolios
+
+-- it is marked, with these nets
+abbrev pub AreNetsOf : Option Marked → FourNets → Type 0
+AreNetsOf None nets = ⊥
+AreNetsOf (Some m) nets = nets ≡ nets_of m.portfolios
+
+-- its nets stay within their limits after moves
+abbrev pub CanMoveMarked : Moves → Option Marked → Type 0
+CanMoveMarked moves None = Unit {0}
+CanMoveMarked moves (Some m) = CanMove moves (nets_of m.portfolios)
+
+-- what its portfolios require
+abbrev pub Requires : Tables → Option Marked → Requirements → Type 0
+Requires set None r = ⊥
+Requires set (Some m) r = r ≡ requirements_of set (nets_of m.portfolios)

@@ -1,0 +1,104 @@
+-- The nets of a portfolio with what is kept of them, commodity by commodity.
+use Rattle.std.specs.Prelude.{ℕ, Bool, ◌≡◌, ◌<◌, ℤ, pos, ◌+ℤ◌, ◌-ℤ◌, unsigned_abs, List, length, map, slice_index, All}
+use Rattle.std.specs.Int.{int_max}
+use Rattle.std.specs.List.{list_any, range_with_len}
+use Rattle.mgn_params.specs.declared.tables.CreditSpread.{CreditSpread}
+use Rattle.mgn_params.specs.Tables.{legs_of, Tables}
+use Rattle.mgn_span.specs.Deltas.{month_delta, net_delta_from}
+use Rattle.mgn_span.specs.MonthDeltas.{month_deltas}
+use Rattle.mgn_span.specs.Positions.{Position, positions}
+use Rattle.mgn_span.specs.Requirement.{intra_charge, risk, scan_of, spot_charge}
+use Rattle.mgn_span.specs.Scan.{price_risk2, scenario_total, value_at}
+use Rattle.mgn_scan.specs.Totals.{AreTotals}
+use Rattle.mgn_option.specs.Sums.{AreSums, Sums}
+use Rattle.mgn_tiers.specs.Tiers.{AreTiersOf, Tiers}
+use Rattle.mgn_inter.specs.Credited.{AreCreditsOf}
+use Rattle.mgn_inter.specs.Rows.{Credited, names}
+use Rattle.mgn_desk.specs.Risks.{IsRisk}
+
+-- the nets of a set's contracts in file order; scenario totals, option sums, stages and credits; for each commodity its
+-- risk before credits, and its risk
+pub record Kept : Type 0 where
+  pub nets : List ℤ
+  pub totals : List (List ℤ)
+  pub sums : Sums
+  pub tiers : Tiers
+  pub credits : Credited
+  pub charges : List ℤ
+  pub risks : List ℤ
+
+-- The numbers of each commodity.
+
+-- the scan risk with the spreading and the spot charge (CME SPAN)
+abbrev pub charge_of : Tables → List Position → ℕ → ℤ
+charge_of set held g = scan_of held g +ℤ pos (intra_charge set held g) +ℤ pos (spot_charge set held g)
+
+abbrev pub net_deltas_of : Tables → List Position → List ℤ
+net_deltas_of set held = map (net_delta_from set.months (month_delta held)) (range_with_len 0 (length set.commodities))
+
+abbrev pub price_risks_of : Tables → List Position → List ℕ
+price_risks_of set held =
+    map (λ g. unsigned_abs (price_risk2 (scenario_total g held))) (range_with_len 0 (length set.commodities))
+
+-- What is kept is that of these nets under this set.
+
+-- totals, option sums and stages
+pub record AreParts (set : Tables) (p : Kept) : Type 0 where
+  pub totals : AreTotals set p.nets p.totals
+  pub sums : AreSums set p.nets p.sums
+  pub tiers : AreTiersOf set p.tiers
+  pub deltas : p.tiers.deltas ≡ month_deltas set.months (positions set.contracts p.nets)
+
+-- credits
+pub record AreCreditsBy (set : Tables) (nets : List ℤ) (credits : Credited) : Type 0 where
+  pub of_set : AreCreditsOf set credits
+  pub net_deltas : credits.deltas ≡ net_deltas_of set (positions set.contracts nets)
+  pub price_risks : credits.risks ≡ price_risks_of set (positions set.contracts nets)
+
+-- risks before credits
+pub record AreCharges (set : Tables) (nets charges : List ℤ) : Type 0 where
+  pub one_each : length charges ≡ length set.commodities
+  pub small : All IsRisk charges
+  pub each : (g : ℕ) → g < length set.commodities → value_at charges g ≡ charge_of set (positions set.contracts nets) g
+
+-- risks
+pub record AreRisks (set : Tables) (nets risks : List ℤ) : Type 0 where
+  pub one_each : length risks ≡ length set.commodities
+  pub each : (g : ℕ) → g < length set.commodities → value_at risks g ≡ risk set (positions set.contracts nets) g
+
+-- all but the risks
+pub record IsReady (set : Tables) (p : Kept) : Type 0 where
+  pub parts : AreParts set p
+  pub credits : AreCreditsBy set p.nets p.credits
+  pub charges : AreCharges set p.nets p.charges
+
+-- all that is kept of a portfolio is that of its nets under this set: one net for each contract, within its limit
+pub record IsPortfolio (set : Tables) (p : Kept) : Type 0 where
+  pub ready : IsReady set p
+  pub risks : AreRisks set p.nets p.risks
+
+-- the risk of a commodity by what is kept: at least the minimum
+abbrev pub kept_risk : Kept → ℕ → ℤ
+kept_risk p g = int_max (value_at p.charges g -ℤ pos (slice_index p.credits.credits g)) (pos (slice_index p.sums.minimums g))
+
+-- For the steps of a change.
+
+-- all but nets, totals, sums and stages is as it was
+abbrev pub KeepsRest : Kept → Kept → Type 0
+KeepsRest old new = (new.credits ≡ old.credits) × (new.charges ≡ old.charges) × (new.risks ≡ old.risks)
+
+-- nets, totals, sums, stages and risks are as they were
+pub record KeepsParts (old new : Kept) : Type 0 where
+  pub nets : new.nets ≡ old.nets
+  pub totals : new.totals ≡ old.totals
+  pub sums : new.sums ≡ old.sums
+  pub tiers : new.tiers ≡ old.tiers
+  pub risks : new.risks ≡ old.risks
+
+-- the same with other risks
+abbrev pub with_risks : Kept → List ℤ → Kept
+with_risks p risks = record p { risks = risks }
+
+-- whether one of some spreads names a commodity
+abbrev pub named : ℕ → List CreditSpread → Bool
+named k spreads = list_any (λ s. names k (legs_of s)) spreads

@@ -1,0 +1,14 @@
+-- How a portfolio is kept.
+use Rattle.mgn_desk.specs.declared.portfolio.Portfolio.TheInside.{Inside}
+use Rattle.mgn_desk.specs.Kept.{Kept}
+
+abbrev pub kept_of : Inside → Kept
+kept_of p = record {
+  nets = p.nets.items;
+  totals = p.totals;
+  sums = p.sums;
+  tiers = p.tiers;
+  credits = p.credits;
+  charges = p.charges.items;
+  risks = p.risks;
+}

@@ -1,0 +1,90 @@
+-- The four portfolios of a margin unit under one set.
+use Rattle.std.specs.Prelude.{ℕ, ◌≡◌, ◌≤◌, ◌+◌, ◌^◌, ℤ, neg_ℤ, ◌+ℤ◌, unsigned_abs, List, length, All}
+use Rattle.mgn_params.specs.Tables.{Tables}
+use Rattle.mgn_span.specs.Positions.{IsNet}
+use Rattle.mgn_span.specs.Requirement.{requirement}
+use Rattle.mgn_span.specs.Scan.{value_at}
+use Rattle.mgn_desk.specs.declared.moves.Moves.{Moves}
+use Rattle.mgn_desk.specs.declared.moves.Requirements.{Requirements}
+use Rattle.mgn_desk.specs.declared.moves.UnitNets.{UnitNets}
+use Rattle.mgn_desk.specs.declared.portfolios.Portfolios.{Portfolios}
+use Rattle.mgn_desk.specs.Kept.{IsPortfolio}
+use Rattle.mgn_desk.specs.Moved.{arrays_of_quantity, more_of}
+
+-- the nets of each: the lots; with the held buys; with the held sales; with all holds
+pub record FourNets : Type 0 where
+  pub lots : List ℤ
+  pub buys : List ℤ
+  pub sales : List ℤ
+  pub all : List ℤ
+
+abbrev pub four_of : UnitNets → FourNets
+four_of nets = record { lots = nets.lots.now; buys = nets.buys.now; sales = nets.sales.now; all = nets.all.now }
+
+abbrev pub nets_of : Portfolios → FourNets
+nets_of p = record { lots = p.lots.nets; buys = p.buys.nets; sales = p.sales.nets; all = p.all.nets }
+
+-- one net for each contract, within its limit
+pub record AreNets (set : Tables) (nets : List ℤ) : Type 0 where
+  pub one_each : length nets ≡ length set.contracts
+  pub small : All IsNet nets
+
+pub record AreFourNets (set : Tables) (n : FourNets) : Type 0 where
+  pub lots : AreNets set n.lots
+  pub buys : AreNets set n.buys
+  pub sales : AreNets set n.sales
+  pub all : AreNets set n.all
+
+-- each is kept under this set
+pub record ArePortfolios (set : Tables) (p : Portfolios) : Type 0 where
+  pub lots : IsPortfolio set p.lots
+  pub buys : IsPortfolio set p.buys
+  pub sales : IsPortfolio set p.sales
+  pub all : IsPortfolio set p.all
+
+-- the nets after moves
+abbrev pub moved_by : Moves → FourNets → FourNets
+moved_by m n = record {
+  lots = more_of n.lots m.contract m.lots;
+  buys = more_of n.buys m.contract m.buys;
+  sales = more_of n.sales m.contract m.sales;
+  all = more_of n.all m.contract m.all;
+}
+
+-- and they are within their limits
+pub record CanMove (m : Moves) (n : FourNets) : Type 0 where
+  pub lots : IsNet (value_at n.lots m.contract +ℤ m.lots)
+  pub buys : IsNet (value_at n.buys m.contract +ℤ m.buys)
+  pub sales : IsNet (value_at n.sales m.contract +ℤ m.sales)
+  pub all : IsNet (value_at n.all m.contract +ℤ m.all)
+
+-- the opposite moves
+abbrev pub opposite : Moves → Moves
+opposite m = record {
+  contract = m.contract;
+  lots = neg_ℤ m.lots;
+  buys = neg_ℤ m.buys;
+  sales = neg_ℤ m.sales;
+  all = neg_ℤ m.all;
+}
+
+-- how many risk arrays they read: one for each portfolio that they change
+abbrev pub arrays_of : Moves → ℕ
+arrays_of m =
+    arrays_of_quantity m.lots + arrays_of_quantity m.buys + arrays_of_quantity m.sales + arrays_of_quantity m.all
+
+-- at most 10^30 each
+pub record AreSmall (r : Requirements) : Type 0 where
+  pub lots : unsigned_abs r.lots ≤ 10 ^ 30
+  pub buys : unsigned_abs r.buys ≤ 10 ^ 30
+  pub sales : unsigned_abs r.sales ≤ 10 ^ 30
+  pub all : unsigned_abs r.all ≤ 10 ^ 30
+
+-- what each requires
+abbrev pub requirements_of : Tables → FourNets → Requirements
+requirements_of set n = record {
+  lots = requirement set n.lots;
+  buys = requirement set n.buys;
+  sales = requirement set n.sales;
+  all = requirement set n.all;
+}

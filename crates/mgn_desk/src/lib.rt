@@ -1,0 +1,13 @@
+//! The requirements of the four portfolios of a margin unit, kept while its nets change.
+#![tactic(auto)]
+
+mod desk;
+mod moves;
+mod portfolio;
+mod portfolios;
+mod risk_sum;
+mod rows;
+
+pub use desk::Desk;
+pub use moves::{Moves, Requirements, UnitNets};
+pub use portfolio::Portfolio;

@@ -1,0 +1,283 @@
+ghost use Rattle.std.specs.Prelude.{◌≡◌, ℕ, ◌+◌, ◌-◌, ◌*◌, ◌<◌, ◌≤◌, ◌^◌, ℤ, pos, ◌+ℤ◌, ◌*ℤ◌, unsigned_abs, length, min, replicate, slice_set, IfOk, List, All, drop, if◌then◌else◌};
+ghost use Rattle.mgn_inter.specs.Credited.{AreCreditsOf};
+ghost use Rattle.mgn_inter.specs.Rows.{names};
+ghost use Rattle.mgn_span.specs.Words.{net_delta};
+ghost use Rattle.mgn_params.specs.Limits.{IsCreditSpread};
+ghost use Rattle.mgn_params.specs.Tables.{Tables};
+ghost use Rattle.mgn_span.specs.Positions.{IsNet, positions};
+ghost use Rattle.mgn_span.specs.Requirement.{requirement};
+ghost use Rattle.mgn_span.specs.Scan.{price_risk2, scenario_total, value_at};
+ghost use Rattle.mgn_desk.specs.Kept.{AreParts, charge_of, IsPortfolio, IsReady, kept_risk, KeepsParts, KeepsRest, named, with_risks};
+ghost use Rattle.mgn_desk.specs.Moved.{arrays_of_quantity, counted, more_of};
+ghost use Rattle.mgn_desk.specs.Risks.{IsRisk};
+
+use crate::risk_sum::RiskSum;
+use crate::rows::filled;
+use mgn_inter::InterCredits;
+use mgn_num::{Cents, Quantity, TenThousandths};
+use mgn_option::OptionSums;
+use mgn_params::{CreditSpread, Leg, ParamSet, Work};
+use mgn_scan::ScanTotals;
+use mgn_tiers::TierStages;
+use std::alloc::{AllocError, Global};
+use std::marker::Model;
+
+/// The nets of a portfolio, one for each contract of a set, with its requirement, kept while the nets change.
+///
+/// Contracts see the nets beside the rows that are kept; `IsPortfolio` ties all of them to the set: `new` gives it,
+/// `change` asks for it and keeps it, and `requirement` answers by the definition over the nets. Nothing but `new`
+/// takes memory.
+#[derive(Drop)]
+pub struct Portfolio {
+    nets: Vec<Quantity>,
+    totals: ScanTotals,
+    sums: OptionSums,
+    tiers: TierStages,
+    credits: InterCredits,
+    // For each commodity its scan risk with its spreading and spot charges.
+    charges: Vec<Cents>,
+    risks: RiskSum,
+}
+
+impl Model for Portfolio {
+    ghost use Rattle.mgn_desk.specs.Kept.{Kept};
+
+    ghost Value = { Kept };
+
+    ghost use Rattle.mgn_desk.specs.PortfolioRows.{kept_of};
+
+    ghost view = { kept_of };
+}
+
+// The net of a contract.
+fn net_at(nets: &[Quantity], contract: usize) -> Quantity
+    requires { contract < length nets.now }
+    ensures { result ≡ value_at nets.now contract }
+{
+    nets[contract]
+}
+
+// Contracts at a scaled delta for each.
+fn scaled(quantity: Quantity, delta: &i64) -> TenThousandths
+    ensures { result ≡ quantity *ℤ delta.now }
+{
+    TenThousandths::product(quantity, *delta)
+}
+
+impl Portfolio {
+    /// Nets of 0. The only error is that memory was refused.
+    pub fn new(alloc: Global, set: &ParamSet) -> Result<Portfolio, AllocError>
+        ensures portfolio { IfOk result (IsPortfolio set.now) }
+        ensures flat { IfOk result (λ p. p.nets ≡ replicate (length set.now.contracts) (pos 0)) }
+    {
+        let count = set.commodity_count();
+        Ok(Portfolio {
+            nets: filled(alloc, set.contract_count(), Quantity::ZERO)?,
+            totals: ScanTotals::new(alloc, set)?,
+            sums: OptionSums::new(alloc, set)?,
+            tiers: TierStages::new(alloc, set)?,
+            credits: InterCredits::new(alloc, set)?,
+            charges: filled(alloc, count, Cents::ZERO)?,
+            risks: RiskSum::new(alloc, count)?,
+        })
+    }
+
+    /// These nets, one for each contract of the set and each at most 10,000,000 in size. The only error is that memory
+    /// was refused. A net of 0 costs nothing beside its place.
+    pub fn of_nets(
+        alloc: Global,
+        set: &ParamSet,
+        nets: &[Quantity],
+    ) -> Result<Portfolio, AllocError>
+        requires one_each { length nets.now ≡ length set.now.contracts }
+        requires nets { All IsNet nets.now }
+        ensures portfolio { IfOk result (IsPortfolio set.now) }
+        ensures nets { IfOk result (λ p. p.nets ≡ nets.now) }
+    {
+        let mut portfolio = Portfolio::new(alloc, set)?;
+        portfolio.bring_to(set, nets);
+        Ok(portfolio)
+    }
+
+    // Brings nets of 0 to these.
+    fn bring_to(&mut self, set: &ParamSet, nets: &[Quantity])
+        requires portfolio { IsPortfolio set.now self.old }
+        requires flat { self.old.nets ≡ replicate (length set.now.contracts) (pos 0) }
+        requires one_each { length nets.now ≡ length set.now.contracts }
+        requires nets { All IsNet nets.now }
+        ensures portfolio { IsPortfolio set.now self.new }
+        ensures nets { self.new.nets ≡ nets.now }
+    {
+        let mut work = Work::new();
+        for i in 0..nets.len() {
+            self.follow(set, i, net_at(nets, i), &mut work);
+        }
+    }
+
+    // Changes a net, and the totals, sums and stages after it.
+    fn move_net(&mut self, set: &ParamSet, i: usize, quantity: Quantity, work: &mut Work)
+        requires parts { AreParts set.now self.old }
+        requires contract { i < length set.now.contracts }
+        requires net { IsNet (value_at self.old.nets i +ℤ quantity) }
+        ensures nets { self.new.nets ≡ slice_set self.old.nets i (value_at self.old.nets i +ℤ quantity) }
+        ensures parts { AreParts set.now self.new }
+        ensures rest { KeepsRest self.old self.new }
+        ensures counted { work.new ≡ min (work.old + 1) (2 ^ 64 - 1) }
+    {
+        set.limits();
+        let contract = set.contract_at(i);
+        self.totals.add(set, &self.nets, i, quantity, work);
+        self.sums.add(set, &self.nets, i, quantity);
+        self.tiers
+            .add(set, contract.month, scaled(quantity, &contract.delta));
+        self.nets[i] = net_at(&self.nets, i).plus(quantity);
+    }
+
+    // What the commodity at a place risks before credits.
+    fn charge(&self, g: usize) -> Cents
+        requires { (set : Tables) × AreParts set self.now × (g < length set.commodities) }
+        ensures charge { (set : Tables) → AreParts set self.now →
+            result ≡ charge_of set (positions set.contracts self.now.nets) g }
+        ensures small { IsRisk result }
+    {
+        self.totals
+            .scan(g)
+            .plus(self.tiers.charge(g))
+            .plus(self.tiers.spot(g))
+    }
+
+    // Brings what the commodity at a place risks before credits, and the credits, after the parts.
+    fn refresh(&mut self, set: &ParamSet, g: usize)
+        requires parts { AreParts set.now self.old }
+        requires commodity { g < length set.now.commodities }
+        requires credits { AreCreditsOf set.now self.old.credits }
+        requires charges { length self.old.charges ≡ length set.now.commodities }
+        ensures kept { KeepsParts self.old self.new }
+        ensures credits { AreCreditsOf set.now self.new.credits }
+        ensures net_deltas { self.new.credits.deltas ≡ slice_set self.old.credits.deltas g
+            (net_delta set.now.months (positions set.now.contracts self.old.nets) g) }
+        ensures price_risks { self.new.credits.risks ≡ slice_set self.old.credits.risks g
+            (unsigned_abs (price_risk2 (scenario_total g (positions set.now.contracts self.old.nets)))) }
+        ensures charges { self.new.charges ≡ slice_set self.old.charges g
+            (charge_of set.now (positions set.now.contracts self.old.nets) g) }
+        ensures small { IsRisk (charge_of set.now (positions set.now.contracts self.old.nets) g) }
+    {
+        let charge = self.charge(g);
+        let net_delta = self.tiers.net_delta(g);
+        let price_risk2 = self.totals.price_risk2(g);
+        self.credits.refresh(set, g, net_delta, price_risk2);
+        self.charges[g] = charge;
+    }
+
+    // The risk of the commodity at a place, by what is kept.
+    fn risk(&self, g: usize) -> Cents
+        requires { (set : Tables) × IsReady set self.now × (g < length set.commodities) }
+        ensures risk { result ≡ kept_risk self.now g }
+        ensures small { IsRisk result }
+    {
+        let least = self.sums.minimum(g);
+        self.charges[g].minus(self.credits.credit(g)).larger(least)
+    }
+
+    // Writes the risk of the commodity at a place.
+    fn mend(&mut self, g: usize)
+        requires ready { (set : Tables) × IsReady set self.old × (g < length set.commodities) }
+        requires risks { g < length self.old.risks }
+        ensures { self.new ≡ with_risks self.old (slice_set self.old.risks g (kept_risk self.old g)) }
+    {
+        let risk = self.risk(g);
+        self.risks.write(g, risk);
+    }
+
+    // Writes the risks of the commodities of legs.
+    fn mend_legs(&mut self, legs: &[Leg])
+        requires ready { (set : Tables)
+            × IsReady set self.old
+            × (length self.old.risks ≡ length set.commodities)
+            × All (λ leg. leg.commodity < length set.commodities) legs.now }
+        ensures kept { self.new ≡ with_risks self.old self.new.risks }
+        ensures long { length self.new.risks ≡ length self.old.risks }
+        ensures risks { (k : ℕ) → k < length self.old.risks → value_at self.new.risks k ≡
+            (if names k legs.now then kept_risk self.old k else value_at self.old.risks k) }
+    {
+        for leg in legs {
+            self.mend(leg.commodity);
+        }
+    }
+
+    // Writes the risks of the commodities that spreads name.
+    fn mend_spreads(&mut self, spreads: &[CreditSpread])
+        requires ready { (set : Tables)
+            × IsReady set self.old
+            × (length self.old.risks ≡ length set.commodities)
+            × All (IsCreditSpread (length set.commodities)) spreads.now }
+        ensures kept { self.new ≡ with_risks self.old self.new.risks }
+        ensures long { length self.new.risks ≡ length self.old.risks }
+        ensures risks { (k : ℕ) → k < length self.old.risks → value_at self.new.risks k ≡
+            (if named k spreads.now then kept_risk self.old k else value_at self.old.risks k) }
+    {
+        for spread in spreads {
+            self.mend_legs(&spread.legs[..spread.count]);
+        }
+    }
+
+    /// Changes one net: a quantity more of the contract at `i`, bought above 0 and sold below.
+    ///
+    /// The set must be the one of the portfolio, and the changed net at most 10,000,000 in size. One risk array is
+    /// read. The cost hangs neither on the number of contracts nor on that of commodities, but on the spreads of the
+    /// contract's commodity, and on those between commodities from the first one that names it.
+    pub fn change(&mut self, set: &ParamSet, i: usize, quantity: Quantity, work: &mut Work)
+        requires portfolio { IsPortfolio set.now self.old }
+        requires contract { i < length set.now.contracts }
+        requires net { IsNet (value_at self.old.nets i +ℤ quantity) }
+        ensures portfolio { IsPortfolio set.now self.new }
+        ensures nets { self.new.nets ≡ slice_set self.old.nets i (value_at self.old.nets i +ℤ quantity) }
+        ensures counted { work.new ≡ min (work.old + 1) (2 ^ 64 - 1) }
+    {
+        set.limits();
+        let g = set.contract_at(i).commodity;
+        let place = self.credits.first_with(set, g);
+        self.move_net(set, i, quantity, work);
+        self.refresh(set, g);
+        self.mend(g);
+        self.mend_spreads(&set.credits()[place..]);
+    }
+
+    // The same, but that a quantity of 0 costs nothing.
+    pub(crate) fn follow(&mut self, set: &ParamSet, i: usize, quantity: Quantity, work: &mut Work)
+        requires portfolio { IsPortfolio set.now self.old }
+        requires contract { i < length set.now.contracts }
+        requires net { IsNet (value_at self.old.nets i +ℤ quantity) }
+        ensures portfolio { IsPortfolio set.now self.new }
+        ensures nets { self.new.nets ≡ more_of self.old.nets i quantity }
+        ensures counted { work.new ≡ counted work.old (arrays_of_quantity quantity) }
+    {
+        if quantity.size() != 0 {
+            self.change(set, i, quantity, work);
+        }
+    }
+
+    /// The net of a contract, above 0 bought and below 0 sold.
+    pub fn net(&self, contract: usize) -> Quantity
+        requires { contract < length self.now.nets }
+        ensures { result ≡ value_at self.now.nets contract }
+    {
+        net_at(&self.nets, contract)
+    }
+
+    /// The nets, one for each contract of the set in file order.
+    pub fn nets(&self) -> &[Quantity]
+        ensures { result.now ≡ self.now.nets }
+    {
+        self.nets.as_slice()
+    }
+
+    /// What the portfolio must have deposited, in cents, 0 to 10^30: the sum of the commodities' risks less the net
+    /// option value (CME SPAN), or 0 where that is negative (own profile). It takes the same time whatever the set.
+    pub fn requirement(&self) -> Cents
+        ensures requirement { (set : Tables) → IsPortfolio set self.now → result ≡ requirement set self.now.nets }
+        ensures small { unsigned_abs result ≤ 10 ^ 30 }
+    {
+        self.risks.sum().minus(self.sums.value()).or_zero()
+    }
+}

@@ -1,0 +1,78 @@
+ghost use Rattle.std.specs.Prelude.{◌≡◌, ◌<◌, length, IfOk};
+ghost use Rattle.mgn_params.specs.Tables.{Tables};
+ghost use Rattle.mgn_desk.specs.Moved.{counted};
+
+use crate::moves::{Moves, Requirements, UnitNets};
+use crate::portfolio::Portfolio;
+use mgn_params::{ParamSet, Work};
+use std::alloc::{AllocError, Global};
+
+/// The four portfolios of a margin unit under one set.
+#[derive(Drop)]
+pub(crate) struct Portfolios {
+    pub lots: Portfolio,
+    pub buys: Portfolio,
+    pub sales: Portfolio,
+    pub all: Portfolio,
+}
+
+impl Portfolios {
+    ghost use Rattle.mgn_desk.specs.Portfolios.{AreFourNets, ArePortfolios, AreSmall, CanMove, arrays_of, four_of, moved_by, nets_of, requirements_of};
+
+    // These nets. The only error is that memory was refused.
+    pub fn of_nets(
+        alloc: Global,
+        set: &ParamSet,
+        nets: &UnitNets<'_>,
+    ) -> Result<Portfolios, AllocError>
+        requires { AreFourNets set.now (four_of nets.now) }
+        ensures portfolios { IfOk result (ArePortfolios set.now) }
+        ensures nets { IfOk result (λ p. nets_of p ≡ four_of nets.now) }
+    {
+        Ok(Portfolios {
+            lots: Portfolio::of_nets(alloc, set, nets.lots)?,
+            buys: Portfolio::of_nets(alloc, set, nets.buys)?,
+            sales: Portfolio::of_nets(alloc, set, nets.sales)?,
+            all: Portfolio::of_nets(alloc, set, nets.all)?,
+        })
+    }
+
+    // Moves the nets of one contract. A portfolio that is not moved costs nothing.
+    pub fn apply(&mut self, set: &ParamSet, moves: &Moves, work: &mut Work)
+        requires portfolios { ArePortfolios set.now self.old }
+        requires contract { moves.now.contract < length set.now.contracts }
+        requires nets { CanMove moves.now (nets_of self.old) }
+        ensures portfolios { ArePortfolios set.now self.new }
+        ensures nets { nets_of self.new ≡ moved_by moves.now (nets_of self.old) }
+        ensures counted { work.new ≡ counted work.old (arrays_of moves.now) }
+    {
+        self.lots.follow(set, moves.contract, moves.lots, work);
+        self.buys.follow(set, moves.contract, moves.buys, work);
+        self.sales.follow(set, moves.contract, moves.sales, work);
+        self.all.follow(set, moves.contract, moves.all, work);
+    }
+
+    pub fn nets(&self) -> UnitNets<'_>
+        ensures { four_of result ≡ nets_of self.now }
+    {
+        UnitNets {
+            lots: self.lots.nets(),
+            buys: self.buys.nets(),
+            sales: self.sales.nets(),
+            all: self.all.nets(),
+        }
+    }
+
+    pub fn requirements(&self) -> Requirements
+        ensures requirements { (set : Tables) → ArePortfolios set self.now →
+            result ≡ requirements_of set (nets_of self.now) }
+        ensures small { AreSmall result }
+    {
+        Requirements {
+            lots: self.lots.requirement(),
+            buys: self.buys.requirement(),
+            sales: self.sales.requirement(),
+            all: self.all.requirement(),
+        }
+    }
+}
