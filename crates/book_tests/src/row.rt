@@ -1,13 +1,16 @@
 //! The portfolios of a unit: a row as it may stand, and one that takes a first change.
-ghost use Rattle.std.specs.Prelude.{◌≡◌, ◌<◌, IfOk, length};
+ghost use Rattle.std.specs.Prelude.{◌≡◌, ◌<◌, All, IfOk, IfSome, length};
+ghost use Rattle.mgn_span.specs.Positions.{IsNet};
+ghost use Rattle.mgn_unit.specs.NewSets.{IsPrepared, IsPreparedPortfolio};
 ghost use Rattle.mgn_unit.specs.Rows.{IsChange, IsRow, IsPortfolioRow, no_row, no_portfolio};
 
 use mgn_ids::{LotQuantity, Premium};
 use mgn_machine::Figures;
 use mgn_num::{Cents, Quantity};
 use mgn_params::{ParamSet, Work};
+use mgn_plain::requirement;
 use mgn_setfile::read_set;
-use mgn_unit::{Change, Gain, Nets, PortfolioRow, Priced, Row};
+use mgn_unit::{Change, Gain, Nets, PortfolioRow, PreparedPortfolio, PreparedUnit, Priced, Row, Switch};
 use std::alloc::{AllocError, Global};
 use std::process::Abort;
 use std::test::Fail;
@@ -164,6 +167,78 @@ fn changed(alloc: Global, set: &ParamSet, change: &Change) -> Result<([i128; 4],
     Ok((required(&row), short))
 }
 
+// Nets of a quantity of the first contract alone.
+fn nets_of(alloc: Global, set: &ParamSet, quantity: i8) -> Result<Nets, AllocError>
+    requires { 0 < length set.now.contracts }
+    ensures one_each { IfOk result (λ nets. length nets ≡ length set.now.contracts) }
+    ensures small { IfOk result (λ nets. All IsNet nets) }
+{
+    let mut nets = Nets::flat(alloc, set.contract_count())?;
+    nets.add(0, Quantity::new(i64::from(quantity)));
+    Ok(nets)
+}
+
+// What a quantity of the first contract requires, as it is worked out before a switch.
+fn prepared(alloc: Global, set: &ParamSet, quantity: i8) -> Result<PreparedPortfolio, AllocError>
+    requires { 0 < length set.now.contracts }
+    ensures { IfOk result (IsPreparedPortfolio set.now) }
+{
+    let nets = nets_of(alloc, set, quantity)?;
+    let requirement = requirement(alloc, set, nets.as_slice(), &mut Work::new())?;
+    Ok(PreparedPortfolio { nets, requirement })
+}
+
+// The same for the four portfolios.
+fn prepared_unit(
+    alloc: Global,
+    set: &ParamSet,
+    quantities: [i8; 4],
+) -> Result<PreparedUnit, AllocError>
+    requires { 0 < length set.now.contracts }
+    ensures { IfOk result (IsPrepared set.now) }
+{
+    let [lots, buys, sales, all] = quantities;
+    Ok(PreparedUnit {
+        lots: prepared(alloc, set, lots)?,
+        buys: prepared(alloc, set, buys)?,
+        sales: prepared(alloc, set, sales)?,
+        all: prepared(alloc, set, all)?,
+    })
+}
+
+// A portfolio of 2 in the first contract.
+fn two(alloc: Global, set: &ParamSet) -> Result<PortfolioRow, AllocError>
+    requires { 0 < length set.now.contracts }
+    ensures { IfOk result (IsPortfolioRow set.now) }
+{
+    Ok(PortfolioRow {
+        nets: nets_of(alloc, set, 2)?,
+        worth: Cents::ZERO,
+        requirement: Cents::ZERO,
+    })
+}
+
+// What the portfolios of a unit of two lots require after a switch for which this was prepared.
+fn switched(
+    alloc: Global,
+    set: &ParamSet,
+    prepared: Option<&PreparedUnit>,
+) -> Result<[i128; 4], AllocError>
+    requires contract { 0 < length set.now.contracts }
+    requires prepared { IfSome prepared (λ prepared. IsPrepared set.now prepared.now) }
+{
+    let row = Row {
+        sizes: nets_of(alloc, set, 2)?,
+        lots: two(alloc, set)?,
+        buys: two(alloc, set)?,
+        sales: two(alloc, set)?,
+        all: two(alloc, set)?,
+    };
+    let switch = Switch::new(alloc, set, set)?;
+    let switched = row.under(alloc, &switch, Cents::ZERO, prepared, &mut Work::new())?;
+    Ok(required(&switched))
+}
+
 // What a row as it may stand answers.
 fn check_answers(rt: &impl Abort, alloc: Global, set: &ParamSet) -> Result<(), AllocError> {
     assert_eq!(rt; amounts(&figures(alloc, set)?), [300, 900, 900, 900, 0]);
@@ -185,9 +260,21 @@ fn check_changes(rt: &impl Abort, alloc: Global, set: &ParamSet) -> Result<(), F
     Ok(())
 }
 
+// What was prepared counts where the nets are the same, and nowhere else.
+fn check_switches(rt: &impl Abort, alloc: Global, set: &ParamSet) -> Result<(), Fail> {
+    assert!(rt; set.contract_count() > 0);
+    assert_eq!(rt; switched(alloc, set, None)?, [600; 4]);
+    for quantities in [[2, 2, 2, 2], [1, 2, -3, 0], [3, 3, 3, 3]] {
+        let prepared = prepared_unit(alloc, set, quantities)?;
+        assert_eq!(rt; switched(alloc, set, Some(&prepared))?, [600; 4]);
+    }
+    Ok(())
+}
+
 #[test]
 fn a_row_answers_and_changes(rt: HostRuntime) -> Result<(), Fail> {
     let set = read_set(rt.alloc(), fut().as_bytes())?;
     check_answers(&rt, rt.alloc(), &set)?;
-    check_changes(&rt, rt.alloc(), &set)
+    check_changes(&rt, rt.alloc(), &set)?;
+    check_switches(&rt, rt.alloc(), &set)
 }

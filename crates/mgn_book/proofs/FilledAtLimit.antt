@@ -21,7 +21,7 @@ use Rattle.mgn_unit.specs.Rows.{portfolio_of, portfolio_room}
 use Rattle.mgn_unit.specs.declared.row.PortfolioRow.{PortfolioRow}
 use Rattle.mgn_unit.proofs.AtLimit.{fill_at_limit-keeps}
 use Rattle.mgn_book.specs.FilledAtLimit.{FillsAtLimit}
-use Rattle.mgn_book.proofs.Kept.{found-Some}
+use Rattle.mgn_register.proofs.Kept.{found-Some}
 
 -- Chains of refusals that came to an end.
 

@@ -14,7 +14,7 @@ use Rattle.mgn_machine.specs.State.{State, start}
 use Rattle.mgn_machine.specs.Step.{step}
 use Rattle.mgn_machine.specs.History.{Legal, replay, calls, entry, next, recorded, request_of}
 use Rattle.mgn_machine.proofs.Histories.{calls-push, replay-push, legal_from-push, legal-more, replay-more}
-use Rattle.mgn_book.specs.BookStates.{BookState, IsKept}
+use Rattle.mgn_register.specs.BookStates.{BookState, IsKept}
 use Rattle.mgn_book.specs.BookViews.{AreCounts, BookView, IsBook, Stands, sets_after}
 use Rattle.mgn_book.specs.Switches.{IsSwitched}
 

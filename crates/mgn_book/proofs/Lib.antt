@@ -1,12 +1,5 @@
-pub mod Busts
+-- Histories and switches of a book.
 pub mod FilledAtLimit
 pub mod Histories
-pub mod Holding
-pub mod Kept
-pub mod Opened
-pub mod Postings
-pub mod Steps
 pub mod StoredReplies
-pub mod Trades
-pub mod Moving
 pub mod Switches

@@ -1,4 +1,4 @@
--- Rows and refusals where another set comes into force.
+-- One switch: the state with its rows, and the shelf, after it.
 use Rattle.std.proofs.Common.{All, IfOk, IfSome, OnOk, Result, Ok, Err, length-append, ◌≡◌, ◌+◌, ◌-◌, ◌<◌, ◌≤◌, ◌∙◌, ℕ, zero, suc, Bool, true, false, List, [], ◌∷◌, ◌++◌, length, get_or, sym, ap, arith, refl, subst, filter, cond, ⊎_elim}
 use Rattle.std.specs.Prelude.{◌&&◌, ℤ}
 use Rattle.std.specs.List.{list_all}
@@ -22,58 +22,10 @@ use Rattle.mgn_unit.specs.NewSets.{AreWorths, is_covered, row_on_call, row_under
 use Rattle.mgn_unit.specs.Rows.{IsRow, row_of, row_with_worth}
 use Rattle.mgn_unit.proofs.Carried.{on_call-by_rows, row-under, worths-under}
 use Rattle.mgn_unit.proofs.Covered.{AreRowsOf, covers-by_rows, covers-known}
-use Rattle.mgn_book.specs.BookStates.{BookState, IsKept, IsUnitRow, book_state}
+use Rattle.mgn_register.specs.BookStates.{BookState, IsKept, IsUnitRow, book_state}
 use Rattle.mgn_book.specs.Switches.{IsSwitched}
-use Rattle.mgn_book.specs.declared.fault.Fault.{Fault}
-
--- the rows that are kept are those of the accounts' units
-are-rows : (set' : Tables) (f : BookState) → IsKept set' f → AreRowsOf set' f.state.accounts f.rows
-are-rows set' f kept = record {
-  limits = kept.accounts;
-  known = kept.known;
-  within = kept.within;
-  are = λ u d inside. (kept.rows u d inside).is;
-}
-
-pub covered-by_parts : (old new : Tables) (f : BookState) (contracts classes : Bool) → IsKept old f → contracts ≡ list_all (λ (row : Row). is_covered old new row.sizes) f.rows
-    → classes ≡ list_all (λ (a : AccountState). is_priced_by new.classes a.collateral) f.state.accounts → (contracts && classes) ≡ covers new f.state.accounts
-covered-by_parts old new f contracts classes kept has priced =
-    ap (λ (b : Bool). b && classes) has
-    ∙ ap (λ (b : Bool). list_all (λ (row : Row). is_covered old new row.sizes) f.rows && b) priced
-    ∙ sym (covers-by_rows old new f.state.accounts f.rows (are-rows old f kept))
-
--- what a unit's row may be worth under the new set
-pub worths-kept : (old new : Tables) (f : BookState) (u : ℕ) (gain : ℤ) (row : Row) → IsKept old f → IsWithinLimits new → u < length f.rows → row ≡ get_or f.rows u row → gain ≡ unit_gain old new f.state.accounts u → AreWorths (row_with_worth gain row)
-worths-kept old new f u gain row kept limits inside is gained =
-    worths-under old new f.state.accounts u gain row limits kept.accounts kept.few_accounts (is ∙ (kept.rows u row inside).is) gained
-
--- the row of a unit under the new set
-pub row-kept : (old new : Tables) (f : BookState) (u : ℕ) (gain : ℤ) (row now : Row) → IsKept old f → u < length f.rows → row ≡ get_or f.rows u row → gain ≡ unit_gain old new f.state.accounts u
-    → now ≡ row_under old new gain row → IsRow new now → IsUnitRow new f.state.accounts u now
-row-kept old new f u gain row now kept inside is gained under limits = record {
-  is = under ∙ row-under old new f.state.accounts u gain row kept.known (is ∙ (kept.rows u row inside).is) gained;
-  limits = limits;
-}
-
--- rows with one more
-pub rows-pushed : (set' : Tables) (accounts : List AccountState) (rows : List Row) (row : Row) (n : ℕ) → length rows ≡ n → ((u : ℕ) → u < n → (d : Row) → IsUnitRow set' accounts u (get_or rows u d)) → IsUnitRow set' accounts n row
-    → (u : ℕ) → u < n + 1 → (d : Row) → IsUnitRow set' accounts u (get_or (rows ++ row ∷ []) u d)
-rows-pushed set' accounts rows row n long so_far last u inside d = ⊎_elim before after (cases_lt u n)
-  where
-    before : u < n → IsUnitRow set' accounts u (get_or (rows ++ row ∷ []) u d)
-    before less = subst (λ (r : Row). IsUnitRow set' accounts u r) (sym (get_or_append_left rows (row ∷ []) d u (omega (arith, less, long)))) (so_far u less d)
-
-    after : n ≤ u → IsUnitRow set' accounts u (get_or (rows ++ row ∷ []) u d)
-    after more =
-        let same : n ≡ u = omega (arith, more, inside) in
-        let none : u - n ≡ 0 = omega (arith, same) in
-        subst (λ (r : Row). IsUnitRow set' accounts u r) (sym (get_or-append_right rows (row ∷ []) n u d long more ∙ ap (λ (k : ℕ). get_or (row ∷ []) k d) none)) (subst (λ (k : ℕ). IsUnitRow set' accounts k row) same last)
-
--- how many units are on call
-pub on_call-counted : (set' : Tables) (accounts : List AccountState) (rows : List Row) → ((u : ℕ) (d : Row) → u < length rows → IsUnitRow set' accounts u (get_or rows u d)) → length (filter row_on_call rows) ≡ on_call set' accounts (length rows)
-on_call-counted set' accounts rows are = length-filter row_on_call rows ∙ sym (on_call-by_rows set' accounts rows (λ u d inside. (are u d inside).is))
-
--- One switch.
+use Rattle.mgn_register.proofs.Switches.{on_call-counted}
+use Rattle.mgn_register.specs.declared.fault.Fault.{Fault}
 
 -- the set of the version after those that there are
 pub last-set : (sets : List Tables) (t : Tables) (version : ℕ) → length sets ≡ version → set_at (sets ++ t ∷ []) version ≡ t

@@ -9,7 +9,10 @@ use Rattle.mgn_machine.specs.declared.request.Request.{Request}
 use Rattle.mgn_machine.specs.declared.request.Request.TheVariants.{Do, Switch}
 use Rattle.mgn_machine.specs.Step.{step}
 use Rattle.mgn_machine.specs.History.{calls, entry, recorded, replay, Legal}
-use Rattle.mgn_book.specs.BookStates.{BookState, book_state, IsKept}
+use Rattle.mgn_unit.specs.declared.row.Row.{Row}
+use Rattle.mgn_register.specs.declared.plans.Plan.{Plan}
+use Rattle.mgn_register.specs.Plans.{LeavesNets}
+use Rattle.mgn_register.specs.BookStates.{BookState, book_state, IsKept}
 use Rattle.mgn_book.specs.declared.book.Outcome.{Outcome}
 use Rattle.mgn_book.specs.declared.book.Outcome.TheVariants.{Done, Full, Memory}
 
@@ -39,6 +42,12 @@ Committed sets old session number request (Done place reply) new =
     × (new.history ≡ old.history ++ entry session number (recorded request reply) reply ∷ [])
 Committed sets old session number request Full new = (new ≡ old) × (length old.history ≡ 1000000)
 Committed sets old session number request Memory new = (new ≡ old) × (length old.history < 1000000)
+
+-- what the commit of a command leaves of the nets of units
+abbrev pub Leaves : Tables → Plan → List Row → Outcome → List Row → Type 0
+Leaves set plan old (Done place reply) new = LeavesNets set plan reply old new
+Leaves set plan old Full new = new ≡ old
+Leaves set plan old Memory new = new ≡ old
 
 -- the sets after a request that was answered: one that came into force is the last of them
 abbrev pub sets_after : List Tables → Request → Reply → List Tables

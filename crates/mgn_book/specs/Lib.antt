@@ -1,9 +1,5 @@
--- The state with its rows, and days of them.
-pub mod BookStates
+-- The book: the state with its rows, and the history that made it.
 pub mod BookViews
-pub mod Balances
-pub mod RoomAsked
-pub mod TransferRows
 pub mod FilledAtLimit
 pub mod History
 pub mod Switches

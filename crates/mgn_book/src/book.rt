@@ -4,17 +4,18 @@ ghost use Rattle.mgn_params.specs.Tables.{Tables};
 ghost use Rattle.mgn_machine.specs.Refusals.{place_of};
 ghost use Rattle.mgn_machine.specs.declared.request.Request.TheVariants.{Do, Switch};
 ghost use Rattle.mgn_machine.specs.History.{calls};
-ghost use Rattle.mgn_book.specs.BookStates.{statement_found};
-ghost use Rattle.mgn_book.specs.BookViews.{Committed, Shelves, Stands, opening};
+ghost use Rattle.mgn_unit.specs.NewSets.{ArePrepared};
+ghost use Rattle.mgn_register.specs.BookStates.{statement_found};
+ghost use Rattle.mgn_register.specs.Plans.{Foresees, IsPossible, plan_of};
+ghost use Rattle.mgn_book.specs.BookViews.{Committed, Leaves, Shelves, Stands, opening};
 
-use crate::fault::Fault;
 use crate::history::History;
 use crate::in_force::switch_set;
-use crate::register::Register;
-use crate::step::step;
 use mgn_ids::{AccountName, SessionNo};
 use mgn_machine::{Command, Reply, Statement};
-use mgn_params::{ParamSet, Shelf};
+use mgn_params::{ParamSet, Shelf, Version};
+use mgn_register::{Fault, Known, Plan, Register, step};
+use mgn_unit::{PreparedUnit, Row};
 use std::alloc::{AllocError, Global};
 use std::marker::Model;
 
@@ -82,6 +83,20 @@ impl Book {
         self.counts[place]
     }
 
+    /// The version of the set in force.
+    pub fn version(&self) -> Version
+        ensures { result ≡ self.now.book.state.version }
+    {
+        self.register.version()
+    }
+
+    /// The rows of all margin units, in order of their numbers.
+    pub fn rows(&self) -> &[Row]
+        ensures { result.now ≡ self.now.book.rows }
+    {
+        self.register.rows()
+    }
+
     /// What every book meets: no work, a fact for callers.
     pub fn legal(&self)
         ensures { (sets : List Tables) × Stands sets self.now }
@@ -89,8 +104,24 @@ impl Book {
         let _ = &self.history;
     }
 
-    /// One step of the machine and its entry in the history. `Full` where the history has 1,000,000 entries, `Memory`
-    /// where memory is refused; then nothing has changed.
+    /// What a command changes in the rows of margin units under the set in force, where nothing but want of room refuses
+    /// it. It takes no memory.
+    pub fn plan<S: Shelf>(&self, shelf: &S, command: &Command) -> Plan
+        requires { Stands (S.sets shelf.now) self.now }
+        ensures plan { let state = self.now.book.state in
+            result ≡ plan_of (set_at (S.sets shelf.now) state.version) state command.now }
+        ensures possible { let book = self.now.book in
+            IsPossible (set_at (S.sets shelf.now) book.state.version) book.rows result }
+    {
+        let Some(set) = shelf.get(self.register.version()) else {
+            unreachable!();
+        };
+        self.register.plan(set, command)
+    }
+
+    /// One step of the machine and its entry in the history, what its units require being worked out. `Full` where the
+    /// history has 1,000,000 entries, `Memory` where memory is refused; then nothing has changed.
+    #[tactic(auto, using(mgn_register::proofs::Foreseen::foresees_nothing))]
     pub fn commit_plain<S: Shelf>(
         &mut self,
         alloc: Global,
@@ -103,6 +134,34 @@ impl Book {
         requires number { number ≡ calls session self.old.history + 1 }
         ensures stands { Stands (S.sets shelf.now) self.new }
         ensures committed { Committed (S.sets shelf.now) self.old session number (Do command.now) result self.new }
+        ensures nets { let state = self.old.book.state in
+            let set = set_at (S.sets shelf.now) state.version in
+            Leaves set (plan_of set state command.now) self.old.book.rows result self.new.book.rows }
+    {
+        self.commit_known(alloc, session, number, command, shelf, &Known::NOTHING)
+    }
+
+    /// The same where it may be known what the units of the command's plan require once it is done: then nothing is worked
+    /// out for them.
+    pub fn commit_known<S: Shelf>(
+        &mut self,
+        alloc: Global,
+        session: SessionNo,
+        number: u64,
+        command: &Command,
+        shelf: &S,
+        known: &Known,
+    ) -> Outcome
+        requires stands { Stands (S.sets shelf.now) self.old }
+        requires number { number ≡ calls session self.old.history + 1 }
+        requires known { let state = self.old.book.state in
+            let set = set_at (S.sets shelf.now) state.version in
+            Foresees set self.old.book.rows (plan_of set state command.now) known.now }
+        ensures stands { Stands (S.sets shelf.now) self.new }
+        ensures committed { Committed (S.sets shelf.now) self.old session number (Do command.now) result self.new }
+        ensures nets { let state = self.old.book.state in
+            let set = set_at (S.sets shelf.now) state.version in
+            Leaves set (plan_of set state command.now) self.old.book.rows result self.new.book.rows }
     {
         if self.history.len() >= MOST_ENTRIES {
             return Outcome::Full;
@@ -113,7 +172,7 @@ impl Book {
         let Some(set) = shelf.get(self.register.version()) else {
             unreachable!();
         };
-        let reply = match step(&mut self.register, alloc, set, command) {
+        let reply = match step(&mut self.register, alloc, set, command, known) {
             Ok(reply) => reply,
             Err(Fault::Memory) => return Outcome::Memory,
             Err(Fault::Refused(_)) => unreachable!(),
@@ -126,8 +185,8 @@ impl Book {
         Outcome::Done(self.history.len() as u64, reply)
     }
 
-    /// The statement of an account under the set in force, none where there is no such account. An error says that memory
-    /// was refused. The book is not asked to commit anything, and its history tells nothing of it.
+    /// The statement of an account under the set in force, none where there is no such account. An error says that
+    /// memory was refused. The book is not asked to commit anything, and its history tells nothing of it.
     pub fn statement<S: Shelf>(
         &self,
         alloc: Global,
@@ -148,6 +207,9 @@ impl Book {
     /// One switch to a set and its entry: it comes into force under the next version, or it is refused. `Full` where
     /// the history has 1,000,000 entries, `Memory` where memory is refused; then nothing has changed, in the book and
     /// on the shelf.
+    ///
+    /// What units require under the set may have been prepared, by their numbers. It is used where a unit's nets are
+    /// still the same; any other unit is worked out here.
     pub fn commit_switch<S: Shelf>(
         &mut self,
         alloc: Global,
@@ -155,9 +217,11 @@ impl Book {
         number: u64,
         set: ParamSet,
         shelf: &mut S,
+        prepared: &[Option<PreparedUnit>],
     ) -> Outcome
         requires stands { Stands (S.sets shelf.old) self.old }
         requires number { number ≡ calls session self.old.history + 1 }
+        requires prepared { ArePrepared set prepared.now }
         ensures place { S.place shelf.new ≡ S.place shelf.old }
         ensures stands { Stands (S.sets shelf.new) self.new }
         ensures committed { Committed (S.sets shelf.new) self.old session number (Switch set) result self.new }
@@ -177,6 +241,7 @@ impl Book {
             number,
             set,
             shelf,
+            prepared,
         );
         let reply = match switched {
             Ok(reply) => reply,

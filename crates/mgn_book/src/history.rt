@@ -144,7 +144,8 @@ fn place_of(sets: &[ParamSet], set: &ParamSet) -> Option<usize>
     None
 }
 
-// Puts a set that was refused at the end of a list, unless the list has it. Without memory for that the list is as it was.
+// Puts a set that was refused at the end of a list, unless the list has it. Without memory for that the list is as it
+// was.
 fn store_request(
     refused: &mut Vec<ParamSet>,
     request: Recorded,

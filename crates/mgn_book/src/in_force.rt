@@ -3,17 +3,16 @@ ghost use Rattle.mgn_params.specs.Shelves.{set_at};
 ghost use Rattle.mgn_machine.specs.declared.request.Recorded.TheVariants.{InForce, SetRefused};
 ghost use Rattle.mgn_machine.specs.declared.request.Request.TheVariants.{Switch};
 ghost use Rattle.mgn_machine.specs.History.{entry, recorded};
-ghost use Rattle.mgn_unit.specs.NewSets.{row_on_call};
-ghost use Rattle.mgn_book.specs.BookStates.{IsKept, book_state};
+ghost use Rattle.mgn_unit.specs.NewSets.{ArePrepared, row_on_call};
+ghost use Rattle.mgn_register.specs.BookStates.{IsKept, book_state};
 ghost use Rattle.mgn_book.specs.Switches.{IsSwitched};
 
-use crate::fault::Fault;
 use crate::history::History;
-use crate::register::Register;
 use mgn_ids::SessionNo;
 use mgn_machine::{NewSet, Recorded, Refusal, Reply};
 use mgn_params::{ParamSet, PutFault, Shelf};
-use mgn_unit::Row;
+use mgn_register::{Fault, Register};
+use mgn_unit::{PreparedUnit, Row};
 use std::alloc::Global;
 
 // Puts a set on the shelf, which is the last growth, and brings it into force with the rows under it.
@@ -99,10 +98,12 @@ pub(crate) fn switch_set<S: Shelf>(
     number: u64,
     set: ParamSet,
     shelf: &mut S,
+    prepared: &[Option<PreparedUnit>],
 ) -> Result<Reply, Fault>
     requires reserved { history.old.reserved ≡ true }
     requires number { number ≤ 1000000 }
     requires shown { length (S.sets shelf.old) ≡ register.old.state.version + 1 }
+    requires prepared { ArePrepared set prepared.now }
     requires kept { IsKept (set_at (S.sets shelf.old) register.old.state.version) register.old }
     ensures place { S.place shelf.new ≡ S.place shelf.old }
     ensures switched { IfOk result (λ reply.
@@ -118,7 +119,7 @@ pub(crate) fn switch_set<S: Shelf>(
     let Some(old) = shelf.get(register.version()) else {
         unreachable!();
     };
-    match register.rows_under(alloc, old, &set) {
+    match register.rows_under(alloc, old, &set, prepared) {
         Ok(rows) => enter_set(register, history, session, number, set, rows, shelf),
         Err(Fault::Refused(why)) => refuse_set(history, session, number, set, why),
         Err(Fault::Memory) => Err(Fault::Memory),

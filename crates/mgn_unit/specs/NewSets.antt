@@ -1,17 +1,20 @@
 -- Rows of margin units under a set that comes into force during the day.
-use Rattle.std.specs.Prelude.{ℕ, ◌≤◌, ◌^◌, Bool, ◌||◌, ℤ, pos, ◌+ℤ◌, ◌-ℤ◌, int_lt, unsigned_abs, Option, None, Some, position, List, length, map}
+use Rattle.std.specs.Prelude.{ℕ, ◌≡◌, ◌≤◌, ◌^◌, Bool, ◌||◌, ℤ, pos, ◌+ℤ◌, ◌-ℤ◌, int_lt, unsigned_abs, Option, None, Some, position, List, length, map, slice_index_or}
 use Rattle.std.specs.List.{list_all, range_with_len}
 use Rattle.std.specs.Ordering.{int_eq}
 use Rattle.std.specs.Str.{bytes_eq}
 use Rattle.mgn_params.specs.declared.tables.Contract.{Contract}
 use Rattle.mgn_params.specs.Limits.{contract_names}
 use Rattle.mgn_params.specs.Tables.{Tables, contract_at}
+use Rattle.mgn_span.specs.Requirement.{requirement}
 use Rattle.mgn_span.specs.Scan.{value_at}
 use Rattle.mgn_coll.specs.Posted.{value}
 use Rattle.mgn_machine.specs.State.{AccountState}
 use Rattle.mgn_machine.specs.Portfolios.{unit_sum}
 use Rattle.mgn_machine.specs.Refusals.{has_contract}
 use Rattle.mgn_unit.specs.declared.row.Row.{Row}
+use Rattle.mgn_unit.specs.declared.row.PreparedUnit.{PreparedUnit}
+use Rattle.mgn_unit.specs.declared.row.PreparedPortfolio.{PreparedPortfolio}
 use Rattle.mgn_unit.specs.declared.row.PortfolioRow.{PortfolioRow}
 use Rattle.mgn_unit.specs.Rows.{priced}
 
@@ -46,6 +49,25 @@ row_under old new gain row = record {
   sales = portfolio_under old new gain row.sales;
   all = portfolio_under old new gain row.all;
 }
+
+-- what nets require under a set, as large as it can be
+pub record IsRequired (set : Tables) (nets : List ℤ) (r : ℤ) : Type 0 where
+  pub is : r ≡ requirement set nets
+  pub small : unsigned_abs r ≤ 10 ^ 30
+
+-- what was prepared is what these nets require under the set
+abbrev pub IsPreparedPortfolio : Tables → PreparedPortfolio → Type 0
+IsPreparedPortfolio set prepared = IsRequired set prepared.nets prepared.requirement
+
+pub record IsPrepared (set : Tables) (prepared : PreparedUnit) : Type 0 where
+  pub lots : IsPreparedPortfolio set prepared.lots
+  pub buys : IsPreparedPortfolio set prepared.buys
+  pub sales : IsPreparedPortfolio set prepared.sales
+  pub all : IsPreparedPortfolio set prepared.all
+
+-- what was prepared of units, by their numbers
+abbrev pub ArePrepared : Tables → List (Option PreparedUnit) → Type 0
+ArePrepared set units = (u : ℕ) (one : PreparedUnit) → slice_index_or units u None ≡ Some one → IsPrepared set one
 
 -- the worths of a row as they can be
 pub record AreWorths (row : Row) : Type 0 where

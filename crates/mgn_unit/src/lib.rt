@@ -18,5 +18,5 @@ pub use change::{Change, Gain};
 pub use holding::filling_at_limit_keeps_room;
 pub use nets::Nets;
 pub use new_set::Switch;
-pub use row::{PortfolioRow, Priced, Row};
+pub use row::{PortfolioRow, PreparedPortfolio, PreparedUnit, Priced, Row};
 pub use transfer::add_both;

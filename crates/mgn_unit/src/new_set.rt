@@ -1,13 +1,14 @@
-ghost use Rattle.std.specs.Prelude.{◌≡◌, ◌<◌, ◌≤◌, ◌*◌, ◌^◌, ◌+ℤ◌, All, IfOk, length, unsigned_abs};
+ghost use Rattle.std.specs.Prelude.{◌≡◌, ◌<◌, ◌≤◌, ◌*◌, ◌^◌, ◌+ℤ◌, All, IfOk, IfSome, length, unsigned_abs};
+ghost use Rattle.mgn_params.specs.Tables.{Tables};
 ghost use Rattle.mgn_span.specs.Positions.{IsNet};
 ghost use Rattle.mgn_span.specs.Requirement.{requirement};
 ghost use Rattle.mgn_machine.specs.Portfolios.{in_unit};
 ghost use Rattle.mgn_unit.specs.Rows.{IsRow, IsPortfolioRow, row_with_worth};
-ghost use Rattle.mgn_unit.specs.NewSets.{AreWorths, SetPair, carried, is_covered, is_covered_at, places_in, portfolio_under, row_on_call, row_under, unit_gain, value_gain};
+ghost use Rattle.mgn_unit.specs.NewSets.{AreWorths, IsPrepared, IsPreparedPortfolio, IsRequired, SetPair, carried, is_covered, is_covered_at, places_in, portfolio_under, row_on_call, row_under, unit_gain, value_gain};
 
 use crate::account::Account;
 use crate::nets::Nets;
-use crate::row::{PortfolioRow, Row};
+use crate::row::{PortfolioRow, PreparedPortfolio, PreparedUnit, Row};
 use mgn_num::{Cents, Quantity};
 use mgn_params::{ParamSet, Work};
 use mgn_plain::requirement;
@@ -88,6 +89,30 @@ impl<'a> Switch<'a> {
     }
 }
 
+impl PreparedPortfolio {
+    // What nets require, where they are those that it was worked out for.
+    fn requirement_of(&self, nets: &Nets) -> Option<Cents>
+        ensures { (set : Tables) → IsPreparedPortfolio set self.now → IfSome result (IsRequired set nets.now) }
+    {
+        if self.nets.is_same(nets) {
+            Some(self.requirement)
+        } else {
+            None
+        }
+    }
+}
+
+// What nets require, where it was worked out before.
+fn prepared_requirement(prepared: Option<&PreparedPortfolio>, nets: &Nets) -> Option<Cents>
+    ensures { (set : Tables) → IfSome prepared.entry (λ prepared. IsPreparedPortfolio set prepared.now)
+        → IfSome result (IsRequired set nets.now) }
+{
+    match prepared {
+        Some(prepared) => prepared.requirement_of(nets),
+        None => None,
+    }
+}
+
 impl PortfolioRow {
     // The portfolio under the new set, with an amount more in worth.
     fn under(
@@ -95,15 +120,17 @@ impl PortfolioRow {
         alloc: Global,
         switch: &Switch,
         gain: Cents,
+        prepared: Option<&PreparedPortfolio>,
         work: &mut Work,
     ) -> Result<PortfolioRow, AllocError>
         requires side { IsPortfolioRow switch.now.old self.now }
         requires worth { unsigned_abs (self.now.worth +ℤ gain) ≤ 10 ^ 24 }
+        requires prepared { IfSome prepared (λ prepared. IsPreparedPortfolio switch.now.new prepared.now) }
         ensures side { IfOk result (λ side. side ≡ portfolio_under switch.now.old switch.now.new gain self.now) }
         ensures limits { IfOk result (λ side. IsPortfolioRow switch.now.new side) }
     {
         let nets = switch.carry(alloc, &self.nets)?;
-        let required = requirement(alloc, switch.new, nets.as_slice(), work)?;
+        let required = own_requirement(alloc, switch.new, &nets, prepared, work)?;
         Ok(PortfolioRow {
             nets,
             worth: self.worth.plus(gain),
@@ -117,18 +144,20 @@ impl PortfolioRow {
         alloc: Global,
         switch: &Switch,
         gain: Cents,
+        prepared: Option<&PreparedPortfolio>,
         other: &PortfolioRow,
         work: &mut Work,
     ) -> Result<PortfolioRow, AllocError>
         requires side { IsPortfolioRow switch.now.old self.now }
         requires worth { unsigned_abs (self.now.worth +ℤ gain) ≤ 10 ^ 24 }
+        requires prepared { IfSome prepared (λ prepared. IsPreparedPortfolio switch.now.new prepared.now) }
         requires other { IsPortfolioRow switch.now.new other.now }
         requires priced { other.now.requirement ≡ requirement switch.now.new other.now.nets }
         ensures side { IfOk result (λ side. side ≡ portfolio_under switch.now.old switch.now.new gain self.now) }
         ensures limits { IfOk result (λ side. IsPortfolioRow switch.now.new side) }
     {
         let nets = switch.carry(alloc, &self.nets)?;
-        let required = requirement_beside(alloc, switch.new, &nets, other, work)?;
+        let required = requirement_beside(alloc, switch.new, &nets, prepared, other, work)?;
         Ok(PortfolioRow {
             nets,
             worth: self.worth.plus(gain),
@@ -137,47 +166,93 @@ impl PortfolioRow {
     }
 }
 
-// What nets require, taken over from another portfolio where that has the same nets.
+// What nets require, as it was prepared where that was for the same nets.
+fn own_requirement(
+    alloc: Global,
+    set: &ParamSet,
+    nets: &Nets,
+    prepared: Option<&PreparedPortfolio>,
+    work: &mut Work,
+) -> Result<Cents, AllocError>
+    requires one_each { length nets.now ≡ length set.now.contracts }
+    requires nets { All IsNet nets.now }
+    requires prepared { IfSome prepared (λ prepared. IsPreparedPortfolio set.now prepared.now) }
+    ensures { IfOk result (IsRequired set.now nets.now) }
+{
+    match prepared_requirement(prepared, nets) {
+        Some(required) => Ok(required),
+        None => requirement(alloc, set, nets.as_slice(), work),
+    }
+}
+
+// The same, taken over from another portfolio where that has these nets.
 fn requirement_beside(
     alloc: Global,
     set: &ParamSet,
     nets: &Nets,
+    prepared: Option<&PreparedPortfolio>,
     other: &PortfolioRow,
     work: &mut Work,
 ) -> Result<Cents, AllocError>
     requires one_each { length nets.now ≡ length set.now.contracts }
     requires nets { All IsNet nets.now }
+    requires prepared { IfSome prepared (λ prepared. IsPreparedPortfolio set.now prepared.now) }
     requires other { IsPortfolioRow set.now other.now }
     requires priced { other.now.requirement ≡ requirement set.now other.now.nets }
-    ensures ok { IfOk result (λ r. r ≡ requirement set.now nets.now) }
-    ensures small { IfOk result (λ r. unsigned_abs r ≤ 10 ^ 30) }
+    ensures { IfOk result (IsRequired set.now nets.now) }
 {
     if nets.is_same(&other.nets) {
         return Ok(other.requirement);
     }
-    requirement(alloc, set, nets.as_slice(), work)
+    own_requirement(alloc, set, nets, prepared, work)
 }
 
 impl Row {
     /// The row under the new set of a switch, `gain` being how much more the unit's collateral is worth there: nets and
-    /// sizes by the contracts' names, and each requirement worked out anew. An error says that memory was refused.
+    /// sizes by the contracts' names. A requirement that was prepared is used where the nets are still the same, any other
+    /// is worked out anew. An error says that memory was refused.
     pub fn under(
         &self,
         alloc: Global,
         switch: &Switch,
         gain: Cents,
+        prepared: Option<&PreparedUnit>,
         work: &mut Work,
     ) -> Result<Row, AllocError>
         requires row { IsRow switch.now.old self.now }
+        requires prepared { IfSome prepared (λ prepared. IsPrepared switch.now.new prepared.now) }
         requires worths { AreWorths (row_with_worth gain self.now) }
         ensures row { IfOk result (λ row. row ≡ row_under switch.now.old switch.now.new gain self.now) }
         ensures limits { IfOk result (λ row. IsRow switch.now.new row) }
     {
         let sizes = switch.carry(alloc, &self.sizes)?;
-        let lots = self.lots.under(alloc, switch, gain, work)?;
-        let buys = self.buys.under_beside(alloc, switch, gain, &lots, work)?;
-        let sales = self.sales.under_beside(alloc, switch, gain, &lots, work)?;
-        let all = self.all.under_beside(alloc, switch, gain, &lots, work)?;
+        let lots = self
+            .lots
+            .under(alloc, switch, gain, prepared.map(|it| &it.lots), work)?;
+        let buys = self.buys.under_beside(
+            alloc,
+            switch,
+            gain,
+            prepared.map(|it| &it.buys),
+            &lots,
+            work,
+        )?;
+        let sales = self.sales.under_beside(
+            alloc,
+            switch,
+            gain,
+            prepared.map(|it| &it.sales),
+            &lots,
+            work,
+        )?;
+        let all = self.all.under_beside(
+            alloc,
+            switch,
+            gain,
+            prepared.map(|it| &it.all),
+            &lots,
+            work,
+        )?;
         Ok(Row {
             sizes,
             lots,

@@ -27,6 +27,24 @@ pub struct Row {
     pub all: PortfolioRow,
 }
 
+/// What the nets of a portfolio require under a set, worked out before that set comes into force.
+#[derive(Drop)]
+pub struct PreparedPortfolio {
+    /// One net for each contract of the set.
+    pub nets: Nets,
+    /// What they require.
+    pub requirement: Cents,
+}
+
+/// What the four portfolios of a margin unit require under a set, worked out before that set comes into force.
+#[derive(Drop)]
+pub struct PreparedUnit {
+    pub lots: PreparedPortfolio,
+    pub buys: PreparedPortfolio,
+    pub sales: PreparedPortfolio,
+    pub all: PreparedPortfolio,
+}
+
 /// The requirements of the four portfolios of a unit.
 #[derive(Clone, Copy)]
 pub struct Priced {

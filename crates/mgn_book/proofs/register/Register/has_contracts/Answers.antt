@@ -1,9 +1,0 @@
-use Rattle.std.proofs.Common.{ap, arith, length, sym}
-use Rattle.std.proofs.lemmas.List.Sums.{list_all-from_AllPass}
-use Rattle.mgn_unit.specs.NewSets.{is_covered}
-use Rattle.mgn_unit.specs.declared.row.Row.{Row as UnitRow}
-use Rattle.mgn_book.specs.BookStates.{BookState}
-use Rattle.mgn_book.proofs.register.Register.has_contracts.Goals as goal
-
-pub returns : goal.returns
-returns c = sym (list_all-from_AllPass (λ (row : UnitRow). is_covered c.args.old.now c.args.new.now row.sizes) c.args.self.now.rows (λ k d h. c.loop-unit.invariant k (omega (arith, h, ap (λ (f : BookState). length f.rows) c.self.view_is)) d))

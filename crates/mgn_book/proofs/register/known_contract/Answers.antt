@@ -1,6 +1,0 @@
-use Rattle.std.proofs.Common.{sym, ◌∙◌}
-use Rattle.mgn_book.proofs.Kept.{known-stands}
-use Rattle.mgn_book.proofs.register.known_contract.Goals as goal
-
-pub unreachable-requires : goal.unreachable-requires
-unreachable-requires c = known-stands c.args.set.now c.args.contract c.in-Err.field-0 c.requires (sym c.contract_of.ensures.place ∙ c.in-Err.is)

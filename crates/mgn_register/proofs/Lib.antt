@@ -1,0 +1,13 @@
+-- What the register keeps after each change.
+pub mod Answered
+pub mod Busts
+pub mod Following
+pub mod Foreseen
+pub mod Holding
+pub mod Kept
+pub mod Moving
+pub mod Opened
+pub mod Possible
+pub mod Postings
+pub mod Switches
+pub mod Trades

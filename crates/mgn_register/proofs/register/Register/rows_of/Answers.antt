@@ -1,0 +1,41 @@
+use Rattle.std.proofs.Common.{◌≡◌, ◌<◌, ◌∙◌, IfSome, List, get_or, length, ap, rules, subst, sym}
+use Rattle.mgn_params.specs.Tables.{Tables}
+use Rattle.mgn_machine.specs.State.{AccountState}
+use Rattle.mgn_unit.specs.NewSets.{IsPrepared, row_under, unit_gain}
+use Rattle.mgn_register.specs.BookStates.{BookState}
+use Rattle.mgn_register.proofs.Switches.{row-kept, rows-pushed, worths-kept}
+use Rattle.mgn_register.proofs.register.Register.rows_of.Goals as goal
+
+pub under-requires-clause-worths : goal.under-requires-clause-worths
+under-requires-clause-worths c =
+    let f : BookState = c.args.self.now in
+    let u = c.loop-unit.unit in
+    let gained : c.gain-gain.result ≡ unit_gain c.args.old.now c.args.new.now f.state.accounts u = search rules in
+    let inside : u < length f.rows = search rules in
+    let is : c.index.result.now ≡ get_or f.rows u c.index.result.now = search rules in
+    worths-kept c.args.old.now c.args.new.now f u c.gain-gain.result c.index.result.now c.requires.kept c.limits.ensures inside is gained
+
+pub under-requires-clause-prepared : goal.under-requires-clause-prepared
+under-requires-clause-prepared c =
+    subst (λ (t : Tables). IfSome c.prepared_of-ready.result (λ one. IsPrepared t one.now)) (sym c.in_ok-switch.ensures.new) (c.prepared_of-ready.ensures c.args.new.now c.requires.prepared)
+
+pub loop-unit-preserved : goal.loop-unit-preserved
+loop-unit-preserved c =
+    let f : BookState = c.args.self.now in
+    let u = c.loop-unit.unit in
+    let gained : c.gain-gain.result ≡ unit_gain c.args.old.now c.args.new.now f.state.accounts u =
+    c.gain-gain.ensures
+    ∙ ap (λ (t : Tables). unit_gain t c.in_ok-switch.switch.new c.as_slice.result.now u) c.in_ok-switch.ensures.old
+    ∙ ap (λ (t : Tables). unit_gain c.args.old.now t c.as_slice.result.now u) c.in_ok-switch.ensures.new
+    ∙ ap (λ (accounts : List AccountState). unit_gain c.args.old.now c.args.new.now accounts u) (c.as_slice.ensures.value ∙ ap (λ (g : BookState). g.state.accounts) c.self.view_is)
+    in
+    let inside : u < length f.rows = search rules in
+    let is : c.index.result.now ≡ get_or f.rows u c.index.result.now = search rules in
+    let under : c.in_ok-row.row ≡ row_under c.args.old.now c.args.new.now c.gain-gain.result c.index.result.now = search rules in
+    let long : length c.loop-unit.rows.items ≡ u = search rules in
+    let last = row-kept c.args.old.now c.args.new.now f u c.gain-gain.result c.index.result.now c.in_ok-row.row c.requires.kept inside is gained under (search rules) in
+    record {
+      len = search rules;
+      room = search rules;
+      so_far = λ k h d. rw c.push_reserved.ensures.items (rows-pushed c.args.new.now f.state.accounts c.loop-unit.rows.items c.in_ok-row.row u long c.loop-unit.invariant.so_far last k h d);
+    }

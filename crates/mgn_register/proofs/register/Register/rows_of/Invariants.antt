@@ -1,0 +1,12 @@
+use Rattle.std.proofs.Common.{◌≡◌, ◌<◌, ◌≤◌, ℕ, get_or, length, vec_len}
+use Rattle.std.specs.Vec.{vec_capacity}
+use Rattle.mgn_unit.specs.declared.row.Row.{Row as UnitRow}
+use Rattle.mgn_register.specs.BookStates.{IsUnitRow}
+use Rattle.mgn_register.proofs.register.Register.rows_of.Given as goal
+
+abbrev pub invariant-loop-unit : goal.invariant-loop-unit
+invariant-loop-unit l = record {
+  len : vec_len l.rows ≡ l.unit;
+  room : length l.self.rows ≤ vec_capacity l.rows;
+  so_far : (u : ℕ) → u < l.unit → (d : UnitRow) → IsUnitRow l.new l.self.state.accounts u (get_or l.rows.items u d);
+}

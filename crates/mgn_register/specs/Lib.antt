@@ -1,0 +1,7 @@
+-- The state with its rows, and what commands do to them.
+pub mod BookStates
+pub mod Balances
+pub mod RoomAsked
+pub mod TransferRows
+pub mod Plans
+pub mod Fits

@@ -1,0 +1,179 @@
+ghost use Rattle.std.specs.Prelude.{◌≡◌, ◌<◌, length};
+ghost use Rattle.mgn_machine.specs.Holding.{fill_places, hold_places, release_places};
+ghost use Rattle.mgn_machine.specs.Refusals.{bust_places, trade_places};
+ghost use Rattle.mgn_machine.specs.State.{account_at};
+ghost use Rattle.mgn_machine.specs.Transfers.{move_places};
+ghost use Rattle.mgn_register.specs.BookStates.{IsKept};
+ghost use Rattle.mgn_register.specs.Plans.{IsPossible, bust_plan, fill_plan, hold_plan, in_unit_of, move_plan, both_plan, plan_of, release_plan, trade_plan};
+
+use crate::register::Register;
+use mgn_ids::{AccountName, LotId, OrderId};
+use mgn_machine::{Command, Fill, Hold, Trade, Transfer};
+use mgn_params::ParamSet;
+use mgn_unit::{Change, Priced};
+
+/// What a command changes in the row of a margin unit.
+#[derive(Clone, Copy)]
+pub struct UnitChange {
+    /// The unit's number.
+    pub unit: usize,
+    /// What changes in its row, in one contract.
+    pub change: Change,
+}
+
+/// What a command changes in the rows of margin units.
+#[derive(Clone, Copy)]
+pub enum Plan {
+    /// Nothing, or no portfolio.
+    Nothing,
+    /// One row.
+    One(UnitChange),
+    /// The rows of two units, those of the giver and the taker of a transfer.
+    Two(UnitChange, UnitChange),
+}
+
+/// What the units of a plan require once it is done, in its order, where that is known before.
+#[derive(Clone, Copy)]
+pub struct Known {
+    pub first: Option<Priced>,
+    pub second: Option<Priced>,
+}
+
+impl Known {
+    /// Nothing is known: what is required is worked out.
+    pub const NOTHING: Known = Known {
+        first: None,
+        second: None,
+    };
+}
+
+fn both(giver: UnitChange, taker: UnitChange) -> Plan
+    ensures { result ≡ both_plan giver taker }
+{
+    if giver.unit == taker.unit {
+        Plan::Nothing
+    } else {
+        Plan::Two(giver, taker)
+    }
+}
+
+impl Register {
+    // A change in the row of an account's unit.
+    fn in_unit_of(&self, place: usize, change: Change) -> UnitChange
+        requires { place < length self.now.state.accounts }
+        ensures { result ≡ in_unit_of self.now.state place change }
+    {
+        UnitChange {
+            unit: self.accounts[place].unit(),
+            change,
+        }
+    }
+
+    fn trade_plan(&self, set: &ParamSet, trade: &Trade) -> Plan
+        requires { IsKept set.now self.now }
+        ensures plan { result ≡ trade_plan self.now.state trade.now (trade_places set.now self.now.state trade.now) }
+        ensures possible { IsPossible set.now self.now.rows result }
+    {
+        set.limits();
+        let Ok((place, i)) = self.trade_places(set, trade) else {
+            return Plan::Nothing;
+        };
+        Plan::One(self.in_unit_of(place, Change::of_lot(i, trade.quantity, trade.premium)))
+    }
+
+    fn bust_plan(&self, set: &ParamSet, account: AccountName, lot: LotId) -> Plan
+        requires { IsKept set.now self.now }
+        ensures plan { result ≡ bust_plan set.now self.now.state (bust_places self.now.state account lot) }
+        ensures possible { IsPossible set.now self.now.rows result }
+    {
+        set.limits();
+        let Ok((place, at)) = self.bust_places(account, lot) else {
+            return Plan::Nothing;
+        };
+        let contract = self.contract_of_lot(set, place, at);
+        let lot = self.accounts[place].lot_at(at);
+        Plan::One(self.in_unit_of(place, Change::of_bust(contract, lot)))
+    }
+
+    fn hold_plan(&self, set: &ParamSet, hold: &Hold) -> Plan
+        requires { IsKept set.now self.now }
+        ensures plan { result ≡ hold_plan self.now.state hold.now (hold_places set.now self.now.state hold.now) }
+        ensures possible { IsPossible set.now self.now.rows result }
+    {
+        set.limits();
+        let Ok((place, i)) = self.hold_places(set, hold) else {
+            return Plan::Nothing;
+        };
+        Plan::One(self.in_unit_of(place, Change::of_hold(i, hold.quantity, hold.limit)))
+    }
+
+    fn fill_plan(&self, set: &ParamSet, fill: &Fill) -> Plan
+        requires { IsKept set.now self.now }
+        ensures plan { result ≡ fill_plan set.now self.now.state fill.now (fill_places set.now self.now.state fill.now) }
+        ensures possible { IsPossible set.now self.now.rows result }
+    {
+        set.limits();
+        let Ok((place, hold)) = self.fill_places(set, fill) else {
+            return Plan::Nothing;
+        };
+        let i = self.held_contract(set, place, hold);
+        let limit = self.accounts[place].hold_at(hold).limit;
+        let change = Change::of_fill(i, fill.quantity, limit, fill.premium);
+        Plan::One(self.in_unit_of(place, change))
+    }
+
+    fn release_plan(&self, set: &ParamSet, account: AccountName, order: OrderId) -> Plan
+        requires { IsKept set.now self.now }
+        ensures plan { result ≡ release_plan set.now self.now.state (release_places self.now.state account order) }
+        ensures possible { IsPossible set.now self.now.rows result }
+    {
+        set.limits();
+        let Ok((place, hold)) = self.release_places(account, order) else {
+            return Plan::Nothing;
+        };
+        let i = self.held_contract(set, place, hold);
+        let held = self.accounts[place].hold_at(hold);
+        Plan::One(self.in_unit_of(place, Change::of_release(i, held)))
+    }
+
+    fn move_plan(&self, set: &ParamSet, transfer: &Transfer) -> Plan
+        requires { IsKept set.now self.now }
+        ensures plan { result ≡ move_plan self.now.state transfer.now (move_places set.now self.now.state transfer.now) }
+        ensures possible { IsPossible set.now self.now.rows result }
+    {
+        set.limits();
+        let Ok((from, to, i)) = self.move_places(set, transfer) else {
+            return Plan::Nothing;
+        };
+        let quantity = transfer.quantity.quantity();
+        both(
+            self.in_unit_of(from, Change::of_moved(i, quantity.negated())),
+            self.in_unit_of(to, Change::of_moved(i, quantity)),
+        )
+    }
+
+    /// What a command changes in the rows of margin units, where nothing but want of room refuses it. The rows can change so.
+    /// It takes no memory.
+    pub fn plan(&self, set: &ParamSet, command: &Command) -> Plan
+        requires { IsKept set.now self.now }
+        ensures plan { result ≡ plan_of set.now self.now.state command.now }
+        ensures possible { IsPossible set.now self.now.rows result }
+    {
+        match *command {
+            Command::Trade(trade) => self.trade_plan(set, &trade),
+            Command::Bust(account, lot) => self.bust_plan(set, account, lot),
+            Command::Hold(hold) => self.hold_plan(set, &hold),
+            Command::Fill(fill) => self.fill_plan(set, &fill),
+            Command::Release(account, order) => self.release_plan(set, account, order),
+            Command::Transfer(transfer) => self.move_plan(set, &transfer),
+            Command::NewOrigin(..)
+            | Command::NewAccount(..)
+            | Command::Post(..)
+            | Command::Draw(..)
+            | Command::Ask(_)
+            | Command::Total(_)
+            | Command::Statement(_)
+            | Command::EndDay => Plan::Nothing,
+        }
+    }
+}

@@ -1,0 +1,136 @@
+ghost use Rattle.std.specs.Prelude.{◌≡◌, ◌<◌, ◌≤◌, ℕ, length, filter, slice_index_or, IfOk, IfSome, OnOk, true};
+ghost use Rattle.std.specs.List.{list_all};
+ghost use Rattle.mgn_coll.specs.Posted.{is_priced_by};
+ghost use Rattle.mgn_machine.specs.NewSet.{covers, set_fits};
+ghost use Rattle.mgn_machine.specs.State.{AccountState};
+ghost use Rattle.mgn_params.specs.Tables.{Tables};
+ghost use Rattle.mgn_unit.specs.NewSets.{ArePrepared, IsPrepared, is_covered, row_on_call};
+ghost use Rattle.mgn_unit.specs.declared.row.Row.{Row as UnitRow};
+ghost use Rattle.mgn_register.specs.BookStates.{IsKept, IsUnitRow, book_state};
+ghost use Rattle.mgn_register.specs.Fits.{Fits};
+
+use crate::fault::Fault;
+use crate::register::{Register, refuse_if};
+use mgn_machine::Refusal;
+use mgn_params::{ParamSet, Version, Work};
+use mgn_unit::{PreparedUnit, Row, Switch};
+use std::alloc::{AllocError, Global};
+
+/// How many sets may come into force after the first.
+const MOST_SWITCHES: u8 = 64;
+
+// What was prepared of a unit, if anything was.
+fn prepared_of(prepared: &[Option<PreparedUnit>], unit: usize) -> Option<&PreparedUnit>
+    ensures { (set : Tables) → ArePrepared set prepared.now → IfSome result (λ one. IsPrepared set one.now) }
+{
+    prepared.get(unit)?.as_ref()
+}
+
+impl Register {
+    // Whether a set has the contract of each live lot and each hold, by the sizes of the units.
+    fn has_contracts(&self, old: &ParamSet, new: &ParamSet) -> bool
+        requires kept { IsKept old.now self.now }
+        ensures { result ≡ list_all (λ (row : UnitRow). is_covered old.now new.now row.sizes) self.now.rows }
+    {
+        for unit in 0..self.rows.len() {
+            if !self.rows[unit].is_covered_by(old, new) {
+                return false;
+            }
+        }
+        true
+    }
+
+    // Whether a set has each class of which units are posted.
+    fn has_classes(&self, new: &ParamSet) -> bool
+        ensures { result ≡
+            list_all (λ (a : AccountState). is_priced_by new.now.classes a.collateral) self.now.state.accounts }
+    {
+        self.accounts
+            .iter()
+            .all(|account| account.is_priced_by(new))
+    }
+
+    // Whether a set has what all accounts hold.
+    fn is_covered_by(&self, old: &ParamSet, new: &ParamSet) -> bool
+        requires kept { IsKept old.now self.now }
+        ensures { result ≡ covers new.now self.now.state.accounts }
+    {
+        self.has_contracts(old, new) && self.has_classes(new)
+    }
+
+    // Whether a set may come into force.
+    #[tactic(auto, unfolding(mgn_machine::specs::NewSet::set_fits))]
+    fn set_fits(&self, old: &ParamSet, new: &ParamSet) -> Result<(), Refusal>
+        requires kept { IsKept old.now self.now }
+        ensures fits { result ≡ set_fits new.now self.now.state }
+        ensures covers { OnOk result (covers new.now self.now.state.accounts ≡ true) }
+        ensures few { OnOk result (self.now.state.version < 64) }
+    {
+        refuse_if(self.closed, Refusal::Closed)?;
+        refuse_if(!self.is_covered_by(old, new), Refusal::Missing)?;
+        refuse_if(self.version.number() >= MOST_SWITCHES, Refusal::Sets)
+    }
+
+    // The rows of all units under a set that has what the accounts hold.
+    fn rows_of(
+        &self,
+        alloc: Global,
+        old: &ParamSet,
+        new: &ParamSet,
+        prepared: &[Option<PreparedUnit>],
+    ) -> Result<Vec<Row>, AllocError>
+        requires kept { IsKept old.now self.now }
+        requires covers { covers new.now self.now.state.accounts ≡ true }
+        requires prepared { ArePrepared new.now prepared.now }
+        ensures long { IfOk result (λ rows. length rows.items ≡ length self.now.rows) }
+        ensures rows { IfOk result (λ rows. (u : ℕ) (d : UnitRow) → u < length rows.items →
+            IsUnitRow new.now self.now.state.accounts u (slice_index_or rows.items u d)) }
+    {
+        new.limits();
+        let switch = Switch::new(alloc, old, new)?;
+        let mut work = Work::new();
+        let mut rows = Vec::with_capacity(alloc, self.rows.len())?;
+        for unit in 0..self.rows.len() {
+            let gain = switch.gain(self.accounts.as_slice(), unit);
+            let ready = prepared_of(prepared, unit);
+            let row = self.rows[unit].under(alloc, &switch, gain, ready, &mut work)?;
+            rows.push_reserved(row);
+        }
+        Ok(rows)
+    }
+
+    /// The rows of all units under another set, or why it may not come into force. Nothing changes. Memory is asked for
+    /// only where it may. What was prepared of units under that set, by their numbers, is used where a
+    /// unit's nets are still the same; any other unit is worked out anew.
+    pub fn rows_under(
+        &self,
+        alloc: Global,
+        old: &ParamSet,
+        new: &ParamSet,
+        prepared: &[Option<PreparedUnit>],
+    ) -> Result<Vec<Row>, Fault>
+        requires kept { IsKept old.now self.now }
+        requires prepared { ArePrepared new.now prepared.now }
+        ensures fits { Fits (set_fits new.now self.now.state) result }
+        ensures covers { OnOk result (covers new.now self.now.state.accounts ≡ true) }
+        ensures few { OnOk result (self.now.state.version < 64) }
+        ensures long { IfOk result (λ rows. length rows.items ≡ length self.now.rows) }
+        ensures rows { IfOk result (λ rows. (u : ℕ) (d : UnitRow) → u < length rows.items →
+            IsUnitRow new.now self.now.state.accounts u (slice_index_or rows.items u d)) }
+    {
+        self.set_fits(old, new)?;
+        Ok(self.rows_of(alloc, old, new, prepared)?)
+    }
+
+    /// Another set is in force, under which these are the rows of all units. Gives how many of these are on call.
+    pub fn put_in_force(&mut self, rows: Vec<Row>, version: Version) -> u32
+        requires few { length rows.items ≤ 1024 }
+        ensures state { let old = self.old.state in
+            self.new ≡ book_state old.origins old.accounts rows.items old.closed version }
+        ensures on_call { result ≡ length (filter row_on_call rows.items) }
+    {
+        self.rows = rows;
+        self.version = version;
+        self.rows.iter().filter(|row| row.is_on_call()).count() as u32
+    }
+}
