@@ -1,3 +1,4 @@
 -- What the contracts of scripts cite.
+pub mod Desks
 pub mod Plain
 pub mod Script

@@ -11,6 +11,8 @@ use Rattle.mgn_machine.specs.declared.request.Request.{Request}
 use Rattle.mgn_book.specs.BookViews.{BookView, Stands, sets_after}
 use Rattle.mgn_book.specs.declared.book.Outcome.{Outcome}
 use Rattle.mgn_book.specs.declared.book.Outcome.TheVariants as outcome
+use Rattle.mgn_desk.specs.Desks.{DeskRows}
+use Rattle.mgn_script.specs.Desks.{AreAtRest}
 use Rattle.mgn_session.specs.Session.{Call, IsUnplaced}
 
 -- what a book of one session is seen as
@@ -22,6 +24,12 @@ pub record ScriptView : Type 0 where
 pub record IsScriptView (sets : List Tables) (day : BookView) : Type 0 where
   pub stands : Stands sets day
   pub all : calls 1 day.history ≡ length day.history
+
+-- and the desks of its units are as its rows are, or are to be marked
+pub record IsPlain (sets : List Tables) (day : BookView) (desks : List DeskRows) : Type 0 where
+  pub stands : Stands sets day
+  pub all : calls 1 day.history ≡ length day.history
+  pub rest : AreAtRest sets day.book desks
 
 -- what a commit is answered
 abbrev pub answer_of : Outcome → Answer

@@ -1,6 +1,7 @@
 //! Scripts: a book of one session that answers lines of commands.
 #![tactic(auto)]
 
+mod by_desks;
 pub mod plain;
 pub mod script;
 

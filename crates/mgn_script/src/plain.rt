@@ -3,31 +3,35 @@ ghost use Rattle.mgn_machine.specs.History.{Legal, calls, items_of};
 ghost use Rattle.mgn_book.specs.BookViews.{Committed, Shelves, opening};
 ghost use Rattle.mgn_script.specs.Plain.{answer_of};
 
+use crate::by_desks::commit_command;
 use mgn_book::{Book, Outcome};
 use mgn_ids::SessionNo;
 use mgn_machine::{Answer, Refusal, Request};
 use mgn_params::{ParamSet, SetList};
+use mgn_pricing::Desks;
 use mgn_session::Exec;
 use std::alloc::{AllocError, Global};
 use std::marker::Model;
 
 /// A book over a shelf of one thread, all of whose commands come from session 1. Contracts see the sets of the shelf, by
-/// version, and the book's day.
+/// version, and the book's day. The desks of its units stand beside it, so that what a command requires is not worked out
+/// anew.
 #[derive(Drop)]
 pub struct Plain {
     alloc: Global,
     shelf: SetList,
     pub(crate) book: Book,
+    desks: Desks,
 }
 
 impl Model for Plain {
-    ghost use Rattle.mgn_script.specs.Plain.{IsScriptView, ScriptView};
+    ghost use Rattle.mgn_script.specs.Plain.{IsPlain, ScriptView};
 
     ghost Value = { ScriptView };
 
     ghost view = { λ p. record { sets = p.shelf; day = p.book } };
 
-    ghost invariant = { λ p. IsScriptView p.shelf p.book };
+    ghost invariant = { λ p. IsPlain p.shelf p.book p.desks };
 }
 
 impl Plain {
@@ -38,7 +42,12 @@ impl Plain {
     {
         let shelf = SetList::new(alloc, set)?;
         let book = Book::new(alloc, &shelf);
-        Ok(Plain { alloc, shelf, book })
+        Ok(Plain {
+            alloc,
+            shelf,
+            book,
+            desks: Desks::new(alloc),
+        })
     }
 
     /// How many commands the history has. It is legal: each has the machine's reply after those before it.
@@ -71,15 +80,21 @@ impl Plain {
         ensures committed { Committed self.new.sets self.old.day 1 number request result self.new.day }
         ensures sets { Shelves self.old.sets request result self.new.sets }
     {
-        let session = SessionNo::new(1);
         match request {
-            Request::Do(command) => {
-                self.book
-                    .commit_plain(self.alloc, session, number, &command, &self.shelf)
-            }
+            Request::Do(command) => commit_command(
+                self.alloc,
+                &mut self.book,
+                &mut self.desks,
+                &self.shelf,
+                number,
+                &command,
+            ),
             Request::Switch(set) => {
+                // (desks of an older version would be marked anew all the same)
+                self.desks = Desks::new(self.alloc);
+                let session = SessionNo::new(1);
                 self.book
-                    .commit_switch(self.alloc, session, number, set, &mut self.shelf)
+                    .commit_switch(self.alloc, session, number, set, &mut self.shelf, &[])
             }
         }
     }

@@ -1,0 +1,2 @@
+-- Desks that move with rows.
+pub mod Moved

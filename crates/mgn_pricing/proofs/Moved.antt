@@ -1,0 +1,108 @@
+-- A desk that moves as its row does.
+use Rattle.std.proofs.Common.{◌≡◌, ◌<◌, ◌∙◌, ℕ, zero, suc, ℤ, pos, All, List, [], ◌∷◌, ◌++◌, length, get_or, set, sym, ap, subst, refl, arith, Option, Some, None}
+use Rattle.std.specs.Prelude.{◌+ℤ◌, neg_ℤ}
+use Rattle.std.proofs.lemmas.Int.{ints}
+use Rattle.std.proofs.lemmas.List.{get_or-set_same, length-set}
+use Rattle.mgn_params.specs.Tables.{Tables}
+use Rattle.mgn_span.specs.Positions.{IsNet}
+use Rattle.mgn_span.specs.Scan.{value_at}
+use Rattle.mgn_desk.specs.declared.desk.Marked.{Marked}
+use Rattle.mgn_desk.specs.declared.moves.Requirements.{Requirements}
+use Rattle.mgn_desk.specs.Desks.{CanMoveMarked, DeskRows, IsMarkedBy, MarkedNets, Requires, Shown, marked_nets, marked_with, moved_desk, moved_marked, shown}
+use Rattle.mgn_desk.specs.Portfolios.{AreFourNets, ArePortfolios, AreSmall, CanMove, FourNets, moved_by, nets_of, opposite, requirements_of}
+use Rattle.mgn_unit.specs.declared.change.Change.{Change}
+use Rattle.mgn_unit.specs.declared.row.Priced.{Priced}
+use Rattle.mgn_unit.specs.declared.row.Row.{Row}
+use Rattle.mgn_unit.specs.Rows.{IsChange, IsRoomy, IsRow, Prices, more_at}
+use Rattle.mgn_register.specs.Plans.{UnitNets, moved_nets, nets_in}
+use Rattle.mgn_pricing.specs.Desks.{IsReady, IsReadyWith, Rests, four, moves_of}
+
+-- a net that moves stays within its limit
+net-moved : (nets : List ℤ) (i : ℕ) (quantity : ℤ) → i < length nets → All IsNet (more_at nets i quantity) → IsNet (value_at nets i +ℤ quantity)
+net-moved nets i quantity inside small =
+    subst IsNet (get_or-set_same nets i (value_at nets i +ℤ quantity) (pos 0) inside) (small i (pos 0) (omega (arith, length-set nets i (value_at nets i +ℤ quantity), inside)))
+
+-- the desk of a row can move as a change that the row can take
+pub can_move : (set' : Tables) (version : ℕ) (row : Row) (change : Change) (now : Option Marked) → IsRow set' row → IsChange set' change → IsRoomy change row → IsReady set' version (nets_in row) now → CanMoveMarked (moves_of change) now
+can_move set' version row change None is possible roomy ready = tt
+can_move set' version row change (Some m) is possible roomy ready =
+    subst (λ (n : FourNets). CanMove (moves_of change) n) (sym ready.shows) record {
+      lots = net-moved row.lots.nets change.contract change.lots.quantity (omega (arith, is.lots.one_each, possible.contract)) roomy.lots;
+      buys = net-moved row.buys.nets change.contract change.buys.quantity (omega (arith, is.buys.one_each, possible.contract)) roomy.buys;
+      sales = net-moved row.sales.nets change.contract change.sales.quantity (omega (arith, is.sales.one_each, possible.contract)) roomy.sales;
+      all = net-moved row.all.nets change.contract change.all.quantity (omega (arith, is.all.one_each, possible.contract)) roomy.all;
+    }
+
+pub is_marked : (set' : Tables) (version : ℕ) (nets : UnitNets) (now : Option Marked) → IsReady set' version nets now → IsMarkedBy set' now
+is_marked set' version nets None ready = ready
+is_marked set' version nets (Some m) ready = ready.of_set
+
+abbrev nets_or : FourNets → Option MarkedNets → FourNets
+nets_or d None = d
+nets_or d (Some m) = m.nets
+
+-- what a desk requires after a change, by what its row then requires
+pub priced-by : (set' : Tables) (version : ℕ) (row : Row) (change : Change) (before after : DeskRows) (r : Requirements) → IsReady set' version (nets_in row) before.marked → shown after ≡ moved_desk (moves_of change) (shown before)
+    → Requires set' after.marked r → AreSmall r → Prices set' change row record { lots = r.lots; buys = r.buys; sales = r.sales; all = r.all }
+priced-by set' version row change before after r ready moved required small = by before.marked after.marked ready (ap (λ (s : Shown). s.marked) moved) required
+  where
+    by : (b a : Option Marked) → IsReady set' version (nets_in row) b → marked_nets a ≡ moved_marked (moves_of change) (marked_nets b) → Requires set' a r → Prices set' change row record { lots = r.lots; buys = r.buys; sales = r.sales; all = r.all }
+    by None a is same told = absurd is
+    by (Some b) None is same told = absurd told
+    by (Some b) (Some a) is same told =
+        let nets : nets_of a.portfolios ≡ moved_by (moves_of change) (four (nets_in row)) =
+        ap (nets_or (nets_of a.portfolios)) same ∙ ap (moved_by (moves_of change)) is.shows
+        in
+        let all : r ≡ requirements_of set' (moved_by (moves_of change) (four (nets_in row))) = told ∙ ap (requirements_of set') nets in
+        record {
+          lots = record { is = ap (λ (x : Requirements). x.lots) all; small = small.lots };
+          buys = record { is = ap (λ (x : Requirements). x.buys) all; small = small.buys };
+          sales = record { is = ap (λ (x : Requirements). x.sales) all; small = small.sales };
+          all = record { is = ap (λ (x : Requirements). x.all) all; small = small.all };
+        }
+
+-- Moving back.
+
+net-back : (nets : List ℤ) (i : ℕ) (quantity : ℤ) → i < length nets → All IsNet nets → IsNet (value_at (more_at nets i quantity) i +ℤ neg_ℤ quantity)
+net-back nets i quantity inside small =
+    let there = get_or-set_same nets i (value_at nets i +ℤ quantity) (pos 0) inside in
+    subst (λ (z : ℤ). IsNet (z +ℤ neg_ℤ quantity)) (sym there) (back (value_at nets i) (small i (pos 0) inside))
+  where
+    back : (z : ℤ) → IsNet z → IsNet ((z +ℤ quantity) +ℤ neg_ℤ quantity)
+    back z is = omega (arith, ints, is)
+
+pub can_move_back : (set' : Tables) (version : ℕ) (row : Row) (change : Change) (now : Option Marked) → IsRow set' row → IsChange set' change → IsReady set' version (moved_nets change (nets_in row)) now → CanMoveMarked (opposite (moves_of change)) now
+can_move_back set' version row change None is possible ready = tt
+can_move_back set' version row change (Some m) is possible ready =
+    subst (λ (n : FourNets). CanMove (opposite (moves_of change)) n) (sym ready.shows) record {
+      lots = net-back row.lots.nets change.contract change.lots.quantity (omega (arith, is.lots.one_each, possible.contract)) is.lots.nets;
+      buys = net-back row.buys.nets change.contract change.buys.quantity (omega (arith, is.buys.one_each, possible.contract)) is.buys.nets;
+      sales = net-back row.sales.nets change.contract change.sales.quantity (omega (arith, is.sales.one_each, possible.contract)) is.sales.nets;
+      all = net-back row.all.nets change.contract change.all.quantity (omega (arith, is.all.one_each, possible.contract)) is.all.nets;
+    }
+
+-- what a moved desk showed before
+pub moved-shown : (set' : Tables) (version : ℕ) (row : Row) (change : Change) (now : DeskRows) → IsReady set' version (moved_nets change (nets_in row)) now.marked → shown now ≡ moved_desk (moves_of change) (marked_with now.unit version (four (nets_in row)))
+moved-shown set' version row change now ready = ap (λ (m : Option MarkedNets). record { unit = now.unit; marked = m }) (by now.marked ready)
+  where
+    by : (m : Option Marked) → IsReady set' version (moved_nets change (nets_in row)) m → marked_nets m ≡ Some record { version = version; nets = moved_by (moves_of change) (four (nets_in row)) }
+    by None is = absurd is
+    by (Some m) is = λ j. Some record { version = is.under j; nets = is.shows j }
+
+abbrev version_or : ℕ → Option MarkedNets → ℕ
+version_or d None = d
+version_or d (Some m) = m.version
+
+pub ready-shown : (set' : Tables) (version unit : ℕ) (nets : UnitNets) (now : DeskRows) → IsMarkedBy set' now.marked → shown now ≡ marked_with unit version (four nets) → IsReady set' version nets now.marked
+ready-shown set' version unit nets now of_set is = by now.marked of_set (ap (λ (s : Shown). s.marked) is)
+  where
+    by : (m : Option Marked) → IsMarkedBy set' m → marked_nets m ≡ Some record { version = version; nets = four nets } → IsReady set' version nets m
+    by None of same = of
+    by (Some m) of same = record { under = ap (version_or 0) same; of_set = of; shows = ap (nets_or (four nets)) same }
+
+-- an empty desk more
+pub marked-pushed : (desks : List DeskRows) (x d : DeskRows) (k : ℕ) → x.marked ≡ None → d.marked ≡ None → (get_or (desks ++ x ∷ []) k d).marked ≡ (get_or desks k d).marked
+marked-pushed [] x d zero none empty = none ∙ sym empty
+marked-pushed [] x d (suc k) none empty = refl
+marked-pushed (y ∷ ys) x d zero none empty = refl
+marked-pushed (y ∷ ys) x d (suc k) none empty = marked-pushed ys x d k none empty

@@ -1,0 +1,2 @@
+-- Desks beside the rows of margin units.
+pub mod Desks

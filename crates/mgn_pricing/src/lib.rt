@@ -1,0 +1,6 @@
+//! What the units of a command's plan require once it is done, by desks that are kept in step with the rows of a book.
+#![tactic(auto)]
+
+mod desks;
+
+pub use desks::Desks;
