@@ -1,5 +1,6 @@
 #!/bin/sh
-# Runs the sessions of tests/examples.txt over the sets of sets/ and looks at every reply.
+# Runs the sessions of tests/examples.txt over the sets of sets/ and looks at every reply: each once as it comes, and once
+# where a read gives one byte and a write takes one. It needs a C compiler, `cc`.
 # Usage: tests/examples.sh [PROGRAM], by default the program that `rt run` or `rt ci` leaves.
 here=$(CDPATH= cd -- "$(dirname -- "$0")" && pwd)
 program=${1:-$here/../crates/spand/out/spand}
@@ -27,20 +28,28 @@ awk -v work="$work" '
     }
 ' "$here/examples.txt"
 
+cc -shared -fPIC -O1 -o "$work/short_io.so" "$here/short_io.c" || exit 1
 passed=0
 failed=0
-for want in "$work"/*.want; do
-    session=${want%.want}
-    set=$(cat "$session.set")
-    "$program" script --dir "$here/../sets" --set "$set" < "$session.in" > "$session.out"
+
+# try HOW PRELOAD: a session, with what stands before the C library.
+try() {
+    LD_PRELOAD=$2 "$program" script --dir "$here/../sets" --set "$set" < "$session.in" > "$session.out"
     status=$?
     if [ $status -eq 0 ] && cmp -s "$want" "$session.out"; then
         passed=$((passed + 1))
     else
         failed=$((failed + 1))
-        echo "FAILED on $set, $(cat "$session.title"): status $status"
+        echo "FAILED on $set, $(cat "$session.title"), $1: status $status"
         diff "$want" "$session.out" | head -10
     fi
+}
+
+for want in "$work"/*.want; do
+    session=${want%.want}
+    set=$(cat "$session.set")
+    try 'as it comes' ''
+    try 'by single bytes' "$work/short_io.so"
 done
 echo "$passed sessions passed, $failed failed"
 [ $failed -eq 0 ] && [ $passed -gt 0 ]

@@ -1,5 +1,6 @@
 #!/bin/sh
 # Sessions that are too long to write out: their lines are made here with the reply to each, which is known by rule.
+# It needs a C compiler, `cc`.
 # Usage: tests/large.sh [PROGRAM], by default the program that `rt run` or `rt ci` leaves.
 here=$(CDPATH= cd -- "$(dirname -- "$0")" && pwd)
 program=${1:-$here/../crates/spand/out/spand}
@@ -7,6 +8,7 @@ work=$(mktemp -d) || exit 1
 trap 'rm -rf "$work"' EXIT
 passed=0
 failed=0
+cc -shared -fPIC -O1 -o "$work/short_io.so" "$here/short_io.c" || exit 1
 
 # Makes a session by an awk program that calls say(COMMAND, REPLY) in turn. A reply is given without its place: OK, OK
 # and figures, or the code and the name of a refusal, for which an entry is counted too.
@@ -25,11 +27,19 @@ make_session() {
         BEGIN { '"$1"' }'
 }
 
-# Runs a session over a set of a folder, and looks at its replies, its status and what it says of its end.
+# Runs a session over a set of a folder, and looks at its replies, its status and what it says of its end; once as it comes,
+# and once more where a read gives one byte and a write takes one, unless it is longer than 4 MB.
 look() {
-    title=$1 dir=$2 set=$3 wanted=$4 end=$5
+    dir=$2 set=$3 wanted=$4 end=$5
+    try "$1" ''
+    [ "$(wc -c < "$work/in")" -gt 4000000 ] || try "$1, by single bytes" "$work/short_io.so"
+}
+
+# try TITLE PRELOAD: the session, with what stands before the C library.
+try() {
+    title=$1
     began=$(date +%s)
-    "$program" script --dir "$dir" --set "$set" < "$work/in" > "$work/out" 2> "$work/err"
+    LD_PRELOAD=$2 "$program" script --dir "$dir" --set "$set" < "$work/in" > "$work/out" 2> "$work/err"
     status=$?
     if [ $status -eq "$wanted" ] && [ "$(cat "$work/err")" = "$end" ] && cmp -s "$work/want" "$work/out"; then
         passed=$((passed + 1))
