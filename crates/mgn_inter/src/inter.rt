@@ -149,6 +149,7 @@ impl InterCredits {
     pub fn first_with(&self, set: &ParamSet, g: usize) -> usize
         requires of_set { AreCreditsOf set.now self.now }
         requires commodity { g < length set.now.commodities }
+        ensures value { result ≡ min (slice_index self.now.firsts g) (length set.now.credits) }
         ensures place { result ≤ length set.now.credits }
         ensures misses { MissesBelow set.now.credits result g }
     {
