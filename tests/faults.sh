@@ -109,7 +109,7 @@ wants 'a byte longer than a set may be' 3 '' "spand: set NOSET$line"
 
 # What a set has, and why a file is none.
 run empty check --dir . --set FUT
-wants 'a set is checked' 0 "set FUT${line}commodities 1${line}months 1${line}contracts 1${line}intracommodity spreads 0${line}intercommodity spreads 0${line}collateral classes 0${line}spot month charges 0$line" ''
+wants 'a set is checked' 0 "set FUT${line}version 1${line}commodities 1${line}months 1${line}contracts 1${line}intracommodity spreads 0${line}intercommodity spreads 0${line}collateral classes 0${line}spot month charges 0$line" ''
 cat > ALL.csv <<'END'
 H,2,NEXT
 G,AAA,25
@@ -129,7 +129,7 @@ V,NOTE,9900,500
 T,AAA,1,30,50
 END
 run empty check --dir=. --set=ALL
-wants 'rows of each kind' 0 "set NEXT${line}commodities 2${line}months 3${line}contracts 4${line}intracommodity spreads 2${line}intercommodity spreads 1${line}collateral classes 2${line}spot month charges 1$line" ''
+wants 'rows of each kind' 0 "set NEXT${line}version 2${line}commodities 2${line}months 3${line}contracts 4${line}intracommodity spreads 2${line}intercommodity spreads 1${line}collateral classes 2${line}spot month charges 1$line" ''
 
 # bad TOLD EDIT: the set, edited so, is told as this.
 bad() {

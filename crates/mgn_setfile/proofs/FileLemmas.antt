@@ -1,16 +1,17 @@
 -- From line to line of a file: what the records that are left give.
 use Rattle.std.proofs.Common.{◌≡◌, ◌+◌, ◌<◌, ◌≤◌, ℕ, List, [], ◌∷◌, ◌++◌, length, map, drop, get_or, zero, suc, Option, Some, None, Result, Ok, Err, refl, ap, sym, ◌∙◌, arith, Bor, inl, inr}
-use Rattle.std.specs.Prelude.{◌-◌, ◌==◌, ◌⊎◌, IfErr, IfNone, IfSome, slice_index_or}
+use Rattle.std.specs.Prelude.{◌-◌, ◌==◌, ◌⊎◌, IfErr, IfNone, IfOk, IfSome, slice_index_or}
 use Rattle.std.specs.List.{flat_map, slice_split}
 use Rattle.std.proofs.lemmas.List.{get_or-drop}
 use Rattle.mgn_setfile.specs.declared.draft.Draft.{Draft}
+use Rattle.mgn_setfile.specs.declared.draft.SetFile.{SetFile}
 use Rattle.mgn_setfile.specs.declared.fault.Cause.TheVariants.{Fields as WrongFields, Memory as NoMemory}
 use Rattle.mgn_setfile.specs.declared.fault.LineFault.{LineFault}
 use Rattle.mgn_setfile.specs.declared.fault.LineFault.TheVariants.{Memory, Second}
 use Rattle.mgn_setfile.specs.declared.fault.SetFault.{SetFault}
 use Rattle.mgn_params.specs.Tables.{Tables}
 use Rattle.mgn_setfile.specs.Fields.{Fault, Fields, whole}
-use Rattle.mgn_setfile.specs.File.{Record, goes_on, judged, later_of, line_of_record, numbered, record_of, record_of_line, records_of, told}
+use Rattle.mgn_setfile.specs.File.{Record, drafted, goes_on, judged, later_of, line_of_record, numbered, record_of, record_of_line, records_of, told, version_by, version_left}
 use Rattle.mgn_setfile.specs.Lines.{Fails, line_cause, line_records, lines_left, single}
 
 -- the records of what is left of a file
@@ -77,6 +78,31 @@ pub stops_at : (line left : List ℕ) (more : Option (List ℕ)) (count : ℕ) (
 stops_at line left more count before Memory e s = inl refl
 stops_at line left more count before Second e s = inr (stops_twice line left more count before e s)
 
+-- the version, from line to line
+
+keeps_version : (version : ℕ) (now : Result Tables Fault) (draft : Draft) → drafted version now ≡ Ok draft → Some version ≡ Some draft.version
+keeps_version version (Ok t) draft e = cc
+keeps_version version (Err fault) draft e = cc
+
+pub version_skips : (line left : List ℕ) (more : Option (List ℕ)) (draft : Option Draft) → slice_split (λ b. b == 10) left ≡ line ∷ lines_left more → single (line_records line) ≡ Ok None
+    → version_left (records_of left) draft ≡ version_left (records_left more) draft
+unfolding record_of_line
+version_skips line left more draft e s =
+    let r : records_of left ≡ records_left more = rw (next line left more e, no_record (line_records line) s) refl in
+    ap (λ (rs : List Record). version_left rs draft) r
+
+version_of_one : (before : Option Draft) (f : Fields) (rs : List Record) (draft : Draft) → judged before (Some f) ≡ Ok draft → version_left (Some f ∷ rs) before ≡ Some draft.version
+unfolding judged
+version_of_one None f rs draft j = ap version_by j
+version_of_one (Some before) f rs draft j = keeps_version before.version (later_of before.version before.set f) draft j
+
+pub version_takes : (line left : List ℕ) (more : Option (List ℕ)) (before : Option Draft) (f : Fields) (draft : Draft) → slice_split (λ b. b == 10) left ≡ line ∷ lines_left more → single (line_records line) ≡ Ok (Some f) → judged before (Some f) ≡ Ok draft
+    → version_left (records_of left) before ≡ Some draft.version
+unfolding record_of_line
+version_takes line left more before f draft e s j =
+    let r : records_of left ≡ Some f ∷ records_left more = rw (next line left more e, one_record (line_records line) f s) refl in
+    ap (λ (rs : List Record). version_left rs before) r ∙ version_of_one before f (records_left more) draft j
+
 -- a record after the first that does not pass
 pub judged_err : (before : Option Draft) (draft : Draft) (words fields : Fields) (fault : Fault) → before ≡ Some draft → words ≡ fields → later_of draft.version draft.set words ≡ Err fault → judged before (Some fields) ≡ Err fault
 unfolding judged
@@ -142,7 +168,7 @@ no_line : (file : List ℕ) (count : ℕ) → count ≡ 0 → drop count (number
 no_line file count none e = sym (ap (λ (ns : List ℕ). slice_index_or ns 0 1) (rw none at e))
 
 -- a file without a record
-pub line_of_none : (r : Result Tables SetFault) (draft : Option Draft) (file : List ℕ) (count : ℕ) → IfErr r (λ e. (draft ≡ None) × (e.number ≡ 1) × (e.line ≡ 1)) → IfNone draft (count ≡ 0)
+pub line_of_none : (r : Result SetFile SetFault) (draft : Option Draft) (file : List ℕ) (count : ℕ) → IfErr r (λ e. (draft ≡ None) × (e.number ≡ 1) × (e.line ≡ 1)) → IfNone draft (count ≡ 0)
     → drop count (numbered 0 (slice_split (λ b. b == 10) file)) ≡ [] → IfErr r (λ e. (e.cause ≡ NoMemory) ⊎ (e.line ≡ line_of_record file e.number))
 line_of_none (Ok set') draft file count h z e = tt
 line_of_none (Err fault) None file count h z e = inr (rw (h.1, h.2) (no_line file count z e))
@@ -161,3 +187,8 @@ left_of (Some rest) = length rest.now + 1
 pub less : (more : Option (Bor (List ℕ))) (n : ℕ) → IfSome more (λ rest. length rest.now < n) → left_of more ≤ n
 less None n h = omega arith
 less (Some rest) n h = omega arith
+
+pub version_of_file : (r : Result SetFile SetFault) (draft : Option Draft) (version : Option ℕ) → version ≡ version_left [] draft → IfOk r (λ file. version_left [] draft ≡ Some file.version)
+    → IfOk r (λ file. version ≡ Some file.version)
+version_of_file (Ok file) draft version e h = e ∙ h
+version_of_file (Err fault) draft version e h = tt

@@ -3,6 +3,7 @@ use Rattle.std.specs.Prelude.{◌≡◌, ◌⊎◌, ℕ, ◌+◌, ◌-◌, ◌==
 use Rattle.std.specs.List.{flat_map, slice_split}
 use Rattle.std.specs.Str.{bytes_eq}
 use Rattle.mgn_setfile.specs.declared.draft.Draft.{Draft}
+use Rattle.mgn_setfile.specs.declared.draft.SetFile.{SetFile}
 use Rattle.mgn_setfile.specs.declared.fault.Cause.{Cause}
 use Rattle.mgn_setfile.specs.declared.fault.Cause.TheVariants.{Header, Fields as WrongFields, Memory}
 use Rattle.mgn_setfile.specs.declared.fault.SetFault.{SetFault}
@@ -130,6 +131,20 @@ told (r ∷ rs) count before = goes_on (judged before r) (λ draft. told rs (cou
 unfoldable pub outcome : List Record → Result Tables (ℕ × Fault)
 outcome records = told records 0 None
 
+-- the version that a header gives
+abbrev pub version_by : Result Draft Fault → Option ℕ
+version_by (Ok draft) = Some draft.version
+version_by (Err fault) = None
+
+-- the version of a list of records: that of the records before, or that of the first, which is the header
+abbrev pub version_left : List Record → Option Draft → Option ℕ
+version_left records (Some draft) = Some draft.version
+version_left [] None = None
+version_left (r ∷ rs) None = version_by (judged None r)
+
+abbrev pub version_told : List Record → Option ℕ
+version_told records = version_left records None
+
 -- what is wrong with the record of a fault
 abbrev pub fault_in : SetFault → Fault
 fault_in e = record { field = e.field; cause = e.cause }
@@ -138,6 +153,10 @@ fault_in e = record { field = e.field; cause = e.cause }
 abbrev pub Tells : Result Tables SetFault → Result Tables (ℕ × Fault) → Type 0
 Tells (Ok set) want = want ≡ Ok set
 Tells (Err e) want = (e.cause ≡ Memory) ⊎ (want ≡ Err (e.number, fault_in e))
+
+abbrev pub TellsFile : Result SetFile SetFault → Result Tables (ℕ × Fault) → Type 0
+TellsFile (Ok file) want = want ≡ Ok file.set
+TellsFile (Err e) want = (e.cause ≡ Memory) ⊎ (want ≡ Err (e.number, fault_in e))
 
 -- The numbers of the lines that have a record, from 1, after so many lines.
 abbrev pub numbered : ℕ → List (List ℕ) → List ℕ

@@ -3,11 +3,11 @@
 ghost use Rattle.std.specs.Prelude.{◌≡◌, ◌⊎◌, ◌==◌, [], map, Ok, Err, None, Some, OnOk, IfOk, IfErr};
 ghost use Rattle.csv.specs.Records.{fields_of};
 ghost use Rattle.mgn_setfile.specs.Fields.{in_field};
-ghost use Rattle.mgn_setfile.specs.File.{Tells, fault_in, head_from, head_of, judged, later_of, line_of_record, outcome, records_of, told, version_of, with_class, with_commodity, with_contract, with_credit_spread, with_month, with_other, with_record, with_spot, with_spot_of, with_spread};
+ghost use Rattle.mgn_setfile.specs.File.{Tells, TellsFile, fault_in, head_from, head_of, judged, later_of, line_of_record, outcome, records_of, told, version_left, version_of, version_told, with_class, with_commodity, with_contract, with_credit_spread, with_month, with_other, with_record, with_spot, with_spot_of, with_spread};
 
 use crate::contracts::read_contract;
 use crate::credits::read_credit_spread;
-use crate::draft::Draft;
+use crate::draft::{Draft, SetFile};
 use crate::fault::{Cause, RecordFault, SetFault};
 use crate::fields::read_set_name;
 use crate::line::{cut_line, fields, read_record};
@@ -249,12 +249,16 @@ fn add_at(
 }
 
 // The set of the records, if there were any.
-fn set_of(draft: Option<Draft>) -> Result<ParamSet, SetFault>
-    ensures tells { Tells result (told [] 0 draft) }
+fn file_of(draft: Option<Draft>) -> Result<SetFile, SetFault>
+    ensures tells { TellsFile result (told [] 0 draft) }
+    ensures version { IfOk result (λ file. version_left [] draft ≡ Some file.version) }
     ensures none { IfErr result (λ e. (draft ≡ None) × (e.number ≡ 1) × (e.line ≡ 1)) }
 {
     match draft {
-        Some(draft) => Ok(draft.set.into_set()),
+        Some(draft) => Ok(SetFile {
+            version: draft.version,
+            set: draft.set.into_set(),
+        }),
         None => Err(SetFault {
             number: 1,
             line: 1,
@@ -264,15 +268,16 @@ fn set_of(draft: Option<Draft>) -> Result<ParamSet, SetFault>
     }
 }
 
-/// The set of a file of at most 2^64 - 2 bytes: lines of comma-separated fields, each line read on its own, of the
-/// records `H` (header), `G` (commodity), `M` (month), `K` (contract), `S` (spread within a commodity), `I` (spread
-/// between commodities), `V` (collateral class) and, in version 2, `T` (spot month charge). A record refers only to
-/// records before it.
+/// The set of a file of at most 2^64 - 2 bytes, with the version of its format: lines of comma-separated fields, each
+/// line read on its own, of the records `H` (header), `G` (commodity), `M` (month), `K` (contract), `S` (spread within a
+/// commodity), `I` (spread between commodities), `V` (collateral class) and, in version 2, `T` (spot month charge). A
+/// record refers only to records before it.
 ///
 /// Fails with the number of the first faulty record, from 1, its line, its first cause and the field that has it, or
 /// with `Memory` where a growth was refused.
-pub fn read_set(alloc: Global, text: &[u8]) -> Result<ParamSet, SetFault>
-    ensures fault { Tells result (outcome (records_of text.now)) }
+pub fn read_file(alloc: Global, text: &[u8]) -> Result<SetFile, SetFault>
+    ensures fault { TellsFile result (outcome (records_of text.now)) }
+    ensures version { IfOk result (λ file. version_told (records_of text.now) ≡ Some file.version) }
     ensures line { IfErr result (λ e. (e.cause ≡ Cause.Memory) ⊎ (e.line ≡ line_of_record text.now e.number)) }
 {
     let mut draft: Option<Draft> = None;
@@ -294,5 +299,16 @@ pub fn read_set(alloc: Global, text: &[u8]) -> Result<ParamSet, SetFault>
             Err(fault) => return Err(fault.at(number, lines)),
         }
     }
-    set_of(draft)
+    file_of(draft)
+}
+
+/// The same without the version.
+pub fn read_set(alloc: Global, text: &[u8]) -> Result<ParamSet, SetFault>
+    ensures fault { Tells result (outcome (records_of text.now)) }
+    ensures line { IfErr result (λ e. (e.cause ≡ Cause.Memory) ⊎ (e.line ≡ line_of_record text.now e.number)) }
+{
+    match read_file(alloc, text) {
+        Ok(file) => Ok(file.set),
+        Err(fault) => Err(fault),
+    }
 }

@@ -13,6 +13,7 @@ mod records;
 mod rows;
 mod spreads;
 
+pub use draft::SetFile;
 pub use fault::{Cause, SetFault};
-pub use file::read_set;
+pub use file::{read_file, read_set};
 pub use place::Field;

@@ -11,7 +11,7 @@ use std::{io, str};
 pub fn run<R: Files + Print + AllocGlobal>(rt: &R, file: &SetFile) -> Result<(), Fault> {
     let mut folder = Folder::new(rt, file.dir.as_str());
     match set::read(rt.alloc(), &mut folder, file.set.as_str()) {
-        Ok(set) => tell(rt, &set).map_err(|error| fault_of(&error)),
+        Ok(read) => tell(rt, read.version, &read.set).map_err(|error| fault_of(&error)),
         Err(Fault::BadSet(fault)) => Err(Fault::BadRecord(fault)),
         Err(fault) => Err(fault),
     }
@@ -24,9 +24,10 @@ fn fault_of(error: &io::Error) -> Fault {
     }
 }
 
-fn tell<R: Print>(rt: &R, set: &ParamSet) -> io::Result<()> {
+fn tell<R: Print>(rt: &R, version: u64, set: &ParamSet) -> io::Result<()> {
     let name = set.name();
     println!(rt; "set {}", str::from_utf8(name.as_bytes()).unwrap_or(""))?;
+    println!(rt; "version {version}")?;
     let tables = [
         ("commodities", set.commodity_count()),
         ("months", set.month_count()),

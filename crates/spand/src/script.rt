@@ -10,8 +10,8 @@ use std::rt::Files;
 /// Answers standard input on standard output, to the end of the input, under the set of a file.
 pub fn run<R: Files + Input + Print + AllocGlobal>(rt: &R, file: &SetFile) -> Result<(), Fault> {
     let mut folder = Folder::new(rt, file.dir.as_str());
-    let set = set::read(rt.alloc(), &mut folder, file.set.as_str())?;
-    let mut plain = Plain::new(rt.alloc(), set)?;
+    let first = set::read(rt.alloc(), &mut folder, file.set.as_str())?;
+    let mut plain = Plain::new(rt.alloc(), first.set)?;
     let reader = Counted::new(rt.reader());
     let writer = Counted::new(io::writer(rt));
     let mut talk = Conversation::new(rt.alloc(), reader, writer);

@@ -2,9 +2,8 @@ ghost use Rattle.std.specs.Prelude.{◌≤◌, vec_len, IfOk};
 
 use crate::fault::Fault;
 use mgn_ids::SetName;
-use mgn_params::ParamSet;
 use mgn_session::{SetSource, SourceFault};
-use mgn_setfile::{Cause, read_set};
+use mgn_setfile::{Cause, SetFile, read_file};
 use std::alloc::Global;
 use std::io::{ErrorKind, Read};
 use std::rt::Files;
@@ -63,8 +62,8 @@ impl<R: Files + AllocGlobal> SetSource for Folder<'_, R> {
     }
 }
 
-/// The set of a name, by its file in a folder.
-pub fn read<S: SetSource>(alloc: Global, folder: &mut S, name: &str) -> Result<ParamSet, Fault> {
+/// The set of a name with the version of its format, by its file in a folder.
+pub fn read<S: SetSource>(alloc: Global, folder: &mut S, name: &str) -> Result<SetFile, Fault> {
     let Ok(name) = SetName::read(name.as_bytes()) else {
         return Err(Fault::NoSet);
     };
@@ -73,8 +72,8 @@ pub fn read<S: SetSource>(alloc: Global, folder: &mut S, name: &str) -> Result<P
         Err(SourceFault::Memory) => return Err(Fault::Memory),
         Err(_) => return Err(Fault::NoSet),
     };
-    match read_set(alloc, file.as_slice()) {
-        Ok(set) => Ok(set),
+    match read_file(alloc, file.as_slice()) {
+        Ok(file) => Ok(file),
         Err(fault) => match fault.cause {
             Cause::Memory => Err(Fault::Memory),
             _ => Err(Fault::BadSet(fault)),

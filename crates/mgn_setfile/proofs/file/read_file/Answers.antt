@@ -5,12 +5,12 @@ use Rattle.mgn_setfile.specs.declared.fault.Cause.TheVariants.{Memory}
 use Rattle.mgn_setfile.specs.Fields.{whole}
 use Rattle.mgn_setfile.specs.File.{fault_in, line_of_record, outcome, records_of}
 use Rattle.mgn_setfile.specs.Lines.{line_cause}
-use Rattle.mgn_setfile.proofs.FileLemmas.{after_next, has_one, left_of, less, line_is, line_of_fault, line_of_none, no_more, numbers_left, passes_over, skips, stops, stops_at, takes}
-use Rattle.mgn_setfile.proofs.file.read_set.Goals as goal
+use Rattle.mgn_setfile.proofs.FileLemmas.{after_next, has_one, left_of, less, line_is, line_of_fault, line_of_none, no_more, numbers_left, passes_over, skips, stops, stops_at, takes, version_of_file, version_skips, version_takes}
+use Rattle.mgn_setfile.proofs.file.read_file.Goals as goal
 
 pub loop-rest-init : goal.loop-rest-init
 unfolding outcome
-loop-rest-init c = record { room = omega arith; few = omega arith; none = refl; so_far = refl; numbers = refl }
+loop-rest-init c = record { room = omega arith; few = omega arith; none = refl; version = refl; so_far = refl; numbers = refl }
 
 pub loop-rest-preserved-in-Ok-None : goal.loop-rest-preserved-in-Ok-None
 loop-rest-preserved-in-Ok-None c =
@@ -21,6 +21,7 @@ loop-rest-preserved-in-Ok-None c =
       room = omega (arith, i.room);
       few = omega (arith, i.few);
       none = i.none;
+      version = i.version ∙ version_skips c.cut_line.result.0.now c.in-Some.left.now (option_map (λ (t : Bor (List ℕ)). t.now) c.cut_line.result.1) c.loop-rest.draft c.cut_line.ensures.parts s;
       so_far = i.so_far ∙ skips c.cut_line.result.0.now c.in-Some.left.now (option_map (λ (t : Bor (List ℕ)). t.now) c.cut_line.result.1) c.loop-rest.count c.loop-rest.draft c.cut_line.ensures.parts s;
       numbers = i.numbers ∙ passes_over c.loop-rest.lines c.cut_line.result.0.now c.in-Some.left.now (option_map (λ (t : Bor (List ℕ)). t.now) c.cut_line.result.1) c.cut_line.ensures.parts s;
     }
@@ -59,6 +60,7 @@ loop-rest-preserved c =
       room = omega (arith, i.room);
       few = omega (arith, i.few);
       none = tt;
+      version = i.version ∙ version_takes c.cut_line.result.0.now c.in-Some.left.now (option_map (λ (t : Bor (List ℕ)). t.now) c.cut_line.result.1) c.loop-rest.draft (fields_of c.in-Ok-Some.row) c.in_ok-next-in-Ok-Some.next c.cut_line.ensures.parts s a;
       so_far = i.so_far ∙ takes c.cut_line.result.0.now c.in-Some.left.now (option_map (λ (t : Bor (List ℕ)). t.now) c.cut_line.result.1) c.loop-rest.count c.loop-rest.draft (fields_of c.in-Ok-Some.row) c.in_ok-next-in-Ok-Some.next c.cut_line.ensures.parts s a;
       numbers = after_next c.loop-rest.count _ _ (c.loop-rest.lines + 1) (i.numbers ∙ has_one c.loop-rest.lines c.cut_line.result.0.now c.in-Some.left.now (option_map (λ (t : Bor (List ℕ)). t.now) c.cut_line.result.1) (fields_of c.in-Ok-Some.row) c.cut_line.ensures.parts s);
     }
@@ -79,9 +81,14 @@ returns-in-Err-clause-line c =
 pub returns-clause-fault : goal.returns-clause-fault
 returns-clause-fault c =
     let i = rw c.in_default.is at c.loop-rest.invariant in
-    rw (i.so_far ∙ no_more c.loop-rest.count c.loop-rest.draft) c.set_of.ensures.tells
+    rw (i.so_far ∙ no_more c.loop-rest.count c.loop-rest.draft) c.file_of.ensures.tells
 
 pub returns-clause-line : goal.returns-clause-line
 returns-clause-line c =
     let i = rw c.in_default.is at c.loop-rest.invariant in
-    line_of_none c.set_of.result c.loop-rest.draft c.args.text.now c.loop-rest.count c.set_of.ensures.none i.none i.numbers
+    line_of_none c.file_of.result c.loop-rest.draft c.args.text.now c.loop-rest.count c.file_of.ensures.none i.none i.numbers
+
+pub returns-clause-version : goal.returns-clause-version
+returns-clause-version c =
+    let i = rw c.in_default.is at c.loop-rest.invariant in
+    version_of_file c.file_of.result c.loop-rest.draft _ i.version c.file_of.ensures.version
