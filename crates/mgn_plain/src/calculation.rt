@@ -13,43 +13,25 @@ use crate::options::option_value;
 use crate::parts::{minimum_row, month_deltas, scan_row, work_out_charges, work_out_credits};
 use crate::scan::scan_of;
 use crate::whole::Figures;
-use bumpalo::Bump;
 use mgn_num::{Cents, Quantity};
 use mgn_params::{ParamSet, Work};
 use std::alloc::{AllocError, Global};
 
-// Bytes for what is kept of a commodity: 16 totals, scan figures, 16 legs before and after spreads, seven numbers.
-const COMMODITY_BYTES: usize = 128 + 48 + 2 * 256 + 7 * 16;
-
-// Bytes for what is kept of a month: its delta.
-const MONTH_BYTES: usize = 16;
-
-// A row takes room for as many entries at least.
-const LEAST_ENTRIES: usize = 4;
-
-// An arena that holds all rows of a calculation under a set in one block.
-fn arena_for(alloc: Global, set: &ParamSet) -> Result<Bump, AllocError> {
-    set.limits();
-    let commodities = set.commodity_count().max(LEAST_ENTRIES);
-    let months = set.month_count().max(LEAST_ENTRIES);
-    Bump::try_with_capacity(alloc, commodities * COMMODITY_BYTES + months * MONTH_BYTES)
-}
-
 // One pass over the contracts for each kind of row, then one over the months, the spreads and the commodities.
-fn work_out<'a>(
-    arena: &'a Bump,
+fn work_out(
+    alloc: Global,
     set: &ParamSet,
     nets: &[Quantity],
     work: &mut Work,
-) -> Result<FigureRows<'a>, AllocError>
+) -> Result<FigureRows, AllocError>
     requires { AreNets set.now nets.now }
     ensures { IfOk result (λ rows. AreFigureRows set.now nets.now rows) }
 {
-    let scans = scan_row(arena, set, nets, work)?;
-    let deltas = month_deltas(arena, set, nets)?;
-    let charges = work_out_charges(arena, set, &deltas)?;
-    let credits = work_out_credits(arena, set, &deltas, &scans)?;
-    let minimums = minimum_row(arena, set, nets)?;
+    let scans = scan_row(alloc, set, nets, work)?;
+    let deltas = month_deltas(alloc, set, nets)?;
+    let charges = work_out_charges(alloc, set, &deltas)?;
+    let credits = work_out_credits(alloc, set, &deltas, &scans)?;
+    let minimums = minimum_row(alloc, set, nets)?;
     Ok(FigureRows {
         scans,
         intra: charges.intra,
@@ -155,8 +137,7 @@ pub fn requirement(
     ensures ok { IfOk result (λ r. r ≡ requirement set.now nets.now) }
     ensures small { IfOk result (λ r. unsigned_abs r ≤ 10 ^ 30) }
 {
-    let arena = arena_for(alloc, set)?;
-    let rows = work_out(&arena, set, nets, work)?;
+    let rows = work_out(alloc, set, nets, work)?;
     Ok(requirement_of(set, nets, &rows))
 }
 
@@ -196,8 +177,7 @@ pub fn figures(
     ensures ok { IfOk result (λ f. f ≡ figures_of set.now nets.now) }
     ensures small { IfOk result (λ f. unsigned_abs f.requirement ≤ 10 ^ 30) }
 {
-    let arena = arena_for(alloc, set)?;
-    let rows = work_out(&arena, set, nets, work)?;
+    let rows = work_out(alloc, set, nets, work)?;
     let commodities = list_figures(alloc, set, &rows)?;
     let requirement = requirement_of(set, nets, &rows);
     Ok(Figures::new(commodities, option_value(set, nets), requirement))

@@ -1,22 +1,14 @@
 ghost use Rattle.std.specs.Prelude.{◌≡◌, ◌<◌, length, replicate, IfOk};
 ghost use Rattle.mgn_span.specs.Scan.{value_at};
 
-use bumpalo::Bump;
 use mgn_num::Quantity;
-use std::alloc::AllocError;
-
-// A row of a calculation, in the arena that all rows of the calculation share.
-pub(crate) type Row<'a, T> = Vec<T, &'a Bump>;
+use std::alloc::{AllocError, Global};
 
 // A row of equal values.
-pub(crate) fn filled<'a, T: Copy>(
-    arena: &'a Bump,
-    count: usize,
-    value: T,
-) -> Result<Row<'a, T>, AllocError>
+pub(crate) fn filled<T: Copy>(alloc: Global, count: usize, value: T) -> Result<Vec<T>, AllocError>
     ensures { IfOk result (λ row. row.items ≡ replicate count value) }
 {
-    let mut row = Vec::new(arena);
+    let mut row = Vec::new(alloc);
     row.resize(count, value)?;
     Ok(row)
 }
