@@ -1,0 +1,2 @@
+-- The law of the world, step by step.
+pub mod Replays

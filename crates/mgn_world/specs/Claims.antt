@@ -1,0 +1,27 @@
+-- What is true of the world after every list of steps (own profile).
+use Rattle.std.specs.Prelude.{ℕ, ◌≡◌, ◌+◌, ◌<◌, ◌≤◌, ◌⊎◌, Bool, true, false, Option, None, Some, List, [], ◌∷◌, ◌++◌, length}
+use Rattle.mgn_params.specs.Shelves.{set_at}
+use Rattle.mgn_params.specs.Tables.{Tables}
+use Rattle.mgn_desk.specs.Desks.{MarkedNets}
+use Rattle.mgn_machine.specs.declared.entry.Entry.{Entry}
+use Rattle.mgn_machine.specs.History.{Legal, replay}
+use Rattle.mgn_machine.specs.State.{AccountState, State}
+use Rattle.mgn_register.specs.Plans.{plan_of}
+use Rattle.mgn_world.specs.Stages.{Call, View, Stage, Idle, Held, Looked, Applied, Failed, Ended, Gathered}
+use Rattle.mgn_world.specs.World.{World, are_stale, desk_at, in_force, is_apart, lock_at, plan_units, planned, stage_at, unit_nets}
+
+-- the history is legal, the state is its replay by the machine of one thread, the version in force is that of the last
+-- set, and there are at most 1,000,000 entries
+pub record IsRun (sets : List Tables) (state : State) (history : List Entry) : Type 0 where
+  pub legal : Legal sets history
+  pub replayed : state ≡ replay sets history
+  pub shown : length sets ≡ state.version + 1
+  pub few : length history ≤ 1000000
+
+abbrev pub IsReplayed : World → Type 0
+IsReplayed w = IsRun w.sets w.state w.history
+
+-- a number is one of these
+abbrev pub Among : ℕ → List ℕ → Type 0
+Among u [] = ⊥
+Among u (v ∷ vs) = (u ≡ v) ⊎ Among u vs
