@@ -1,2 +1,3 @@
 -- The law of the world, step by step.
 pub mod Replays
+pub mod Twins

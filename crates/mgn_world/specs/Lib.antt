@@ -1,3 +1,4 @@
 pub mod Stages
 pub mod World
 pub mod Claims
+pub mod Twins
