@@ -1,10 +1,9 @@
 -- The history is a run of the machine of one thread.
-use Rattle.std.proofs.Common.{◌≡◌, ◌+◌, ◌<◌, ◌≤◌, ◌∙◌, ℕ, zero, suc, Bool, true, false, cond, Option, None, Some, Result, Ok, Err, List, [], ◌∷◌, ◌++◌, length, sym, ap, subst, refl, arith, length-append}
-use Rattle.std.specs.Prelude.{if◌then◌else◌, nat_le, nat_lt, ◌&&◌}
-use Rattle.std.proofs.lemmas.List.{append-nil}
+use Rattle.std.proofs.Common.{◌≡◌, ◌+◌, ◌<◌, ◌∙◌, ℕ, zero, suc, Bool, true, false, Result, Ok, Err, List, [], ◌∷◌, ◌++◌, length, sym, ap, subst, refl, arith, length-append}
+use Rattle.std.specs.Prelude.{if◌then◌else◌, nat_le}
 use Rattle.std.proofs.lemmas.Bool.Decides.{nat_tests}
 use Rattle.mgn_params.specs.Shelves.{set_at}
-use Rattle.mgn_params.specs.Tables.{Tables, no_tables}
+use Rattle.mgn_params.specs.Tables.{Tables}
 use Rattle.mgn_machine.specs.declared.command.Command.{Command}
 use Rattle.mgn_machine.specs.declared.entry.Entry.{Entry}
 use Rattle.mgn_machine.specs.declared.reply.Refusal.{Refusal}
@@ -14,15 +13,15 @@ use Rattle.mgn_machine.specs.declared.request.Request.{Request}
 use Rattle.mgn_machine.specs.NewSet.{on_call, set_fits}
 use Rattle.mgn_machine.specs.State.{State, start}
 use Rattle.mgn_machine.specs.Step.{step, step_under, switched}
-use Rattle.mgn_machine.specs.History.{Follows, Legal, LegalFrom, calls, entry, next as next_of, recorded, replay, request_of}
+use Rattle.mgn_machine.specs.History.{Legal, calls, entry, next as next_of, recorded, replay, request_of}
 use Rattle.mgn_machine.proofs.Histories.{legal-more, legal_from-push, replay-more, replay-push}
 use Rattle.mgn_machine.proofs.Versions.{keeps_version}
 use Rattle.mgn_book.specs.BookViews.{sets_after}
 use Rattle.mgn_register.specs.declared.plans.Plan.{Plan}
 use Rattle.mgn_register.specs.declared.plans.Plan.TheVariants.{Nothing, One, Two}
 use Rattle.mgn_register.specs.Plans.{plan_of}
-use Rattle.mgn_world.specs.Stages.{Call, Deed, Gathering, Seen, Stage, Step, View, Idle, Held, Looked, Applied, Failed, Ended, Gathered, Begin, Look, Mark, Apply, Commit, Back, End, Gather, Prepare}
-use Rattle.mgn_world.specs.World.{World, applies, are_covered, are_of, are_stale, backs, begin_on, begins, commits, desk_at, does, does_as, ends, entered, finished, gathers, in_force, is_apart, is_full, is_of, look_on, looks, mark_first, marks, next, no_nets, opening, placed, prepares, run, stage_at, stepped, units_of, with_stage}
+use Rattle.mgn_world.specs.Stages.{Call, Deed, Seen, Stage, Step, View, Idle, Held, Looked, Applied, Failed, Ended, Gathered, Begin, Look, Mark, Apply, Commit, Back, End, Gather, Prepare}
+use Rattle.mgn_world.specs.World.{World, applies, are_of, are_stale, backs, begin_on, begins, commits, desk_at, does, does_as, ends, entered, gathers, in_force, is_apart, is_full, is_of, look_on, looks, mark_first, marks, next, opening, placed, prepares, run, stepped, with_stage}
 use Rattle.mgn_world.specs.Claims.{IsReplayed, IsRun}
 
 -- One entry more, under the sets as they are then.

@@ -1,6 +1,6 @@
 -- Accounts that a step of another leaves alone.
-use Rattle.std.proofs.Common.{◌≡◌, ◌≢◌, ◌<◌, ◌≤◌, ◌+◌, ◌∙◌, ⊎_elim, ℕ, zero, suc, Bool, true, false, cond, eqb, Option, Some, None, List, [], ◌∷◌, ◌++◌, length, length-append, map, get_or, set, sym, ap, subst, refl, arith, ne_eqb, position}
-use Rattle.std.specs.Prelude.{◌==◌, if◌then◌else◌, nat_lt, not, ℤ, pos, ◌+ℤ◌, Result, Ok, Err}
+use Rattle.std.proofs.Common.{◌≡◌, ◌≢◌, ◌<◌, ◌+◌, ◌∙◌, ⊎_elim, ℕ, zero, suc, Bool, true, false, cond, eqb, Option, Some, None, List, [], ◌∷◌, ◌++◌, length, length-append, map, get_or, set, sym, ap, subst, refl, arith, ne_eqb, position}
+use Rattle.std.specs.Prelude.{◌==◌, if◌then◌else◌, nat_lt, not, ℤ, pos, ◌+ℤ◌, Ok}
 use Rattle.std.specs.List.{position_or_len}
 use Rattle.std.specs.Str.{bytes_eq}
 use Rattle.std.proofs.lemmas.Bool.{cases_eq}

@@ -1,14 +1,10 @@
 -- What is true of the world after every list of steps (own profile).
-use Rattle.std.specs.Prelude.{ℕ, ◌≡◌, ◌+◌, ◌<◌, ◌≤◌, ◌⊎◌, Bool, true, false, Option, None, Some, List, [], ◌∷◌, ◌++◌, length}
-use Rattle.mgn_params.specs.Shelves.{set_at}
+use Rattle.std.specs.Prelude.{ℕ, ◌≡◌, ◌+◌, ◌≤◌, ◌⊎◌, List, [], ◌∷◌, length}
 use Rattle.mgn_params.specs.Tables.{Tables}
-use Rattle.mgn_desk.specs.Desks.{MarkedNets}
 use Rattle.mgn_machine.specs.declared.entry.Entry.{Entry}
 use Rattle.mgn_machine.specs.History.{Legal, replay}
-use Rattle.mgn_machine.specs.State.{AccountState, State}
-use Rattle.mgn_register.specs.Plans.{plan_of}
-use Rattle.mgn_world.specs.Stages.{Call, View, Stage, Idle, Held, Looked, Applied, Failed, Ended, Gathered}
-use Rattle.mgn_world.specs.World.{World, are_stale, desk_at, in_force, is_apart, lock_at, plan_units, planned, stage_at, unit_nets}
+use Rattle.mgn_machine.specs.State.{State}
+use Rattle.mgn_world.specs.World.{World}
 
 -- the history is legal, the state is its replay by the machine of one thread, the version in force is that of the last
 -- set, and there are at most 1,000,000 entries

@@ -13,7 +13,7 @@ use Rattle.mgn_machine.specs.declared.command.Command.TheVariants as asked
 use Rattle.mgn_machine.specs.declared.entry.Entry.{Entry}
 use Rattle.mgn_machine.specs.declared.reply.Refusal.{Refusal}
 use Rattle.mgn_machine.specs.declared.reply.Reply.{Reply}
-use Rattle.mgn_machine.specs.declared.reply.Reply.TheVariants.{Done, Figures, NewSet, Refused, Statement, Totals}
+use Rattle.mgn_machine.specs.declared.reply.Reply.TheVariants.{Done}
 use Rattle.mgn_machine.specs.declared.request.Request.{Request}
 use Rattle.mgn_machine.specs.declared.request.Request.TheVariants.{Do, Switch}
 use Rattle.mgn_machine.specs.History.{calls, entry, recorded}
@@ -28,7 +28,7 @@ use Rattle.mgn_register.specs.declared.plans.UnitChange.{UnitChange}
 use Rattle.mgn_register.specs.Plans.{nets_in, plan_of, planned_nets}
 use Rattle.mgn_pricing.specs.Desks.{four, moves_of}
 use Rattle.mgn_book.specs.BookViews.{sets_after}
-use Rattle.mgn_world.specs.Stages.{Call, Deed, Gathering, Seen, Stage, Step, View, Idle, Held, Looked, Applied, Failed, Ended, Gathered, Begin, Look, Mark, Apply, Commit, Back, End, Gather, Prepare}
+use Rattle.mgn_world.specs.Stages.{Call, Deed, Seen, Stage, Step, View, Idle, Held, Looked, Applied, Failed, Ended, Gathered, Begin, Look, Mark, Apply, Commit, Back, End, Gather, Prepare}
 
 -- The sets by version, the machine's state and history; by unit a desk, which is empty or has nets under the set of a
 -- version, and the place of the session that holds it; and the stages of the 16 sessions. A unit has one holder at most.
@@ -155,10 +155,10 @@ abbrev pub begin_on : World → ℕ → Command → List ℕ → World
 begin_on w p c [] = entered w p (Do c)
 begin_on w p c (u ∷ us) =
     if are_free w.locks (u ∷ us) then
-      record w {
-        locks = taken p (u ∷ us) w.locks;
-        stages = slice_set w.stages p (Held record { command = c; began = w.state.version; looks = 0 });
-      }
+    record w {
+      locks = taken p (u ∷ us) w.locks;
+      stages = slice_set w.stages p (Held record { command = c; began = w.state.version; looks = 0 });
+    }
     else w
 
 abbrev pub begins : World → ℕ → Command → Stage → World
@@ -224,7 +224,7 @@ planned_desks (Two u v) desks = desks_with v (desks_with u desks)
 abbrev pub applies : World → ℕ → Stage → World
 applies w p (Looked k l) =
     if are_of l.version w.desks l.seen then
-      record w { desks = planned_desks l.plan w.desks; stages = slice_set w.stages p (Applied k l) }
+    record w { desks = planned_desks l.plan w.desks; stages = slice_set w.stages p (Applied k l) }
     else w
 applies w p _ = w
 
@@ -322,7 +322,7 @@ no_nets = record { lots = []; buys = []; sales = []; all = [] }
 abbrev pub prepares : World → ℕ → ℕ → Stage → World
 prepares w p u (Gathered g) =
     if nat_lt u (length g.nets) && are_covered (set_at w.sets g.version) g.set (slice_index_or g.nets u no_nets) then
-      with_stage w p (Gathered record g { prepared = u ∷ g.prepared })
+    with_stage w p (Gathered record g { prepared = u ∷ g.prepared })
     else w
 prepares w p u _ = w
 
