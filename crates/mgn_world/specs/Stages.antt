@@ -17,22 +17,23 @@ pub record Seen : Type 0 where
   pub unit : ℕ
   pub nets : FourNets
 
--- what a Look took: the version in force, what the command then changes, and the units of this plan, in order of their
--- numbers
+-- what a Look took: the version in force, what the command then changes, and the units of this plan, in order of
+-- their numbers
 pub record View : Type 0 where
   pub version : ℕ
   pub plan : Plan
   pub seen : List Seen
 
--- what a Gather took for a switch: the set, the version in force, the nets of all units, and the units that were worked
--- out under the set since
+-- what a Gather took for a switch: the set, the version in force, the nets of all units, and the units that were
+-- worked out under the set since
 pub record Gathering : Type 0 where
   pub set : Tables
   pub version : ℕ
   pub nets : List FourNets
   pub prepared : List ℕ
 
--- the last step of a session's call. A call that failed has Look as its next step after Back where it was stale, else End
+-- the last step of a session's call. A call that failed has Look as its next step after Back where it was stale, else
+-- End
 pub data Stage : Type 0 where
   Idle : Stage
   Held : Call → Stage

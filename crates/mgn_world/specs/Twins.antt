@@ -2,7 +2,8 @@
 use Rattle.std.specs.Prelude.{ℕ, ◌≡◌, List, [], ◌∷◌}
 use Rattle.mgn_machine.specs.State.{AccountState}
 
--- an account is what it was: its name, origin and unit, and, where its unit is one of those left alone, its lots and holds
+-- an account is what it was: its name, origin and unit, and, where its unit is one of those left alone, its lots and
+-- holds
 pub record Twin (M : ℕ → Type 0) (a b : AccountState) : Type 0 where
   pub name : b.name ≡ a.name
   pub origin : b.origin ≡ a.origin

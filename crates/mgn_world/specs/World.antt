@@ -31,7 +31,8 @@ use Rattle.mgn_book.specs.BookViews.{sets_after}
 use Rattle.mgn_world.specs.Stages.{Call, Deed, Seen, Stage, Step, View, Idle, Held, Looked, Applied, Failed, Ended, Gathered, Begin, Look, Mark, Apply, Commit, Back, End, Gather, Prepare}
 
 -- The sets by version, the machine's state and history; by unit a desk, which is empty or has nets under the set of a
--- version, and the place of the session that holds it; and the stages of the 16 sessions. A unit has one holder at most.
+-- version, and the place of the session that holds it; and the stages of the 16 sessions. A unit has one holder at
+-- most.
 pub record World : Type 0 where
   pub sets : List Tables
   pub state : State
