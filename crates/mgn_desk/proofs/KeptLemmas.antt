@@ -1,5 +1,5 @@
 -- What is kept of a portfolio after a change of one net.
-use Rattle.std.proofs.Common.{◌≡◌, ◌≢◌, ℕ, ◌<◌, ◌≤◌, Bool, true, false, List, length, drop, slice_index, slice_set, pos, ℤ, unsigned_abs, ap, ◌∙◌, sym, subst, arith, refl, ⊎_elim, length-set, get_or-set_same, get_or-set_other}
+use Rattle.std.proofs.Common.{◌≡◌, ◌≢◌, ℕ, ◌<◌, Bool, true, false, List, length, slice_index, slice_set, pos, ℤ, unsigned_abs, ap, ◌∙◌, sym, subst, arith, refl, ⊎_elim, length-set, get_or-set_same, get_or-set_other}
 use Rattle.std.specs.Prelude.{◌-ℤ◌, if◌then◌else◌}
 use Rattle.std.specs.Int.{int_max}
 use Rattle.std.proofs.lemmas.Bool.{cases_eq}
@@ -14,11 +14,11 @@ use Rattle.mgn_span.specs.Requirement.{credit, credits, minimum, requirement, ri
 use Rattle.mgn_span.specs.Scan.{price_risk2, scenario_total, value_at}
 use Rattle.mgn_span.specs.Words.{net_delta}
 use Rattle.mgn_inter.specs.Credited.{AreCreditsOf}
-use Rattle.mgn_inter.specs.Rows.{Credited, MissesBelow}
+use Rattle.mgn_inter.specs.Rows.{Credited, named}
 use Rattle.mgn_tiers.proofs.SumLemmas.{signed_sum_below_same}
-use Rattle.mgn_desk.specs.Kept.{AreCharges, AreCreditsBy, AreParts, charge_of, IsPortfolio, IsReady, Kept, kept_risk, KeepsParts, KeepsRest, named, net_deltas_of, with_risks}
+use Rattle.mgn_desk.specs.Kept.{AreCharges, AreCreditsBy, AreParts, charge_of, IsPortfolio, IsReady, Kept, kept_risk, KeepsParts, KeepsRest, net_deltas_of, with_risks}
 use Rattle.mgn_desk.specs.Risks.{IsRisk}
-use Rattle.mgn_desk.proofs.CreditLemmas.{credit_kept, credit_of}
+use Rattle.mgn_desk.proofs.CreditLemmas.{credit_of}
 use Rattle.mgn_desk.proofs.FrameLemmas.{changed, charge_kept, minimum_kept, net_deltas_changed, price_risks_changed}
 
 parts_with_risks : (t : Tables) (p : Kept) (risks : List ℤ) → AreParts t p → AreParts t (with_risks p risks)
@@ -64,12 +64,12 @@ charges_changed t nets charges i q x limits h long are small is =
     }
 
 -- the risk of a commodity that no spread reaches from the changed one
-risk_kept : (t : Tables) (old p : Kept) (i place k : ℕ) (q d : ℤ) (x : ℕ) → IsWithinLimits t → IsPortfolio t old → IsReady t p → i < length t.contracts → p.nets ≡ changed old.nets i q → let g = (contract_at t.contracts i).commodity in p.credits.deltas ≡ slice_set old.credits.deltas g d → p.credits.risks ≡ slice_set old.credits.risks g x → place ≤ length t.credits → MissesBelow t.credits place g → k < length t.commodities → k ≢ g → named k (drop place t.credits) ≡ false → value_at old.risks k ≡ risk t (positions t.contracts p.nets) k
+risk_kept : (t : Tables) (old p : Kept) (places : List ℕ) (i k : ℕ) (q : ℤ) → IsWithinLimits t → IsPortfolio t old → IsReady t p → i < length t.contracts → p.nets ≡ changed old.nets i q → ((n : ℕ) → named n t.credits places ≡ false → slice_index p.credits.credits n ≡ slice_index old.credits.credits n) → k < length t.commodities → k ≢ (contract_at t.contracts i).commodity → named k t.credits places ≡ false → value_at old.risks k ≡ risk t (positions t.contracts p.nets) k
 unfolding risk
-risk_kept t old p i place k q d x limits was is h nets deltas risks low misses inside other none =
+risk_kept t old p places i k q limits was is h nets same inside other none =
     let long = was.ready.parts.totals.one_each in
     let apart = λ (e : (contract_at t.contracts i).commodity ≡ k). other (sym e) in
-    let credit_now = sym (credit_by t p.nets p.credits k is.credits) ∙ credit_kept t old.credits p.credits (contract_at t.contracts i).commodity place k d x was.ready.credits.of_set is.credits.of_set deltas risks low misses none ∙ credit_by t old.nets old.credits k was.ready.credits in
+    let credit_now = sym (credit_by t p.nets p.credits k is.credits) ∙ same k none ∙ credit_by t old.nets old.credits k was.ready.credits in
     let charge_now = ap (λ (ns : List ℤ). charge_of t (positions t.contracts ns) k) nets ∙ charge_kept t old.nets i k q limits h long apart in
     let minimum_now = ap (λ (ns : List ℤ). minimum t (positions t.contracts ns) k) nets ∙ minimum_kept t old.nets i k q h long apart in
     was.risks.each k inside ∙ sym (rw (charge_now, credit_now, minimum_now) refl)
@@ -80,8 +80,8 @@ either_right true mine other right first second = first
 either_right false mine other right first second = second refl
 
 -- the risks once those of the contract's commodity and of the commodities that spreads reach from it are written
-pub portfolio_after : (t : Tables) (old p : Kept) (i place : ℕ) (q d : ℤ) (x : ℕ) → IsWithinLimits t → IsPortfolio t old → IsReady t p → i < length t.contracts → p.nets ≡ changed old.nets i q → let g = (contract_at t.contracts i).commodity in p.credits.deltas ≡ slice_set old.credits.deltas g d → p.credits.risks ≡ slice_set old.credits.risks g x → place ≤ length t.credits → MissesBelow t.credits place g → length p.risks ≡ length old.risks → ((k : ℕ) → k < length old.risks → value_at p.risks k ≡ (if named k (drop place t.credits) then kept_risk p k else value_at (slice_set old.risks g (kept_risk p g)) k)) → IsPortfolio t p
-portfolio_after t old p i place q d x limits was is h nets deltas risks low misses long written =
+pub portfolio_after : (t : Tables) (old p : Kept) (places : List ℕ) (i : ℕ) (q : ℤ) → IsWithinLimits t → IsPortfolio t old → IsReady t p → i < length t.contracts → p.nets ≡ changed old.nets i q → let g = (contract_at t.contracts i).commodity in ((k : ℕ) → named k t.credits places ≡ false → slice_index p.credits.credits k ≡ slice_index old.credits.credits k) → length p.risks ≡ length old.risks → ((k : ℕ) → k < length old.risks → value_at p.risks k ≡ (if named k t.credits places then kept_risk p k else value_at (slice_set old.risks g (kept_risk p g)) k)) → IsPortfolio t p
+portfolio_after t old p places i q limits was is h nets same long written =
     let g = (contract_at t.contracts i).commodity in
     let one_each = was.risks.one_each in
     record {
@@ -90,12 +90,12 @@ portfolio_after t old p i place q d x limits was is h nets deltas risks low miss
         one_each = long ∙ one_each;
         each = λ k inside.
             let right = kept_risk_is t p k is inside in
-            written k (omega (arith, one_each)) ∙ either_right (named k (drop place t.credits)) (kept_risk p k) (value_at (slice_set old.risks g (kept_risk p g)) k) (risk t (positions t.contracts p.nets) k) right (λ none.
+            written k (omega (arith, one_each)) ∙ either_right (named k t.credits places) (kept_risk p k) (value_at (slice_set old.risks g (kept_risk p g)) k) (risk t (positions t.contracts p.nets) k) right (λ none.
             ⊎_elim
             (λ (here : k ≡ g).
             ap (λ (j : ℕ). value_at (slice_set old.risks g (kept_risk p g)) j) here ∙ get_or-set_same old.risks g (kept_risk p g) (pos 0) (omega (arith, one_each, (limits.contracts i no_contract h).commodity)) ∙ ap (kept_risk p) (sym here) ∙ right)
             (λ (other : k ≢ g).
-            get_or-set_other old.risks g k (kept_risk p g) (pos 0) other ∙ risk_kept t old p i place k q d x limits was is h nets deltas risks low misses inside other none)
+            get_or-set_other old.risks g k (kept_risk p g) (pos 0) other ∙ risk_kept t old p places i k q limits was is h nets same inside other none)
             (cases_eq k g));
       };
     }
@@ -128,15 +128,16 @@ ready_after t old moved p i q limits was h nets are rest same credits deltas ris
     }
 
 -- all that is kept once the risks are written
-pub portfolio_written : (t : Tables) (old moved refreshed mended p : Kept) (i place : ℕ) (q d : ℤ) (x : ℕ) → IsWithinLimits t → IsPortfolio t old → i < length t.contracts → moved.nets ≡ changed old.nets i q → KeepsRest old moved → KeepsParts moved refreshed → IsReady t refreshed → let g = (contract_at t.contracts i).commodity in refreshed.credits.deltas ≡ slice_set moved.credits.deltas g d → refreshed.credits.risks ≡ slice_set moved.credits.risks g x → place ≤ length t.credits → MissesBelow t.credits place g → mended ≡ with_risks refreshed (slice_set refreshed.risks g (kept_risk refreshed g)) → p ≡ with_risks mended p.risks → length p.risks ≡ length mended.risks → ((k : ℕ) → k < length mended.risks → value_at p.risks k ≡ (if named k (drop place t.credits) then kept_risk mended k else value_at mended.risks k)) → IsPortfolio t p
-portfolio_written t old moved refreshed mended p i place q d x limits was h nets rest same is deltas risks low misses mended_is p_is long written =
+pub portfolio_written : (t : Tables) (old moved refreshed mended p : Kept) (places : List ℕ) (i : ℕ) (q : ℤ) → IsWithinLimits t → IsPortfolio t old → i < length t.contracts → moved.nets ≡ changed old.nets i q → KeepsRest old moved → KeepsParts moved refreshed → IsReady t refreshed → let g = (contract_at t.contracts i).commodity in ((k : ℕ) → named k t.credits places ≡ false → slice_index refreshed.credits.credits k ≡ slice_index moved.credits.credits k) → mended ≡ with_risks refreshed (slice_set refreshed.risks g (kept_risk refreshed g)) → p ≡ with_risks mended p.risks → length p.risks ≡ length mended.risks → ((k : ℕ) → k < length mended.risks → value_at p.risks k ≡ (if named k t.credits places then kept_risk mended k else value_at mended.risks k)) → IsPortfolio t p
+portfolio_written t old moved refreshed mended p places i q limits was h nets rest same is credits mended_is p_is long written =
     let g = (contract_at t.contracts i).commodity in
     let e : p ≡ with_risks refreshed p.risks = p_is ∙ ap (λ (y : Kept). with_risks y p.risks) mended_is in
     let by : (k : ℕ) → kept_risk mended k ≡ kept_risk p k = λ k. ap (λ (y : Kept). kept_risk y k) mended_is ∙ sym (ap (λ (y : Kept). kept_risk y k) e) in
     let row : mended.risks ≡ slice_set old.risks g (kept_risk p g) = ap (λ (y : Kept). y.risks) mended_is ∙ ap (λ (rs : List ℤ). slice_set rs g (kept_risk refreshed g)) (same.risks ∙ rest.2) ∙ ap (λ (r : ℤ). slice_set old.risks g r) (sym (ap (λ (y : Kept). kept_risk y g) e)) in
     let rows_long : length mended.risks ≡ length old.risks = ap (λ (rs : List ℤ). length rs) row ∙ length-set old.risks g (kept_risk p g) in
-    portfolio_after t old p i place q d x limits was (subst (λ (y : Kept). IsReady t y) (sym e) (ready_with_risks t refreshed p.risks is)) h (ap (λ (y : Kept). y.nets) e ∙ same.nets ∙ nets) (ap (λ (y : Kept). y.credits.deltas) e ∙ deltas ∙ ap (λ (c : Credited). slice_set c.deltas g d) rest.0) (ap (λ (y : Kept). y.credits.risks) e ∙ risks ∙ ap (λ (c : Credited). slice_set c.risks g x) rest.0) low misses (long ∙ rows_long) (λ k inside.
-    written k (omega (arith, rows_long)) ∙ ap (λ (r : ℤ). if named k (drop place t.credits) then r else value_at mended.risks k) (by k) ∙ ap (λ (rs : List ℤ). if named k (drop place t.credits) then kept_risk p k else value_at rs k) row)
+    portfolio_after t old p places i q limits was (subst (λ (y : Kept). IsReady t y) (sym e) (ready_with_risks t refreshed p.risks is)) h (ap (λ (y : Kept). y.nets) e ∙ same.nets ∙ nets) (λ n out.
+    ap (λ (y : Kept). slice_index y.credits.credits n) e ∙ credits n out ∙ ap (λ (c : Credited). slice_index c.credits n) rest.0) (long ∙ rows_long) (λ k inside.
+    written k (omega (arith, rows_long)) ∙ ap (λ (r : ℤ). if named k t.credits places then r else value_at mended.risks k) (by k) ∙ ap (λ (rs : List ℤ). if named k t.credits places then kept_risk p k else value_at rs k) row)
 
 -- the requirement by what is kept
 pub requirement_is : (t : Tables) (p : Kept) (sum value : ℤ) → IsPortfolio t p → sum ≡ signed_sum_below (value_at p.risks) (length p.risks) → value ≡ net_option_value (positions t.contracts p.nets) → int_max (pos 0) (sum -ℤ value) ≡ requirement t p.nets

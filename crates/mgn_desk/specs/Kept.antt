@@ -1,9 +1,8 @@
 -- The nets of a portfolio with what is kept of them, commodity by commodity.
-use Rattle.std.specs.Prelude.{ℕ, Bool, ◌≡◌, ◌<◌, ℤ, pos, ◌+ℤ◌, ◌-ℤ◌, unsigned_abs, List, length, map, slice_index, All}
+use Rattle.std.specs.Prelude.{ℕ, ◌≡◌, ◌<◌, ℤ, pos, ◌+ℤ◌, ◌-ℤ◌, unsigned_abs, List, length, map, slice_index, All}
 use Rattle.std.specs.Int.{int_max}
-use Rattle.std.specs.List.{list_any, range_with_len}
-use Rattle.mgn_params.specs.declared.tables.CreditSpread.{CreditSpread}
-use Rattle.mgn_params.specs.Tables.{legs_of, Tables}
+use Rattle.std.specs.List.{range_with_len}
+use Rattle.mgn_params.specs.Tables.{Tables}
 use Rattle.mgn_span.specs.Deltas.{month_delta, net_delta_from}
 use Rattle.mgn_span.specs.MonthDeltas.{month_deltas}
 use Rattle.mgn_span.specs.Positions.{Position, positions}
@@ -13,7 +12,7 @@ use Rattle.mgn_scan.specs.Totals.{AreTotals}
 use Rattle.mgn_option.specs.Sums.{AreSums, Sums}
 use Rattle.mgn_tiers.specs.Tiers.{AreTiersOf, Tiers}
 use Rattle.mgn_inter.specs.Credited.{AreCreditsOf}
-use Rattle.mgn_inter.specs.Rows.{Credited, names}
+use Rattle.mgn_inter.specs.Rows.{Credited}
 use Rattle.mgn_desk.specs.Risks.{IsRisk}
 
 -- the nets of a set's contracts in file order; scenario totals, option sums, stages and credits; for each commodity its
@@ -98,7 +97,3 @@ pub record KeepsParts (old new : Kept) : Type 0 where
 -- the same with other risks
 abbrev pub with_risks : Kept → List ℤ → Kept
 with_risks p risks = record p { risks = risks }
-
--- whether one of some spreads names a commodity
-abbrev pub named : ℕ → List CreditSpread → Bool
-named k spreads = list_any (λ s. names k (legs_of s)) spreads

@@ -1,19 +1,18 @@
-ghost use Rattle.std.specs.Prelude.{◌≡◌, ℕ, ◌+◌, ◌-◌, ◌*◌, ◌<◌, ◌≤◌, ◌^◌, ℤ, pos, ◌+ℤ◌, ◌*ℤ◌, unsigned_abs, length, min, replicate, slice_set, IfOk, List, All, drop, if◌then◌else◌};
+ghost use Rattle.std.specs.Prelude.{◌≡◌, ℕ, ◌+◌, ◌-◌, ◌*◌, ◌<◌, ◌≤◌, ◌^◌, ℤ, pos, ◌+ℤ◌, ◌*ℤ◌, unsigned_abs, length, min, replicate, slice_index, slice_set, false, IfOk, List, All, if◌then◌else◌};
 ghost use Rattle.mgn_inter.specs.Credited.{AreCreditsOf};
-ghost use Rattle.mgn_inter.specs.Rows.{names};
+ghost use Rattle.mgn_inter.specs.Rows.{named, names};
 ghost use Rattle.mgn_span.specs.Words.{net_delta};
-ghost use Rattle.mgn_params.specs.Limits.{IsCreditSpread};
-ghost use Rattle.mgn_params.specs.Tables.{Tables};
+ghost use Rattle.mgn_params.specs.Tables.{Tables, credit_spread_at, legs_of};
 ghost use Rattle.mgn_span.specs.Positions.{IsNet, positions};
 ghost use Rattle.mgn_span.specs.Requirement.{requirement};
 ghost use Rattle.mgn_span.specs.Scan.{price_risk2, scenario_total, value_at};
-ghost use Rattle.mgn_desk.specs.Kept.{AreParts, charge_of, IsPortfolio, IsReady, kept_risk, KeepsParts, KeepsRest, named, with_risks};
+ghost use Rattle.mgn_desk.specs.Kept.{AreParts, charge_of, IsPortfolio, IsReady, kept_risk, KeepsParts, KeepsRest, with_risks};
 ghost use Rattle.mgn_desk.specs.Moved.{arrays_of_quantity, counted, more_of};
 ghost use Rattle.mgn_desk.specs.Risks.{IsRisk};
 
 use crate::risk_sum::RiskSum;
 use crate::rows::filled;
-use mgn_inter::InterCredits;
+use mgn_inter::{InterCredits, Reworked};
 use mgn_num::{Cents, Quantity, TenThousandths};
 use mgn_option::OptionSums;
 use mgn_params::{CreditSpread, Leg, ParamSet, Work};
@@ -62,6 +61,14 @@ fn scaled(quantity: Quantity, delta: &i64) -> TenThousandths
     ensures { result ≡ quantity *ℤ delta.now }
 {
     TenThousandths::product(quantity, *delta)
+}
+
+// The spread between commodities at a place.
+fn spread_at(spreads: &[CreditSpread], i: usize) -> &CreditSpread
+    requires { i < length spreads.now }
+    ensures { result.now ≡ credit_spread_at spreads.now i }
+{
+    &spreads[i]
 }
 
 impl Portfolio {
@@ -147,7 +154,7 @@ impl Portfolio {
     }
 
     // Brings what the commodity at a place risks before credits, and the credits, after the parts.
-    fn refresh(&mut self, set: &ParamSet, g: usize)
+    fn refresh(&mut self, set: &ParamSet, g: usize) -> Reworked
         requires parts { AreParts set.now self.old }
         requires commodity { g < length set.now.commodities }
         requires credits { AreCreditsOf set.now self.old.credits }
@@ -161,12 +168,15 @@ impl Portfolio {
         ensures charges { self.new.charges ≡ slice_set self.old.charges g
             (charge_of set.now (positions set.now.contracts self.old.nets) g) }
         ensures small { IsRisk (charge_of set.now (positions set.now.contracts self.old.nets) g) }
+        ensures places { All (λ i. i < length set.now.credits) result }
+        ensures others { (k : ℕ) → named k set.now.credits result ≡ false →
+            slice_index self.new.credits.credits k ≡ slice_index self.old.credits.credits k }
     {
         let charge = self.charge(g);
         let net_delta = self.tiers.net_delta(g);
         let price_risk2 = self.totals.price_risk2(g);
-        self.credits.refresh(set, g, net_delta, price_risk2);
         self.charges[g] = charge;
+        self.credits.refresh(set, g, net_delta, price_risk2)
     }
 
     // The risk of the commodity at a place, by what is kept.
@@ -205,19 +215,33 @@ impl Portfolio {
         }
     }
 
-    // Writes the risks of the commodities that spreads name.
-    fn mend_spreads(&mut self, spreads: &[CreditSpread])
-        requires ready { (set : Tables)
-            × IsReady set self.old
-            × (length self.old.risks ≡ length set.commodities)
-            × All (IsCreditSpread (length set.commodities)) spreads.now }
+    // Writes the risks of the commodities that the spread at a place names.
+    fn mend_spread(&mut self, set: &ParamSet, i: usize)
+        requires ready { IsReady set.now self.old }
+        requires risks { length self.old.risks ≡ length set.now.commodities }
+        requires place { i < length set.now.credits }
         ensures kept { self.new ≡ with_risks self.old self.new.risks }
         ensures long { length self.new.risks ≡ length self.old.risks }
         ensures risks { (k : ℕ) → k < length self.old.risks → value_at self.new.risks k ≡
-            (if named k spreads.now then kept_risk self.old k else value_at self.old.risks k) }
+            (if names k (legs_of (credit_spread_at set.now.credits i)) then kept_risk self.old k else value_at self.old.risks k) }
     {
-        for spread in spreads {
-            self.mend_legs(&spread.legs[..spread.count]);
+        set.limits();
+        let spread = spread_at(set.credits(), i);
+        self.mend_legs(&spread.legs[..spread.count]);
+    }
+
+    // Writes the risks of the commodities that the spreads at some places name.
+    fn mend_spreads(&mut self, set: &ParamSet, places: &[u8])
+        requires ready { IsReady set.now self.old }
+        requires risks { length self.old.risks ≡ length set.now.commodities }
+        requires places { All (λ i. i < length set.now.credits) places.now }
+        ensures kept { self.new ≡ with_risks self.old self.new.risks }
+        ensures long { length self.new.risks ≡ length self.old.risks }
+        ensures risks { (k : ℕ) → k < length self.old.risks → value_at self.new.risks k ≡
+            (if named k set.now.credits places.now then kept_risk self.old k else value_at self.old.risks k) }
+    {
+        for place in places {
+            self.mend_spread(set, usize::from(*place));
         }
     }
 
@@ -225,7 +249,8 @@ impl Portfolio {
     ///
     /// The set must be the one of the portfolio, and the changed net at most 10,000,000 in size. One risk array is
     /// read. The cost hangs neither on the number of contracts nor on that of commodities, but on the spreads of the
-    /// contract's commodity, and on those between commodities from the first one that names it.
+    /// contract's commodity, and on those between commodities that the change reaches: they name the commodity, or one
+    /// whose rest at the spread's turn is not what it was. The other spreads cost a look.
     pub fn change(&mut self, set: &ParamSet, i: usize, quantity: Quantity, work: &mut Work)
         requires portfolio { IsPortfolio set.now self.old }
         requires contract { i < length set.now.contracts }
@@ -236,11 +261,10 @@ impl Portfolio {
     {
         set.limits();
         let g = set.contract_at(i).commodity;
-        let place = self.credits.first_with(set, g);
         self.move_net(set, i, quantity, work);
-        self.refresh(set, g);
+        let reworked = self.refresh(set, g);
         self.mend(g);
-        self.mend_spreads(&set.credits()[place..]);
+        self.mend_spreads(set, reworked.places());
     }
 
     // The same, but that a quantity of 0 costs nothing.

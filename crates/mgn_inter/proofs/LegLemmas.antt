@@ -1,8 +1,14 @@
 -- The legs of one spread, one after the other.
-use Rattle.std.proofs.Common.{◌≡◌, ◌≢◌, ℕ, ◌+◌, ◌*◌, ◌≤◌, Bool, true, false, List, [], ◌∷◌, length, slice_index, slice_set, min, pos, negsuc, ℤ, unsigned_abs, ap, ◌∙◌, sym, arith, refl, eq-eqb, ne_eqb, All, length-set, get_or-set_other}
-use Rattle.std.specs.List.{AllByRecursion, fold, list_all}
+use Rattle.std.proofs.Common.{◌≡◌, ◌≢◌, ℕ, zero, suc, ◌+◌, ◌-◌, ◌*◌, ◌<◌, ◌≤◌, Bool, true, false, List, [], ◌∷◌, length, take, get_or, slice_index, slice_set, min, pos, negsuc, ℤ, unsigned_abs, ap, ◌∙◌, sym, subst, arith, refl, replicate, eq-eqb, ne_eqb, All, ⊎_elim, length-set, get_or-set_same, get_or-set_other}
+use Rattle.std.specs.Prelude.{◌==◌, if◌then◌else◌, not}
+use Rattle.std.specs.List.{AllByRecursion, fold, list_all, sum_by, zip}
+use Rattle.std.specs.Ordering.{int_eq}
+use Rattle.std.proofs.lemmas.Bool.{cases_eq, cases_lt, false≢true, true≢false}
+use Rattle.std.proofs.lemmas.Bool.Decides.{Decides-int_eq}
 use Rattle.std.proofs.lemmas.Int.{ints}
-use Rattle.std.proofs.lemmas.List.{set_comm}
+use Rattle.std.proofs.lemmas.List.{set_past}
+use Rattle.std.proofs.lemmas.List.Sums.{fold_more, sum_by-cons, sum_by-take-le, sum_by_more}
+use Rattle.std.proofs.lemmas.Slice.Zip.{get_or-zip, length-zip}
 use Rattle.std.proofs.lemmas.List.Elements.{All-from_recursion, All-head, All-nil, All-tail}
 use Rattle.std.proofs.lemmas.Grind.{common_steps}
 use Rattle.mgn_num.specs.Amount.{nearer_zero}
@@ -10,7 +16,17 @@ use Rattle.mgn_params.specs.declared.tables.Leg.{Leg}
 use Rattle.mgn_span.specs.Credits.{credits_after, fits, forms, leg_amount, leg_credit, rests_after, spread_amount}
 use Rattle.mgn_span.specs.Scan.{value_at}
 use Rattle.mgn_span.specs.Stages.{used}
-use Rattle.mgn_inter.specs.Rows.{names}
+use Rattle.mgn_params.specs.Tables.{no_leg}
+use Rattle.mgn_inter.specs.Rows.{brought, leg_at, leg_share, marked, moved_at, names, share_of}
+
+-- a choice of which both sides are right
+pub either_is : {X : Type 0} (b : Bool) (x y right : X) → (b ≡ true → x ≡ right) → (b ≡ false → y ≡ right) → (if b then x else y) ≡ right
+either_is true x y right first second = first refl
+either_is false x y right first second = second refl
+
+not_not : (b : Bool) → not b ≡ false → b ≡ true
+not_not true h = refl
+not_not false h = absurd (true≢false h)
 
 -- a leg that is named, and one that is not
 names_other : (g : ℕ) (leg : Leg) (legs : List Leg) → names g (leg ∷ legs) ≡ false → leg.commodity ≢ g
@@ -86,54 +102,237 @@ spread_amount_least rests (leg ∷ legs) =
     let least = spread_amount rests (leg ∷ legs) in
     All-from_recursion (λ (l : Leg). least ≤ leg_amount rests l) (leg ∷ legs) (least_le rests (leg_amount rests leg) legs, least_each rests least (leg_amount rests leg) legs (omega arith))
 
--- another rest of a commodity that no leg names
-leg_other : (row : List ℤ) (g c : ℕ) (d : ℤ) → c ≢ g → value_at (slice_set row g d) c ≡ value_at row c
-leg_other row g c d h = get_or-set_other row g c d (pos 0) h
+-- Two rows of rests in which the legs' commodities have equal ones.
 
-pub rests_after_set : (rests : List ℤ) (amount : ℕ) (legs : List Leg) (g : ℕ) (d : ℤ) → names g legs ≡ false → rests_after (slice_set rests g d) amount legs ≡ slice_set (rests_after rests amount legs) g d
-rests_after_set rests amount [] g d h = refl
-rests_after_set rests amount (leg ∷ legs) g d h =
-    let other = names_other g leg legs h in
+abbrev pub Agree : List ℤ → List ℤ → List Leg → Type 0
+Agree a b legs =
+    (j : ℕ) → j < length legs → value_at a (leg_at legs j).commodity ≡ value_at b (leg_at legs j).commodity
+
+set_same : (a b : List ℤ) (c : ℕ) (v : ℤ) (k : ℕ) → length a ≡ length b → value_at a k ≡ value_at b k → value_at (slice_set a c v) k ≡ value_at (slice_set b c v) k
+set_same a b c v k long here =
+    ⊎_elim
+    (λ (own : k ≡ c).
+    ⊎_elim
+    (λ (low : c < length a). rw (own, get_or-set_same a c v (pos 0) low, get_or-set_same b c v (pos 0) (omega (arith, low, long))) refl)
+    (λ (past : length a ≤ c). rw (set_past a c v past, set_past b c v (omega (arith, past, long))) here)
+    (cases_lt c (length a)))
+    (λ (other : k ≢ c). get_or-set_other a c k v (pos 0) other ∙ here ∙ sym (get_or-set_other b c k v (pos 0) other))
+    (cases_eq k c)
+
+pub rests_after_same : (a b : List ℤ) (amount : ℕ) (legs : List Leg) (k : ℕ) → length a ≡ length b → Agree a b legs → value_at a k ≡ value_at b k → value_at (rests_after a amount legs) k ≡ value_at (rests_after b amount legs) k
+rests_after_same a b amount [] k long same here = here
+rests_after_same a b amount (leg ∷ legs) k long same here =
     let c = leg.commodity in
     let u = used amount leg.ratio in
-    let now = nearer_zero (value_at rests c) u in
-    ap (λ (x : ℤ). rests_after (slice_set (slice_set rests g d) c (nearer_zero x u)) amount legs) (leg_other rests g c d other)
-    ∙ ap (λ (row : List ℤ). rests_after row amount legs) (set_comm rests g c d now (λ e. other (sym e)))
-    ∙ rests_after_set (slice_set rests c now) amount legs g d (names_tail g leg legs h)
+    let x = nearer_zero (value_at a c) u in
+    let head : value_at a c ≡ value_at b c = same 0 (omega arith) in
+    rests_after_same (slice_set a c x) (slice_set b c x) amount legs k (length-set a c x ∙ long ∙ sym (length-set b c x)) (λ j h. set_same a b c x (leg_at legs j).commodity long (same (suc j) (omega arith))) (set_same a b c x k long here)
+    ∙ ap (λ (z : ℤ). value_at (rests_after (slice_set b c (nearer_zero z u)) amount legs) k) head
 
-pub credits_after_set : (deltas : List ℤ) (risks : List ℕ) (rate amount : ℕ) (credits : List ℕ) (legs : List Leg) (g : ℕ) (d : ℤ) (x : ℕ) → names g legs ≡ false → credits_after (slice_set deltas g d) (slice_set risks g x) rate amount credits legs ≡ credits_after deltas risks rate amount credits legs
-credits_after_set deltas risks rate amount credits [] g d x h = refl
-credits_after_set deltas risks rate amount credits (leg ∷ legs) g d x h =
-    let other = names_other g leg legs h in
-    let c = leg.commodity in
-    let same : leg_credit (slice_set deltas g d) (slice_set risks g x) rate amount leg ≡ leg_credit deltas risks rate amount leg = rw (get_or-set_other deltas g c d (pos 0) other, get_or-set_other risks g c x 0 other) refl in
-    ap (λ (n : ℕ). credits_after (slice_set deltas g d) (slice_set risks g x) rate amount (slice_set credits c (slice_index credits c + n)) legs) same
-    ∙ credits_after_set deltas risks rate amount (slice_set credits c (slice_index credits c + leg_credit deltas risks rate amount leg)) legs g d x (names_tail g leg legs h)
+fits_same : (a_long : Bool) (a b : List ℤ) (leg : Leg) → value_at a leg.commodity ≡ value_at b leg.commodity → fits a_long a leg ≡ fits a_long b leg
+fits_same a_long a b leg h = rw h refl
 
-fits_set : (a_long : Bool) (rests : List ℤ) (leg : Leg) (g : ℕ) (d : ℤ) → leg.commodity ≢ g → fits a_long (slice_set rests g d) leg ≡ fits a_long rests leg
-fits_set a_long rests leg g d h = rw (leg_other rests g leg.commodity d h) refl
-
-all_fit_set : (a_long : Bool) (rests : List ℤ) (legs : List Leg) (g : ℕ) (d : ℤ) → names g legs ≡ false → list_all (fits a_long (slice_set rests g d)) legs ≡ list_all (fits a_long rests) legs
-all_fit_set a_long rests [] g d h = refl
-all_fit_set a_long rests (leg ∷ legs) g d h =
-    let first = fits_set a_long rests leg g d (names_other g leg legs h) in
-    let others = all_fit_set a_long rests legs g d (names_tail g leg legs h) in
+all_fit_same : (a_long : Bool) (a b : List ℤ) (legs : List Leg) → Agree a b legs → list_all (fits a_long a) legs ≡ list_all (fits a_long b) legs
+all_fit_same a_long a b [] same = refl
+all_fit_same a_long a b (leg ∷ legs) same =
+    let first = fits_same a_long a b leg (same 0 (omega arith)) in
+    let others = all_fit_same a_long a b legs (λ j h. same (suc j) (omega arith)) in
     rw (first, others) refl
 
-pub forms_set : (rests : List ℤ) (legs : List Leg) (g : ℕ) (d : ℤ) → names g legs ≡ false → forms (slice_set rests g d) legs ≡ forms rests legs
-forms_set rests legs g d h = rw (all_fit_set true rests legs g d h, all_fit_set false rests legs g d h) refl
+pub forms_same : (a b : List ℤ) (legs : List Leg) → Agree a b legs → forms a legs ≡ forms b legs
+forms_same a b legs same = rw (all_fit_same true a b legs same, all_fit_same false a b legs same) refl
 
-leg_amount_set : (rests : List ℤ) (leg : Leg) (g : ℕ) (d : ℤ) → leg.commodity ≢ g → leg_amount (slice_set rests g d) leg ≡ leg_amount rests leg
-leg_amount_set rests leg g d h = rw (leg_other rests g leg.commodity d h) refl
+leg_amount_same : (a b : List ℤ) (leg : Leg) → value_at a leg.commodity ≡ value_at b leg.commodity → leg_amount a leg ≡ leg_amount b leg
+leg_amount_same a b leg h = rw h refl
 
-least_set : (rests : List ℤ) (least : ℕ) (legs : List Leg) (g : ℕ) (d : ℤ) → names g legs ≡ false → fold (λ n other. min n (leg_amount (slice_set rests g d) other)) least legs ≡ fold (λ n other. min n (leg_amount rests other)) least legs
-least_set rests least [] g d h = refl
-least_set rests least (leg ∷ legs) g d h =
-    ap (λ (n : ℕ). fold (λ n other. min n (leg_amount (slice_set rests g d) other)) (min least n) legs) (leg_amount_set rests leg g d (names_other g leg legs h))
-    ∙ least_set rests (min least (leg_amount rests leg)) legs g d (names_tail g leg legs h)
+least_same : (a b : List ℤ) (least : ℕ) (legs : List Leg) → Agree a b legs → fold (λ n other. min n (leg_amount a other)) least legs ≡ fold (λ n other. min n (leg_amount b other)) least legs
+least_same a b least [] same = refl
+least_same a b least (leg ∷ legs) same =
+    ap (λ (n : ℕ). fold (λ n other. min n (leg_amount a other)) (min least n) legs) (leg_amount_same a b leg (same 0 (omega arith)))
+    ∙ least_same a b (min least (leg_amount b leg)) legs (λ j h. same (suc j) (omega arith))
 
-pub spread_amount_set : (rests : List ℤ) (legs : List Leg) (g : ℕ) (d : ℤ) → names g legs ≡ false → spread_amount (slice_set rests g d) legs ≡ spread_amount rests legs
-spread_amount_set rests [] g d h = refl
-spread_amount_set rests (leg ∷ legs) g d h =
-    ap (λ (n : ℕ). fold (λ n other. min n (leg_amount (slice_set rests g d) other)) n legs) (leg_amount_set rests leg g d (names_other g leg legs h))
-    ∙ least_set rests (leg_amount rests leg) legs g d (names_tail g leg legs h)
+pub spread_amount_same : (a b : List ℤ) (legs : List Leg) → Agree a b legs → spread_amount a legs ≡ spread_amount b legs
+spread_amount_same a b [] same = refl
+spread_amount_same a b (leg ∷ legs) same =
+    ap (λ (n : ℕ). fold (λ n other. min n (leg_amount a other)) n legs) (leg_amount_same a b leg (same 0 (omega arith)))
+    ∙ least_same a b (leg_amount b leg) legs (λ j h. same (suc j) (omega arith))
+
+-- The same for credits: net deltas and price risks that are equal for the legs' commodities.
+
+abbrev pub AgreeOn : List ℕ → List ℕ → List Leg → Type 0
+AgreeOn a b legs =
+    (j : ℕ) → j < length legs → slice_index a (leg_at legs j).commodity ≡ slice_index b (leg_at legs j).commodity
+
+leg_credit_same : (deltas were : List ℤ) (risks was : List ℕ) (rate amount : ℕ) (leg : Leg) → value_at deltas leg.commodity ≡ value_at were leg.commodity → slice_index risks leg.commodity ≡ slice_index was leg.commodity → leg_credit deltas risks rate amount leg ≡ leg_credit were was rate amount leg
+leg_credit_same deltas were risks was rate amount leg h k = rw (h, k) refl
+
+pub credits_after_same : (deltas were : List ℤ) (risks was : List ℕ) (rate amount : ℕ) (credits : List ℕ) (legs : List Leg) → Agree deltas were legs → AgreeOn risks was legs → credits_after deltas risks rate amount credits legs ≡ credits_after were was rate amount credits legs
+credits_after_same deltas were risks was rate amount credits [] same alike = refl
+credits_after_same deltas were risks was rate amount credits (leg ∷ legs) same alike =
+    let c = leg.commodity in
+    let head = leg_credit_same deltas were risks was rate amount leg (same 0 (omega arith)) (alike 0 (omega arith)) in
+    ap (λ (n : ℕ). credits_after deltas risks rate amount (slice_set credits c (slice_index credits c + n)) legs) head
+    ∙ credits_after_same deltas were risks was rate amount (slice_set credits c (slice_index credits c + leg_credit were was rate amount leg)) legs (λ j h. same (suc j) (omega arith)) (λ j h. alike (suc j) (omega arith))
+
+-- What the legs of a spread credit to a commodity together.
+
+added : (row : List ℕ) (c n g : ℕ) → c < length row → slice_index (slice_set row c (slice_index row c + n)) g ≡ slice_index row g + (if c == g then n else 0)
+added row c n g low =
+    ⊎_elim
+    (λ (here : c ≡ g). rw (sym here, eq-eqb c c refl) (get_or-set_same row c (slice_index row c + n) 0 low))
+    (λ (other : c ≢ g).
+    rw (ne_eqb c g other) (get_or-set_other row c g (slice_index row c + n) 0 (λ e. other (sym e)) ∙ omega arith))
+    (cases_eq c g)
+
+pub credits_after_shares : (deltas : List ℤ) (risks : List ℕ) (rate amount : ℕ) (credits : List ℕ) (legs : List Leg) (each : List ℕ) (g : ℕ) → length legs ≤ length each → All (λ leg. leg.commodity < length credits) legs → ((j : ℕ) → j < length legs → slice_index each j ≡ leg_credit deltas risks rate amount (leg_at legs j)) → slice_index (credits_after deltas risks rate amount credits legs) g ≡ slice_index credits g + share_of g legs each
+credits_after_shares deltas risks rate amount credits [] each g few there are = omega arith
+credits_after_shares deltas risks rate amount credits (leg ∷ legs) [] g few there are = absurd (omega arith)
+credits_after_shares deltas risks rate amount credits (leg ∷ legs) (n ∷ each) g few there are =
+    let c = leg.commodity in
+    let x = leg_credit deltas risks rate amount leg in
+    let row = slice_set credits c (slice_index credits c + x) in
+    let low : c < length credits = All-head (λ (l : Leg). l.commodity < length credits) leg legs there in
+    let rows : length row ≡ length credits = length-set credits c (slice_index credits c + x) in
+    let tail = All-tail (λ (l : Leg). l.commodity < length credits) leg legs there in
+    let others = credits_after_shares deltas risks rate amount row legs each g (omega arith) (λ j d h. omega (arith, tail j d h, rows)) (λ j h. are (suc j) (omega arith)) in
+    let own = added credits c x g low in
+    let head : n ≡ x = are 0 (omega arith) in
+    let sum = sum_by-cons (leg_share g) (leg, n) (zip legs each) in
+    rw (sum, head) (omega (arith, others, own))
+
+-- nothing for a commodity that they do not name, and nothing where they credit nothing
+pub share_out : (g : ℕ) (legs : List Leg) (each : List ℕ) → names g legs ≡ false → share_of g legs each ≡ 0
+share_out g [] each h = refl
+share_out g (leg ∷ legs) [] h = refl
+share_out g (leg ∷ legs) (n ∷ each) h =
+    let others = share_out g legs each (names_tail g leg legs h) in
+    rw (sum_by-cons (leg_share g) (leg, n) (zip legs each), ne_eqb leg.commodity g (names_other g leg legs h)) (omega (arith, others))
+
+pub share_none : (g : ℕ) (legs : List Leg) (n : ℕ) → share_of g legs (replicate n 0) ≡ 0
+share_none g [] n = refl
+share_none g (leg ∷ legs) zero = refl
+share_none g (leg ∷ legs) (suc n) =
+    let none : ℕ = 0 in
+    let own = either_is (leg.commodity == g) none none none (λ e. refl) (λ e. refl) in
+    rw (sum_by-cons (leg_share g) (leg, none) (zip legs (replicate n none)), own) (omega (arith, share_none g legs n))
+
+-- what holds of each leg's commodity holds of one that is named
+pub named_all : (P : ℕ → Type 0) (g : ℕ) (legs : List Leg) → ((j : ℕ) → j < length legs → P (leg_at legs j).commodity) → names g legs ≡ true → P g
+named_all P g [] all h = absurd (false≢true h)
+named_all P g (leg ∷ legs) all h =
+    ⊎_elim
+    (λ (here : leg.commodity ≡ g). subst P here (all 0 (omega arith)))
+    (λ (other : leg.commodity ≢ g).
+    named_all P g legs (λ j low. all (suc j) (omega arith)) (rw (ne_eqb leg.commodity g other) at h))
+    (cases_eq leg.commodity g)
+
+-- The rests that are brought are those of the turn: where a rest has moved the row has it, and else the leg's place.
+pub brought_is : (moved : List Bool) (rests : List ℤ) (legs : List Leg) (kept : List ℤ) (turn : ℕ → ℤ) (k : ℕ) → length legs ≤ length kept → All (λ leg. leg.commodity < length rests) legs → ((c : ℕ) → moved_at moved c ≡ true → value_at rests c ≡ turn c) → ((j : ℕ) → j < length legs → moved_at moved (leg_at legs j).commodity ≡ false → value_at kept j ≡ turn (leg_at legs j).commodity) → (names k legs ≡ false → value_at rests k ≡ turn k) → value_at (brought moved rests legs kept) k ≡ turn k
+brought_is moved rests [] kept turn k few there held own out = out refl
+brought_is moved rests (leg ∷ legs) [] turn k few there held own out = absurd (omega arith)
+brought_is moved rests (leg ∷ legs) (x ∷ kept) turn k few there held own out =
+    let c = leg.commodity in
+    let v = if moved_at moved c then value_at rests c else x in
+    let low : c < length rests = All-head (λ (l : Leg). l.commodity < length rests) leg legs there in
+    let tail = All-tail (λ (l : Leg). l.commodity < length rests) leg legs there in
+    let row = slice_set rests c v in
+    let long : length row ≡ length rests = length-set rests c v in
+    let here : v ≡ turn c = either_is (moved_at moved c) (value_at rests c) x (turn c) (held c) (own 0 (omega arith)) in
+    let at_own : (n : ℕ) → n ≡ c → value_at row n ≡ turn n = λ n e. rw e (get_or-set_same rests c v (pos 0) low ∙ here) in
+    brought_is moved row legs kept turn k (omega arith) (λ j d h. omega (arith, tail j d h, long)) (λ n yes.
+    ⊎_elim
+    (at_own n)
+    (λ (other : n ≢ c). get_or-set_other rests c n v (pos 0) other ∙ held n yes)
+    (cases_eq n c)) (λ j h. own (suc j) (omega arith)) (λ none.
+    ⊎_elim
+    (at_own k)
+    (λ (other : k ≢ c).
+    get_or-set_other rests c k v (pos 0) other ∙ out (rw (ne_eqb c k (λ e. other (sym e))) none))
+    (cases_eq k c))
+
+-- A commodity that is not marked any more has the rest at the leg's place.
+pub marked_is : (rests : List ℤ) (moved : List Bool) (legs : List Leg) (after : List ℤ) (turn was : ℕ → ℤ) (k : ℕ) → length legs ≤ length after → All (λ leg. leg.commodity < length moved) legs → ((j : ℕ) → j < length legs → value_at rests (leg_at legs j).commodity ≡ turn (leg_at legs j).commodity) → ((j : ℕ) → j < length legs → value_at after j ≡ was (leg_at legs j).commodity) → (moved_at moved k ≡ false → names k legs ≡ false → turn k ≡ was k) → moved_at (marked rests moved legs after) k ≡ false → turn k ≡ was k
+marked_is rests moved [] after turn was k few there own old out h = out h refl
+marked_is rests moved (leg ∷ legs) [] turn was k few there own old out h = absurd (omega arith)
+marked_is rests moved (leg ∷ legs) (x ∷ after) turn was k few there own old out h =
+    let c = leg.commodity in
+    let m = not (int_eq (value_at rests c) x) in
+    let low : c < length moved = All-head (λ (l : Leg). l.commodity < length moved) leg legs there in
+    let tail = All-tail (λ (l : Leg). l.commodity < length moved) leg legs there in
+    let row = slice_set moved c m in
+    let long : length row ≡ length moved = length-set moved c m in
+    marked_is rests row legs after turn was k (omega arith) (λ j d inside. omega (arith, tail j d inside, long)) (λ j inside. own (suc j) (omega arith)) (λ j inside. old (suc j) (omega arith)) (λ no none.
+    ⊎_elim
+    (λ (here : k ≡ c).
+    let same : m ≡ false = sym (get_or-set_same moved c m false low) ∙ ap (λ (n : ℕ). moved_at row n) (sym here) ∙ no in
+    let equal = (Decides-int_eq (value_at rests c) x).0 (not_not (int_eq (value_at rests c) x) same) in
+    rw here (sym (own 0 (omega arith)) ∙ equal ∙ old 0 (omega arith)))
+    (λ (other : k ≢ c).
+    out (sym (get_or-set_other moved c k m false other) ∙ no) (rw (ne_eqb c k (λ e. other (sym e))) none))
+    (cases_eq k c)) h
+
+pub length-marked : (rests : List ℤ) (moved : List Bool) (legs : List Leg) (after : List ℤ) → length (marked rests moved legs after) ≡ length moved
+length-marked rests moved [] after = refl
+length-marked rests moved (leg ∷ legs) [] = refl
+length-marked rests moved (leg ∷ legs) (x ∷ after) =
+    let m = not (int_eq (value_at rests leg.commodity) x) in
+    length-marked rests (slice_set moved leg.commodity m) legs after ∙ length-set moved leg.commodity m
+
+pub length-brought : (moved : List Bool) (rests : List ℤ) (legs : List Leg) (kept : List ℤ) → length (brought moved rests legs kept) ≡ length rests
+length-brought moved rests [] kept = refl
+length-brought moved rests (leg ∷ legs) [] = refl
+length-brought moved rests (leg ∷ legs) (x ∷ kept) =
+    let v = if moved_at moved leg.commodity then value_at rests leg.commodity else x in
+    length-brought moved (slice_set rests leg.commodity v) legs kept ∙ length-set rests leg.commodity v
+
+-- and the marks of others stay
+pub marked_out : (rests : List ℤ) (moved : List Bool) (legs : List Leg) (after : List ℤ) (k : ℕ) → names k legs ≡ false → moved_at (marked rests moved legs after) k ≡ moved_at moved k
+marked_out rests moved [] after k h = refl
+marked_out rests moved (leg ∷ legs) [] k h = refl
+marked_out rests moved (leg ∷ legs) (x ∷ after) k h =
+    let m = not (int_eq (value_at rests leg.commodity) x) in
+    marked_out rests (slice_set moved leg.commodity m) legs after k (names_tail k leg legs h)
+    ∙ get_or-set_other moved leg.commodity k m false (λ e. names_other k leg legs h (sym e))
+
+-- One leg more.
+pub legs_more : {X Y : Type 0} (f : Y → Leg × X → Y) (a : Y) (legs : List Leg) (values : List X) (k : ℕ) (d : X) → k < length legs → k < length values → fold f a (take (k + 1) (zip legs values)) ≡ f (fold f a (take k (zip legs values))) (leg_at legs k, get_or values k d)
+legs_more f a legs values k d low there =
+    let inside : k < length (zip legs values) = omega (arith, length-zip legs values, low, there) in
+    fold_more f a (zip legs values) k (no_leg, d) inside
+    ∙ ap (f (fold f a (take k (zip legs values)))) (get_or-zip legs values k (no_leg, d) low there)
+
+share_more : (g : ℕ) (legs : List Leg) (each : List ℕ) (k : ℕ) → k < length legs → k < length each → sum_by (leg_share g) (take (k + 1) (zip legs each)) ≡ sum_by (leg_share g) (take k (zip legs each)) + (if (leg_at legs k).commodity == g then slice_index each k else 0)
+share_more g legs each k low there =
+    let none : ℕ = 0 in
+    let inside : k < length (zip legs each) = omega (arith, length-zip legs each, low, there) in
+    sum_by_more (leg_share g) (zip legs each) k (no_leg, none) inside
+    ∙ ap (λ (p : Leg × ℕ). sum_by (leg_share g) (take k (zip legs each)) + leg_share g p) (get_or-zip legs each k (no_leg, none) low there)
+
+-- the credit of a leg is within those of its commodity
+pub share_within : (legs : List Leg) (each : List ℕ) (k : ℕ) → k < length legs → k < length each → let g = (leg_at legs k).commodity in sum_by (leg_share g) (take k (zip legs each)) + slice_index each k ≤ share_of g legs each
+share_within legs each k low there =
+    let g = (leg_at legs k).commodity in
+    let more = rw (eq-eqb g g refl) at (share_more g legs each k low there) in
+    let all = sum_by-take-le (leg_share g) (zip legs each) (k + 1) in
+    omega (arith, more, all)
+
+-- one leg's credit is moved
+pub credit_moved : (was now : List ℕ) (legs : List Leg) (old new : List ℕ) (k g : ℕ) → k < length legs → k < length old → k < length new → let c = (leg_at legs k).commodity in c < length now → slice_index old k ≤ slice_index now c → slice_index now g + sum_by (leg_share g) (take k (zip legs old)) ≡ slice_index was g + sum_by (leg_share g) (take k (zip legs new)) → slice_index (slice_set now c (slice_index now c - slice_index old k + slice_index new k)) g + sum_by (leg_share g) (take (k + 1) (zip legs old)) ≡ slice_index was g + sum_by (leg_share g) (take (k + 1) (zip legs new))
+credit_moved was now legs old new k g low old_there new_there here covered so_far =
+    let c = (leg_at legs k).commodity in
+    let x = slice_index now c - slice_index old k + slice_index new k in
+    let off = share_more g legs old k low old_there in
+    let on = share_more g legs new k low new_there in
+    ⊎_elim
+    (λ (own : c ≡ g).
+    let off_own = rw (eq-eqb c g own) at off in
+    let on_own = rw (eq-eqb c g own) at on in
+    let written : slice_index (slice_set now c x) g ≡ x = rw (sym own) (get_or-set_same now c x 0 here) in
+    let row : slice_index now c ≡ slice_index now g = ap (λ (n : ℕ). slice_index now n) own in
+    omega (arith, off_own, on_own, written, row, covered, so_far))
+    (λ (other : c ≢ g).
+    let off_other = rw (ne_eqb c g other) at off in
+    let on_other = rw (ne_eqb c g other) at on in
+    let written = get_or-set_other now c g x 0 (λ e. other (sym e)) in
+    omega (arith, off_other, on_other, written, so_far))
+    (cases_eq c g)

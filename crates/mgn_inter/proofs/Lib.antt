@@ -2,3 +2,5 @@
 pub mod LegLemmas
 pub mod SpreadLemmas
 pub mod StateLemmas
+pub mod TurnLemmas
+pub mod ReworkedLemmas

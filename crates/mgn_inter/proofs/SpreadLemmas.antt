@@ -1,23 +1,26 @@
 -- One spread between commodities: what it keeps, how much it credits, and what a commodity means that it does not name.
-use Rattle.std.proofs.Common.{◌≡◌, ℕ, ◌+◌, ◌*◌, ◌/◌, ◌<◌, ◌≤◌, ◌^◌, Bool, true, false, List, length, get_or, slice_index, slice_set, pos, ℤ, unsigned_abs, ap, ◌∙◌, sym, arith, refl, All, length-take}
-use Rattle.std.specs.List.{list_all}
+use Rattle.std.proofs.Common.{◌≡◌, ℕ, ◌+◌, ◌*◌, ◌/◌, ◌<◌, ◌≤◌, ◌^◌, Bool, true, false, List, [], ◌∷◌, length, get_or, slice_index, pos, ℤ, replicate, unsigned_abs, ap, ◌∙◌, sym, arith, refl, All, length-take}
+use Rattle.std.specs.List.{list_all, list_any}
 use Rattle.std.specs.Prelude.{◌||◌, if◌then◌else◌}
+use Rattle.std.proofs.lemmas.Bool.{false≢true}
 use Rattle.std.proofs.lemmas.Int.{ints}
+use Rattle.std.proofs.lemmas.List.{length-replicate}
 use Rattle.std.proofs.lemmas.List.Elements.{All-weaker}
 use Rattle.std.proofs.lemmas.List.Sums.{AllPass-from_list_all}
 use Rattle.std.proofs.lemmas.Nat.{div_below}
 use Rattle.std.proofs.Math.Nat.{mul-le-mul, mul-le-mul_left, mul-le-mul_right}
 use Rattle.mgn_params.specs.declared.tables.CreditSpread.{CreditSpread}
 use Rattle.mgn_params.specs.declared.tables.Leg.{Leg}
-use Rattle.mgn_span.specs.Credits.{credits_after, fits, formed, forms, leg_credit, rests_after, spread_amount}
+use Rattle.mgn_span.specs.Credits.{credits_after, fits, formed, forms, is_long, leg_credit, rests_after, spread_amount}
 use Rattle.mgn_params.specs.Limits.{IsCreditSpread}
 use Rattle.mgn_span.specs.Scan.{value_at}
 use Rattle.mgn_span.specs.Stages.{used}
-use Rattle.mgn_params.specs.Tables.{legs_of}
+use Rattle.mgn_params.specs.Tables.{is_side_a, legs_of}
 use Rattle.mgn_span.proofs.StageLemmas.{used_le_left}
-use Rattle.mgn_inter.specs.Rows.{AreNumbers, IsCreditable, names}
+use Rattle.mgn_inter.specs.declared.kept.Kept.{Kept}
+use Rattle.mgn_inter.specs.Rows.{AreNear, AreNumbers, IsCreditable, IsKept, leg_at, names, share_of}
 use Rattle.mgn_span.specs.Words.{AreRests}
-use Rattle.mgn_inter.proofs.LegLemmas.{credits_after_out, credits_after_set, credits_after_small, forms_set, length-credits_after, length-rests_after, rests_after_near, rests_after_out, rests_after_set, spread_amount_least, spread_amount_set}
+use Rattle.mgn_inter.proofs.LegLemmas.{Agree, AgreeOn, either_is, credits_after_out, credits_after_same, credits_after_shares, credits_after_small, forms_same, length-credits_after, length-rests_after, rests_after_near, rests_after_out, rests_after_same, share_none, spread_amount_least, spread_amount_same}
 
 -- the rests and credits where a spread forms, and where it does not
 outcome : List ℤ → List ℕ → List ℤ × List ℕ → CreditSpread → ℕ → Bool → List ℤ × List ℕ
@@ -60,21 +63,115 @@ pub formed_out : (deltas : List ℤ) (risks : List ℕ) (now : List ℤ × List 
 formed_out deltas risks now s g h =
     rw (formed_is deltas risks now s) (outcome_out deltas risks now s (spread_amount now.0 (legs_of s)) (forms now.0 (legs_of s)) g h)
 
-outcome_set : (deltas : List ℤ) (risks : List ℕ) (rests : List ℤ) (credits : List ℕ) (s : CreditSpread) (amount : ℕ) (b : Bool) (g : ℕ) (d : ℤ) (x : ℕ) → names g (legs_of s) ≡ false → outcome (slice_set deltas g d) (slice_set risks g x) (slice_set rests g d, credits) s amount b ≡ (slice_set (outcome deltas risks (rests, credits) s amount b).0 g d, (outcome deltas risks (rests, credits) s amount b).1)
+-- rests that are equal for the legs' commodities lead to equal ones, whatever the numbers
+outcome_same : (deltas were : List ℤ) (risks was : List ℕ) (a b : List ℤ) (x y : List ℕ) (s : CreditSpread) (amount : ℕ) (yes : Bool) (k : ℕ) → length a ≡ length b → Agree a b (legs_of s) → value_at a k ≡ value_at b k → value_at (outcome deltas risks (a, x) s amount yes).0 k ≡ value_at (outcome were was (b, y) s amount yes).0 k
 unfolding outcome
-outcome_set deltas risks rests credits s amount true g d x h =
-    rw (rests_after_set rests amount (legs_of s) g d h, credits_after_set deltas risks s.rate amount credits (legs_of s) g d x h) refl
-outcome_set deltas risks rests credits s amount false g d x h = refl
+outcome_same deltas were risks was a b x y s amount true k long same here =
+    rests_after_same a b amount (legs_of s) k long same here
+outcome_same deltas were risks was a b x y s amount false k long same here = here
 
-pub formed_set : (deltas : List ℤ) (risks : List ℕ) (rests : List ℤ) (credits : List ℕ) (s : CreditSpread) (g : ℕ) (d : ℤ) (x : ℕ) → names g (legs_of s) ≡ false → formed (slice_set deltas g d) (slice_set risks g x) (slice_set rests g d, credits) s ≡ (slice_set (formed deltas risks (rests, credits) s).0 g d, (formed deltas risks (rests, credits) s).1)
-formed_set deltas risks rests credits s g d x h =
+-- how a spread comes out by other rests that are equal for the legs' commodities
+outcome_by : (deltas : List ℤ) (risks : List ℕ) (a b : List ℤ) (x : List ℕ) (s : CreditSpread) → Agree a b (legs_of s) → formed deltas risks (a, x) s ≡ outcome deltas risks (a, x) s (spread_amount b (legs_of s)) (forms b (legs_of s))
+outcome_by deltas risks a b x s same =
     let legs = legs_of s in
-    let moved = outcome (slice_set deltas g d) (slice_set risks g x) (slice_set rests g d, credits) s in
-    formed_is (slice_set deltas g d) (slice_set risks g x) (slice_set rests g d, credits) s
-    ∙ ap (λ (n : ℕ). moved n (forms (slice_set rests g d) legs)) (spread_amount_set rests legs g d h)
-    ∙ ap (λ (b : Bool). moved (spread_amount rests legs) b) (forms_set rests legs g d h)
-    ∙ outcome_set deltas risks rests credits s (spread_amount rests legs) (forms rests legs) g d x h
-    ∙ ap (λ (p : List ℤ × List ℕ). let q : List ℤ × List ℕ = (slice_set p.0 g d, p.1) in q) (sym (formed_is deltas risks (rests, credits) s))
+    formed_is deltas risks (a, x) s
+    ∙ ap (λ (n : ℕ). outcome deltas risks (a, x) s n (forms a legs)) (spread_amount_same a b legs same)
+    ∙ ap (λ (yes : Bool). outcome deltas risks (a, x) s (spread_amount b legs) yes) (forms_same a b legs same)
+
+pub formed_same : (deltas were : List ℤ) (risks was : List ℕ) (a b : List ℤ) (x y : List ℕ) (s : CreditSpread) (k : ℕ) → length a ≡ length b → Agree a b (legs_of s) → value_at a k ≡ value_at b k → value_at (formed deltas risks (a, x) s).0 k ≡ value_at (formed were was (b, y) s).0 k
+formed_same deltas were risks was a b x y s k long same here =
+    let legs = legs_of s in
+    ap (λ (p : List ℤ × List ℕ). value_at p.0 k) (outcome_by deltas risks a b x s same)
+    ∙ outcome_same deltas were risks was a b x y s (spread_amount b legs) (forms b legs) k long same here
+    ∙ ap (λ (p : List ℤ × List ℕ). value_at p.0 k) (sym (formed_is were was (b, y) s))
+
+outcome_alike : (deltas were : List ℤ) (risks was : List ℕ) (a b : List ℤ) (x : List ℕ) (s : CreditSpread) (amount : ℕ) (yes : Bool) → Agree deltas were (legs_of s) → AgreeOn risks was (legs_of s) → (outcome deltas risks (a, x) s amount yes).1 ≡ (outcome were was (b, x) s amount yes).1
+unfolding outcome
+outcome_alike deltas were risks was a b x s amount true same alike =
+    credits_after_same deltas were risks was s.rate amount x (legs_of s) same alike
+outcome_alike deltas were risks was a b x s amount false same alike = refl
+
+-- and so do its credits where the numbers of the legs' commodities are equal too
+pub formed_alike : (deltas were : List ℤ) (risks was : List ℕ) (a b : List ℤ) (x : List ℕ) (s : CreditSpread) → Agree a b (legs_of s) → Agree deltas were (legs_of s) → AgreeOn risks was (legs_of s) → (formed deltas risks (a, x) s).1 ≡ (formed were was (b, x) s).1
+formed_alike deltas were risks was a b x s same deltas_same alike =
+    let legs = legs_of s in
+    ap (λ (p : List ℤ × List ℕ). p.1) (outcome_by deltas risks a b x s same)
+    ∙ outcome_alike deltas were risks was a b x s (spread_amount b legs) (forms b legs) deltas_same alike
+    ∙ ap (λ (p : List ℤ × List ℕ). p.1) (sym (formed_is were was (b, x) s))
+
+-- what is kept for the rests at the turn, once it is worked out by rests that are equal for the legs' commodities
+pub kept_same : (deltas were : List ℤ) (risks was : List ℕ) (a b : List ℤ) (s : CreditSpread) (k : Kept) → length deltas ≡ length were → length a ≡ length b → Agree a b (legs_of s) → Agree deltas were (legs_of s) → AgreeOn risks was (legs_of s) → IsKept were was b s k → IsKept deltas risks a s k
+kept_same deltas were risks was a b s k each long same deltas_same alike is = record {
+  rests_long = is.rests_long;
+  after_long = is.after_long;
+  credits_long = is.credits_long;
+  rests_are = λ j h. is.rests_are j h ∙ sym (same j h);
+  after_are = λ x j h.
+      is.after_are x j h
+      ∙ sym (formed_same deltas were risks was a b x x s (leg_at (legs_of s) j).commodity long same (same j h));
+  credits_are = λ x g h.
+      ap (λ (row : List ℕ). slice_index row g) (formed_alike deltas were risks was a b x s same deltas_same alike)
+      ∙ is.credits_are x g (h ∙ each);
+}
+
+-- where it forms, and where it does not
+outcome_yes : (deltas : List ℤ) (risks : List ℕ) (now : List ℤ × List ℕ) (s : CreditSpread) (amount : ℕ) → outcome deltas risks now s amount true ≡ (rests_after now.0 amount (legs_of s), credits_after deltas risks s.rate amount now.1 (legs_of s))
+unfolding outcome
+outcome_yes deltas risks now s amount = refl
+
+outcome_no : (deltas : List ℤ) (risks : List ℕ) (now : List ℤ × List ℕ) (s : CreditSpread) (amount : ℕ) → outcome deltas risks now s amount false ≡ now
+unfolding outcome
+outcome_no deltas risks now s amount = refl
+
+pub formed_yes : (deltas : List ℤ) (risks : List ℕ) (now : List ℤ × List ℕ) (s : CreditSpread) → forms now.0 (legs_of s) ≡ true → let amount = spread_amount now.0 (legs_of s) in formed deltas risks now s ≡ (rests_after now.0 amount (legs_of s), credits_after deltas risks s.rate amount now.1 (legs_of s))
+formed_yes deltas risks now s they_do =
+    let amount = spread_amount now.0 (legs_of s) in
+    formed_is deltas risks now s
+    ∙ ap (λ (b : Bool). outcome deltas risks now s amount b) they_do
+    ∙ outcome_yes deltas risks now s amount
+
+pub formed_no : (deltas : List ℤ) (risks : List ℕ) (now : List ℤ × List ℕ) (s : CreditSpread) → forms now.0 (legs_of s) ≡ false → formed deltas risks now s ≡ now
+formed_no deltas risks now s they_dont =
+    let amount = spread_amount now.0 (legs_of s) in
+    formed_is deltas risks now s
+    ∙ ap (λ (b : Bool). outcome deltas risks now s amount b) they_dont
+    ∙ outcome_no deltas risks now s amount
+
+pub kept_yes : (deltas : List ℤ) (risks : List ℕ) (rests : List ℤ) (s : CreditSpread) (k : Kept) → All (λ leg. leg.commodity < length deltas) (legs_of s) → length (legs_of s) ≤ 4 → forms rests (legs_of s) ≡ true → length k.rests ≡ 4 → length k.after ≡ 4 → length k.credits ≡ 4 → let legs = legs_of s in let amount = spread_amount rests legs in ((j : ℕ) → j < length legs → value_at k.rests j ≡ value_at rests (leg_at legs j).commodity) → ((j : ℕ) → j < length legs → value_at k.after j ≡ value_at (rests_after rests amount legs) (leg_at legs j).commodity) → ((j : ℕ) → j < length legs → slice_index k.credits j ≡ leg_credit deltas risks s.rate amount (leg_at legs j)) → IsKept deltas risks rests s k
+kept_yes deltas risks rests s k there few they_do rests_long after_long credits_long rests_are after_are credits_are =
+    let legs = legs_of s in
+    let amount = spread_amount rests legs in
+    let is = λ (x : List ℕ). (let now : List ℤ × List ℕ = (rests, x) in formed_yes deltas risks now s they_do) in
+    record {
+      rests_long = rests_long;
+      after_long = after_long;
+      credits_long = credits_long;
+      rests_are = rests_are;
+      after_are = λ x j h.
+          after_are j h
+          ∙ sym (ap (λ (p : List ℤ × List ℕ). value_at p.0 (leg_at legs j).commodity) (is x));
+      credits_are = λ x g h.
+          ap (λ (p : List ℤ × List ℕ). slice_index p.1 g) (is x)
+          ∙ credits_after_shares deltas risks s.rate amount x legs k.credits g (omega (arith, few, credits_long)) (λ j d low. omega (arith, there j d low, h)) credits_are;
+    }
+
+pub kept_no : (deltas : List ℤ) (risks : List ℕ) (rests : List ℤ) (s : CreditSpread) (k : Kept) → forms rests (legs_of s) ≡ false → length k.rests ≡ 4 → let legs = legs_of s in ((j : ℕ) → j < length legs → value_at k.rests j ≡ value_at rests (leg_at legs j).commodity) → k.after ≡ k.rests → k.credits ≡ replicate 4 0 → IsKept deltas risks rests s k
+kept_no deltas risks rests s k they_dont rests_long rests_are after credits =
+    let legs = legs_of s in
+    let is = λ (x : List ℕ). (let now : List ℤ × List ℕ = (rests, x) in formed_no deltas risks now s they_dont) in
+    record {
+      rests_long = rests_long;
+      after_long = ap (λ (r : List ℤ). length r) after ∙ rests_long;
+      credits_long = ap (λ (r : List ℕ). length r) credits;
+      rests_are = rests_are;
+      after_are = λ x j h.
+          ap (λ (r : List ℤ). value_at r j) after
+          ∙ rests_are j h
+          ∙ sym (ap (λ (p : List ℤ × List ℕ). value_at p.0 (leg_at legs j).commodity) (is x));
+      credits_are = λ x g h.
+          ap (λ (p : List ℤ × List ℕ). slice_index p.1 g) (is x)
+          ∙ omega (arith, ap (λ (r : List ℕ). share_of g legs r) credits, share_none g legs 4);
+    }
 
 -- a leg that fits has a rest other than 0
 fits_some : (a_long : Bool) (rests : List ℤ) (leg : Leg) → fits a_long rests leg ≡ true → 0 < unsigned_abs (value_at rests leg.commodity)
@@ -96,14 +193,14 @@ forms_some rests legs h =
 amount_product : (amount rest ratio : ℕ) → 0 < ratio → rest ≤ 256 * 10 ^ 12 → amount ≤ 10000 * rest / ratio → amount * ratio ≤ 256 * 10 ^ 16
 amount_product amount rest ratio h small k = let more = mul-le-mul_right ratio k in omega arith
 
-pub legs_creditable : (deltas rests : List ℤ) (risks : List ℕ) (n : ℕ) (s : CreditSpread) → AreNumbers deltas risks → AreRests deltas rests → n ≡ length deltas → IsCreditSpread n s → forms rests (legs_of s) ≡ true → All (IsCreditable deltas risks (spread_amount rests (legs_of s))) (legs_of s)
+pub legs_creditable : (deltas rests : List ℤ) (risks : List ℕ) (n : ℕ) (s : CreditSpread) → AreNumbers deltas risks → AreNear deltas rests (legs_of s) → n ≡ length deltas → IsCreditSpread n s → forms rests (legs_of s) ≡ true → All (IsCreditable deltas risks (spread_amount rests (legs_of s))) (legs_of s)
 legs_creditable deltas rests risks n s numbers are count limits h k d inside =
     let legs = legs_of s in
     let leg : Leg = get_or legs k d in
     let amount = spread_amount rests legs in
     let limit = limits.legs k d inside in
     let here : leg.commodity < length deltas = omega (arith, limit.commodity, count) in
-    let near = are.near leg.commodity in
+    let near = are k d inside in
     let some = forms_some rests legs h k d inside in
     let small = numbers.small_deltas leg.commodity (pos 0) here in
     let least = spread_amount_least rests legs k d inside in
@@ -138,7 +235,7 @@ unfolding outcome
 outcome_small deltas risks rests credits s n true g numbers are count limits h =
     let legs = legs_of s in
     let amount = spread_amount rests legs in
-    let each = All-weaker (IsCreditable deltas risks amount) (λ leg. leg_credit deltas risks s.rate amount leg ≤ 10 ^ 33) (λ leg is. leg_credit_small deltas risks s.rate amount leg limits.rate is) legs (legs_creditable deltas rests risks n s numbers are count limits (sym h)) in
+    let each = All-weaker (IsCreditable deltas risks amount) (λ leg. leg_credit deltas risks s.rate amount leg ≤ 10 ^ 33) (λ leg is. leg_credit_small deltas risks s.rate amount leg limits.rate is) legs (legs_creditable deltas rests risks n s numbers (λ k d inside. are.near (get_or legs k d).commodity) count limits (sym h)) in
     let few : length legs ≤ 4 = omega (arith, length-take s.count s.legs, limits.few) in
     omega (arith, credits_after_small deltas risks s.rate amount credits legs (10 ^ 33) g each, few)
 outcome_small deltas risks rests credits s n false g numbers are count limits h = omega arith
@@ -146,3 +243,24 @@ outcome_small deltas risks rests credits s n false g numbers are count limits h 
 pub formed_small : (deltas : List ℤ) (risks : List ℕ) (rests : List ℤ) (credits : List ℕ) (s : CreditSpread) (n g : ℕ) → AreNumbers deltas risks → AreRests deltas rests → n ≡ length deltas → IsCreditSpread n s → slice_index (formed deltas risks (rests, credits) s).1 g ≤ slice_index credits g + 4 * 10 ^ 33
 formed_small deltas risks rests credits s n g numbers are count limits =
     rw (formed_is deltas risks (rests, credits) s) (outcome_small deltas risks rests credits s n (forms rests (legs_of s)) g numbers are count limits refl)
+
+-- what is kept of a spread credits a commodity at most as much
+pub kept_small : (deltas : List ℤ) (risks : List ℕ) (rests : List ℤ) (s : CreditSpread) (k : Kept) (n g : ℕ) → AreNumbers deltas risks → AreRests deltas rests → n ≡ length deltas → IsCreditSpread n s → IsKept deltas risks rests s k → share_of g (legs_of s) k.credits ≤ 4 * 10 ^ 33
+kept_small deltas risks rests s k n g numbers are count limits is =
+    let none = replicate (length deltas) 0 in
+    let small = formed_small deltas risks rests none s n g numbers are count limits in
+    let sum = is.credits_are none g (length-replicate {A = ℕ} (length deltas) 0) in
+    omega (arith, small, sum)
+
+-- A spread whose legs' commodities have rests of 0 does not form.
+fits_none : (a_long : Bool) (rests : List ℤ) (leg : Leg) → value_at rests leg.commodity ≡ pos 0 → fits a_long rests leg ≡ false
+fits_none a_long rests leg h = rw h (either_is (is_long a_long leg.side) false false false (λ e. refl) (λ e. refl))
+
+forms_none : (rests : List ℤ) (legs : List Leg) → list_any (λ leg. is_side_a leg.side) legs ≡ true → ((g : ℕ) → value_at rests g ≡ pos 0) → forms rests legs ≡ false
+forms_none rests [] some none = absurd (false≢true some)
+forms_none rests (leg ∷ legs) some none =
+    rw (fits_none true rests leg (none leg.commodity), fits_none false rests leg (none leg.commodity)) refl
+
+pub formed_none : (deltas : List ℤ) (risks : List ℕ) (now : List ℤ × List ℕ) (s : CreditSpread) → list_any (λ leg. is_side_a leg.side) (legs_of s) ≡ true → ((g : ℕ) → value_at now.0 g ≡ pos 0) → formed deltas risks now s ≡ now
+formed_none deltas risks now s some none =
+    formed_no deltas risks now s (forms_none now.0 (legs_of s) some none)

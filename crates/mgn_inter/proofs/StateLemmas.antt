@@ -1,23 +1,19 @@
--- The rows after the first spreads, when one more forms, when the last is undone, and when a commodity that none of
--- them names gets other numbers.
-use Rattle.std.proofs.Common.{◌≡◌, ◌≢◌, ℕ, zero, suc, ◌+◌, ◌*◌, ◌<◌, ◌≤◌, ◌^◌, false, List, [], ◌∷◌, length, take, set, get_or, slice_index, slice_set, replicate, pos, ℤ, ap, ◌∙◌, sym, subst, arith, refl, add-one, ⊎_elim, All, length-set, get_or-set_same, get_or-set_other, eq-eqb, ne_eqb, length-take}
-use Rattle.std.specs.Prelude.{◌==◌}
+-- The rests and credits after the first spreads, and what is kept of each.
+use Rattle.std.proofs.Common.{◌≡◌, ◌≢◌, ℕ, zero, suc, ◌+◌, ◌*◌, ◌<◌, ◌≤◌, List, length, take, slice_index, slice_set, replicate, pos, ℤ, ap, ◌∙◌, sym, subst, arith, refl, add-one, ⊎_elim, All, get_or-set_same, get_or-set_other}
 use Rattle.std.proofs.lemmas.Bool.{cases_eq, cases_lt}
-use Rattle.std.proofs.lemmas.List.{ext_get_or, get_or-replicate, get_or_past, length-replicate}
-use Rattle.std.proofs.lemmas.List.Elements.{All-head, All-set, All-tail}
-use Rattle.std.proofs.lemmas.List.Folds.{list_any_at}
+use Rattle.std.proofs.lemmas.List.{get_or-replicate, get_or_past, length-replicate}
 use Rattle.std.proofs.lemmas.List.Sums.{fold_more}
 use Rattle.mgn_params.specs.declared.tables.CreditSpread.{CreditSpread}
-use Rattle.mgn_params.specs.declared.tables.Leg.{Leg}
 use Rattle.mgn_span.specs.Credits.{formed}
+use Rattle.mgn_span.specs.Scan.{value_at}
 use Rattle.mgn_params.specs.Limits.{IsCreditSpread}
-use Rattle.mgn_params.specs.Tables.{credit_spread_at, legs_of, no_credit_spread, no_leg}
+use Rattle.mgn_params.specs.Tables.{credit_spread_at, legs_of, no_credit_spread}
 use Rattle.mgn_inter.specs.declared.kept.Kept.{Kept}
-use Rattle.mgn_inter.specs.Rows.{AreFormed, AreNumbers, Credited, IsKept, MissesBelow, kept_at, leg_at, names, nothing_kept, state_of, written}
+use Rattle.mgn_inter.specs.Rows.{IsKept, kept_at, leg_at, nothing_kept, rests_at, share_at, share_of, state_of}
+use Rattle.mgn_inter.specs.Shares.{shares}
 use Rattle.mgn_span.specs.Words.{AreRests}
-use Rattle.mgn_inter.specs.Sizes.{IsRisk}
-use Rattle.mgn_inter.proofs.SpreadLemmas.{formed_long, formed_near, formed_out, formed_set, formed_small}
-use Rattle.mgn_span.specs.Sizes.{IsDelta}
+use Rattle.mgn_inter.proofs.SpreadLemmas.{formed_long, formed_near, formed_none}
+use Rattle.mgn_inter.proofs.LegLemmas.{share_none}
 
 -- one spread more
 pub state_suc : (deltas : List ℤ) (risks : List ℕ) (spreads : List CreditSpread) (n : ℕ) → n < length spreads → state_of deltas risks (take (suc n) spreads) ≡ formed deltas risks (state_of deltas risks (take n spreads)) (credit_spread_at spreads n)
@@ -40,149 +36,99 @@ state_near deltas risks spreads (suc n) h =
     let inside : n < length spreads = omega arith in
     rw (state_suc deltas risks spreads n inside) (formed_near deltas risks (state_of deltas risks (take n spreads)) (credit_spread_at spreads n) (state_near deltas risks spreads n (omega arith)))
 
--- each spread credits a commodity at most 4 * 10^33
-none_at : (n g : ℕ) → slice_index (replicate n 0) g ≡ 0
+-- a row of zeros
+pub none_at : (n g : ℕ) → slice_index (replicate n 0) g ≡ 0
 none_at n g =
     ⊎_elim
     (λ inside. get_or-replicate {A = ℕ} n g 0 0 inside)
     (λ past. get_or_past {X = ℕ} (replicate {A = ℕ} n 0) g 0 (omega (arith, length-replicate {A = ℕ} n 0)))
     (cases_lt g n)
 
-pub state_small : (deltas : List ℤ) (risks : List ℕ) (spreads : List CreditSpread) (count n g : ℕ) → AreNumbers deltas risks → count ≡ length deltas → All (IsCreditSpread count) spreads → n ≤ length spreads → slice_index (state_of deltas risks (take n spreads)).1 g ≤ n * (4 * 10 ^ 33)
-state_small deltas risks spreads count zero g numbers same limits h = omega (arith, none_at (length deltas) g)
-state_small deltas risks spreads count (suc n) g numbers same limits h =
+-- What spreads credit by what is kept of each.
+
+pub shares_small : (spreads : List CreditSpread) (kept : List Kept) (g most n : ℕ) → ((i : ℕ) → i < n → share_at spreads kept g i ≤ most) → shares spreads kept g n ≤ n * most
+shares_small spreads kept g most zero small = omega arith
+shares_small spreads kept g most (suc n) small =
+    let before = shares_small spreads kept g most n (λ i h. small i (omega arith)) in
+    let own = small n (omega arith) in
+    omega (arith, before, own)
+
+pub shares_one : (spreads : List CreditSpread) (kept : List Kept) (g n i : ℕ) → i < n → share_at spreads kept g i ≤ shares spreads kept g n
+shares_one spreads kept g zero i h = absurd (omega arith)
+shares_one spreads kept g (suc n) i h =
+    ⊎_elim
+    (λ (here : i ≡ n). rw here (omega arith))
+    (λ (other : i ≢ n). let before = shares_one spreads kept g n i (omega arith) in omega (arith, before))
+    (cases_eq i n)
+
+-- one of them is kept anew
+pub kept_own : (kept : List Kept) (i : ℕ) (own : Kept) → i < length kept → kept_at (slice_set kept i own) i ≡ own
+kept_own kept i own h = get_or-set_same kept i own nothing_kept h
+
+pub kept_other : (kept : List Kept) (i j : ℕ) (own : Kept) → j ≢ i → kept_at (slice_set kept i own) j ≡ kept_at kept j
+kept_other kept i j own h = get_or-set_other kept i j own nothing_kept h
+
+share_other : (spreads : List CreditSpread) (kept : List Kept) (g i j : ℕ) (own : Kept) → j ≢ i → share_at spreads (slice_set kept i own) g j ≡ share_at spreads kept g j
+share_other spreads kept g i j own h =
+    ap (λ (k : Kept). share_of g (legs_of (credit_spread_at spreads j)) k.credits) (kept_other kept i j own h)
+
+shares_below : (spreads : List CreditSpread) (kept : List Kept) (g i n : ℕ) (own : Kept) → n ≤ i → shares spreads (slice_set kept i own) g n ≡ shares spreads kept g n
+shares_below spreads kept g i zero own h = refl
+shares_below spreads kept g i (suc n) own h =
+    rw (shares_below spreads kept g i n own (omega arith), share_other spreads kept g i n own (λ e. omega (arith, e, h))) refl
+
+pub shares_set : (spreads : List CreditSpread) (kept : List Kept) (g i n : ℕ) (own : Kept) → i < n → i < length kept → shares spreads (slice_set kept i own) g n + share_at spreads kept g i ≡ shares spreads kept g n + share_of g (legs_of (credit_spread_at spreads i)) own.credits
+shares_set spreads kept g i zero own h low = absurd (omega arith)
+shares_set spreads kept g i (suc n) own h low =
+    ⊎_elim
+    (λ (here : i ≡ n).
+    let mine : share_at spreads (slice_set kept i own) g i ≡ share_of g (legs_of (credit_spread_at spreads i)) own.credits = ap (λ (k : Kept). share_of g (legs_of (credit_spread_at spreads i)) k.credits) (kept_own kept i own low) in
+    subst (λ (m : ℕ). shares spreads (slice_set kept i own) g m + share_at spreads (slice_set kept i own) g m + share_at spreads kept g i ≡ shares spreads kept g m + share_at spreads kept g m + share_of g (legs_of (credit_spread_at spreads i)) own.credits) here (omega (arith, shares_below spreads kept g i i own (omega arith), mine)))
+    (λ (other : i ≢ n).
+    let before = shares_set spreads kept g i n own (omega arith) low in
+    let last = share_other spreads kept g i n own (λ e. other (sym e)) in
+    omega (arith, before, last))
+    (cases_eq i n)
+
+-- together they are the credits of the definition
+pub shares_are : (deltas : List ℤ) (risks : List ℕ) (spreads : List CreditSpread) (kept : List Kept) (g n : ℕ) → n ≤ length spreads → ((i : ℕ) → i < n → IsKept deltas risks (rests_at deltas risks spreads i) (credit_spread_at spreads i) (kept_at kept i)) → slice_index (state_of deltas risks (take n spreads)).1 g ≡ shares spreads kept g n
+shares_are deltas risks spreads kept g zero h are = none_at (length deltas) g
+shares_are deltas risks spreads kept g (suc n) h are =
     let inside : n < length spreads = omega arith in
     let now = state_of deltas risks (take n spreads) in
-    let before = state_small deltas risks spreads count n g numbers same limits (omega arith) in
-    let own = formed_small deltas risks now.0 now.1 (credit_spread_at spreads n) count g numbers (state_near deltas risks spreads n (omega arith)) same (limits n no_credit_spread inside) in
+    let before = shares_are deltas risks spreads kept g n (omega arith) (λ i low. are i (omega arith)) in
+    let own = (are n (omega arith)).credits_are now.1 g (state_long deltas risks spreads n (omega arith)).1 in
     rw (state_suc deltas risks spreads n inside) (omega (arith, before, own))
 
--- other numbers of a commodity that no spread names
-pub state_set : (deltas : List ℤ) (risks : List ℕ) (spreads : List CreditSpread) (n g : ℕ) (d : ℤ) (x : ℕ) → n ≤ length spreads → MissesBelow spreads n g → state_of (slice_set deltas g d) (slice_set risks g x) (take n spreads) ≡ (slice_set (state_of deltas risks (take n spreads)).0 g d, (state_of deltas risks (take n spreads)).1)
-state_set deltas risks spreads zero g d x h misses =
-    ap (λ (n : ℕ). let p : List ℤ × List ℕ = (slice_set deltas g d, replicate n 0) in p) (length-set deltas g d)
-state_set deltas risks spreads (suc n) g d x h misses =
-    let inside : n < length spreads = omega arith in
-    let s = credit_spread_at spreads n in
-    let now = state_of deltas risks (take n spreads) in
-    let before = state_set deltas risks spreads n g d x (omega arith) (λ i below there. misses i (omega arith) there) in
-    state_suc (slice_set deltas g d) (slice_set risks g x) spreads n inside
-    ∙ ap (λ (p : List ℤ × List ℕ). formed (slice_set deltas g d) (slice_set risks g x) p s) before
-    ∙ formed_set deltas risks now.0 now.1 s g d x (misses n (omega arith) inside)
-    ∙ ap (λ (p : List ℤ × List ℕ). let q : List ℤ × List ℕ = (slice_set p.0 g d, p.1) in q) (sym (state_suc deltas risks spreads n inside))
-
--- a leg of a commodity that is not named
-pub names_at : (g : ℕ) (legs : List Leg) (j : ℕ) → names g legs ≡ false → j < length legs → (leg_at legs j).commodity ≢ g
-names_at g legs j h inside =
-    λ e.
-    let yes = list_any_at (λ (leg : Leg). leg.commodity == g) legs j no_leg inside (eq-eqb (leg_at legs j).commodity g e) in
-    cc
-
--- a row is as it was once each leg's commodity has again what it had
-pub written_back : {X : Type 0} → (d : X) (row was : List X) (legs : List Leg) (values : List X) → length row ≡ length was → length legs ≤ length values → ((j : ℕ) → j < length legs → get_or values j d ≡ get_or was (leg_at legs j).commodity d) → ((g : ℕ) → names g legs ≡ false → get_or row g d ≡ get_or was g d) → All (λ leg. leg.commodity < length was) legs → written row legs values ≡ was
-written_back d row was [] values long few kept others there = ext_get_or d row was long (λ g h. others g refl)
-written_back d row was (leg ∷ legs) [] long few kept others there = absurd (omega arith)
-written_back d row was (leg ∷ legs) (v ∷ values) long few kept others there =
-    let c = leg.commodity in
-    let low : c < length was = All-head (λ (l : Leg). l.commodity < length was) leg legs there in
-    written_back d (set row c v) was legs values (length-set row c v ∙ long) (omega arith) (λ j h. kept (suc j) (omega arith))
-    (λ g out.
+-- Net deltas of 0, of which nothing forms.
+pub zero_at : (n g : ℕ) → value_at (replicate n (pos 0)) g ≡ pos 0
+zero_at n g =
     ⊎_elim
-    (λ (here : g ≡ c). rw here (get_or-set_same row c v d (omega (arith, long)) ∙ kept 0 (omega arith)))
-    (λ (other : g ≢ c). get_or-set_other row c g v d other ∙ others g (rw (ne_eqb c g (λ e. other (sym e))) out))
-    (cases_eq g c))
-    (All-tail (λ (l : Leg). l.commodity < length was) leg legs there)
+    (λ inside. get_or-replicate {A = ℤ} n g (pos 0) (pos 0) inside)
+    (λ past. get_or_past {X = ℤ} (replicate {A = ℤ} n (pos 0)) g (pos 0) (omega (arith, length-replicate {A = ℤ} n (pos 0))))
+    (cases_lt g n)
 
--- what the rows of formed spreads meet
-pub rests_long : (spreads : List CreditSpread) (n : ℕ) (r : Credited) → AreFormed spreads n r → length r.rests ≡ length r.deltas
-rests_long spreads n r are =
-    ap (λ (p : List ℤ × List ℕ). length p.0) are.state ∙ (state_long r.deltas r.risks spreads n are.fewer).0
-
-pub credits_long : (spreads : List CreditSpread) (n : ℕ) (r : Credited) → AreFormed spreads n r → length r.credits ≡ length r.deltas
-credits_long spreads n r are =
-    ap (λ (p : List ℤ × List ℕ). length p.1) are.state ∙ (state_long r.deltas r.risks spreads n are.fewer).1
-
-pub rests_near : (spreads : List CreditSpread) (n : ℕ) (r : Credited) → AreFormed spreads n r → AreRests r.deltas r.rests
-rests_near spreads n r are =
-    subst (λ (p : List ℤ × List ℕ). AreRests r.deltas p.0) (sym are.state) (state_near r.deltas r.risks spreads n are.fewer)
-
-pub credits_small : (spreads : List CreditSpread) (count n g : ℕ) (r : Credited) → AreFormed spreads n r → count ≡ length r.deltas → All (IsCreditSpread count) spreads → slice_index r.credits g ≤ n * (4 * 10 ^ 33)
-credits_small spreads count n g r are same limits =
-    subst (λ (p : List ℤ × List ℕ). slice_index p.1 g ≤ n * (4 * 10 ^ 33)) (sym are.state) (state_small r.deltas r.risks spreads count n g are.numbers same limits are.fewer)
-
--- the rows when one more spread has formed
-pub rows_formed : (spreads : List CreditSpread) (n : ℕ) (r : Credited) (rests : List ℤ) (credits : List ℕ) (own : Kept) → AreFormed spreads n r → n < length spreads → (rests, credits) ≡ formed r.deltas r.risks (r.rests, r.credits) (credit_spread_at spreads n) → IsKept (r.rests, r.credits) (legs_of (credit_spread_at spreads n)) own → AreFormed spreads (n + 1) (record r { rests = rests; credits = credits; kept = slice_set r.kept n own })
-rows_formed spreads n r rests credits own are inside now kept = record {
-  numbers = are.numbers;
-  fewer = omega arith;
-  state = now ∙ ap (λ (p : List ℤ × List ℕ). formed r.deltas r.risks p (credit_spread_at spreads n)) are.state ∙ sym (rw add-one (state_suc r.deltas r.risks spreads n inside));
-  one_each = omega (arith, are.one_each, length-set r.kept n own);
-  kept_are = λ i h.
-      ⊎_elim
-      (λ (here : i ≡ n).
-      let at : kept_at (slice_set r.kept n own) n ≡ own = get_or-set_same r.kept n own nothing_kept (omega (arith, are.one_each)) in
-      rw (here, at, ← are.state) kept)
-      (λ (other : i ≢ n).
-      rw (get_or-set_other r.kept n i own nothing_kept other) (are.kept_are i (omega arith)))
-      (cases_eq i n);
-  one_first_each = are.one_first_each;
-  firsts_are = are.firsts_are;
-}
-
--- the rows when the last spread is undone
-pub rows_undone : (spreads : List CreditSpread) (count n : ℕ) (r : Credited) (rests : List ℤ) (credits : List ℕ) → AreFormed spreads (suc n) r → count ≡ length r.deltas → All (IsCreditSpread count) spreads → rests ≡ written r.rests (legs_of (credit_spread_at spreads n)) (kept_at r.kept n).rests → credits ≡ written r.credits (legs_of (credit_spread_at spreads n)) (kept_at r.kept n).credits → AreFormed spreads n (record r { rests = rests; credits = credits })
-rows_undone spreads count n r rests credits are same limits rests_is credits_is =
-    let inside : n < length spreads = omega (arith, are.fewer) in
+pub state_none : (count n : ℕ) (risks : List ℕ) (spreads : List CreditSpread) → n ≤ length spreads → All (IsCreditSpread count) spreads → state_of (replicate count (pos 0)) risks (take n spreads) ≡ (replicate count (pos 0), replicate count 0)
+state_none count zero risks spreads h limits =
+    ap (λ (n : ℕ). let p : List ℤ × List ℕ = (replicate count (pos 0), replicate n 0) in p) (length-replicate {A = ℤ} count (pos 0))
+state_none count (suc n) risks spreads h limits =
+    let inside : n < length spreads = omega arith in
+    let deltas = replicate count (pos 0) in
+    let none : List ℤ × List ℕ = (deltas, replicate count 0) in
     let s = credit_spread_at spreads n in
-    let legs = legs_of s in
-    let limit = limits n no_credit_spread inside in
-    let was = state_of r.deltas r.risks (take n spreads) in
-    let long = state_long r.deltas r.risks spreads n (omega arith) in
-    let after = formed_long r.deltas r.risks was s in
-    let kept = are.kept_are n (omega arith) in
-    let now : (r.rests, r.credits) ≡ formed r.deltas r.risks was s = are.state ∙ state_suc r.deltas r.risks spreads n inside in
-    let rests_now = ap (λ (p : List ℤ × List ℕ). p.0) now in
-    let credits_now = ap (λ (p : List ℤ × List ℕ). p.1) now in
-    let few : length legs ≤ 4 = omega (arith, length-take s.count s.legs, limit.few) in
-    let rests_back : written r.rests legs (kept_at r.kept n).rests ≡ was.0 = rw rests_now (written_back (pos 0) (formed r.deltas r.risks was s).0 was.0 legs (kept_at r.kept n).rests after.0 (omega (arith, few, kept.rests_long)) kept.rests_are (λ g h. (formed_out r.deltas r.risks was s g h).0) (λ j d h. omega (arith, (limit.legs j d h).commodity, same, long.0))) in
-    let credits_back : written r.credits legs (kept_at r.kept n).credits ≡ was.1 = rw credits_now (written_back 0 (formed r.deltas r.risks was s).1 was.1 legs (kept_at r.kept n).credits after.1 (omega (arith, few, kept.credits_long)) kept.credits_are (λ g h. (formed_out r.deltas r.risks was s g h).1) (λ j d h. omega (arith, (limit.legs j d h).commodity, same, long.1))) in
-    record {
-      numbers = are.numbers;
-      fewer = omega arith;
-      state = ap (λ (x : List ℤ). let p : List ℤ × List ℕ = (x, credits) in p) (rests_is ∙ rests_back) ∙ ap (λ (y : List ℕ). let p : List ℤ × List ℕ = (was.0, y) in p) (credits_is ∙ credits_back);
-      one_each = are.one_each;
-      kept_are = λ i h. are.kept_are i (omega arith);
-      one_first_each = are.one_first_each;
-      firsts_are = are.firsts_are;
-    }
+    state_suc deltas risks spreads n inside
+    ∙ ap (λ (p : List ℤ × List ℕ). formed deltas risks p s) (state_none count n risks spreads (omega arith) limits)
+    ∙ formed_none deltas risks none s (limits n no_credit_spread inside).side_a (zero_at count)
 
--- the rows when a commodity that no formed spread names gets other numbers
-pub rows_renumbered : (spreads : List CreditSpread) (n : ℕ) (r : Credited) (g : ℕ) (d : ℤ) (x : ℕ) → AreFormed spreads n r → g < length r.deltas → MissesBelow spreads n g → IsDelta d → IsRisk x → AreFormed spreads n (record r { deltas = slice_set r.deltas g d; risks = slice_set r.risks g x; rests = slice_set r.rests g d })
-rows_renumbered spreads n r g d x are low misses small risk = record {
-  numbers = record {
-    one_each = length-set r.risks g x ∙ are.numbers.one_each ∙ sym (length-set r.deltas g d);
-    small_deltas = All-set IsDelta r.deltas g d small are.numbers.small_deltas;
-    small_risks = λ k.
-        ⊎_elim
-        (λ (here : k ≡ g). rw (here, get_or-set_same r.risks g x 0 (omega (arith, are.numbers.one_each))) risk)
-        (λ (other : k ≢ g). rw (get_or-set_other r.risks g k x 0 other) (are.numbers.small_risks k))
-        (cases_eq k g);
-  };
-  fewer = are.fewer;
-  state = ap (λ (p : List ℤ × List ℕ). let q : List ℤ × List ℕ = (slice_set p.0 g d, p.1) in q) are.state ∙ sym (state_set r.deltas r.risks spreads n g d x are.fewer misses);
-  one_each = are.one_each;
-  kept_are = λ i h.
-      let fewer : MissesBelow spreads i g = λ j below there. misses j (omega arith) there in
-      let was = are.kept_are i h in
-      let legs = legs_of (credit_spread_at spreads i) in
-      let inside : i < length spreads = omega (arith, are.fewer) in
-      let now = state_of r.deltas r.risks (take i spreads) in
-      rw (state_set r.deltas r.risks spreads i g d x (omega arith) fewer) (record {
-        rests_long = was.rests_long;
-        credits_long = was.credits_long;
-        rests_are = λ j there. was.rests_are j there ∙ sym (get_or-set_other now.0 g (leg_at legs j).commodity d (pos 0) (names_at g legs j (misses i h inside) there));
-        credits_are = was.credits_are;
-      });
-  one_first_each = are.one_first_each ∙ sym (length-set r.deltas g d);
-  firsts_are = λ k h. are.firsts_are k (omega (arith, length-set r.deltas g d));
-}
+pub kept_none : (count : ℕ) (risks : List ℕ) (s : CreditSpread) → IsCreditSpread count s → IsKept (replicate count (pos 0)) risks (replicate count (pos 0)) s nothing_kept
+kept_none count risks s limit =
+    let deltas = replicate count (pos 0) in
+    let same = λ (x : List ℕ). (let now : List ℤ × List ℕ = (deltas, x) in formed_none deltas risks now s limit.side_a (zero_at count)) in
+    record {
+      rests_long = refl;
+      after_long = refl;
+      credits_long = refl;
+      rests_are = λ j h. zero_at 4 j ∙ sym (zero_at count (leg_at (legs_of s) j).commodity);
+      after_are = λ x j h. rw (same x) (zero_at 4 j ∙ sym (zero_at count (leg_at (legs_of s) j).commodity));
+      credits_are = λ x g h. rw (same x) (omega (arith, share_none g (legs_of s) 4));
+    }

@@ -1,5 +1,6 @@
 -- How credits are kept.
 pub mod Sizes
 pub mod Rows
+pub mod Shares
 pub mod Credited
 pub mod CreditRows

@@ -1,6 +1,7 @@
--- The rows from which intercommodity spreads are formed and undone, one after the other.
-use Rattle.std.specs.Prelude.{ℕ, ◌≡◌, ◌<◌, ◌≤◌, ◌*◌, ◌^◌, ◌==◌, Bool, false, ℤ, pos, unsigned_abs, List, length, replicate, take, slice_index, slice_index_or, slice_set, All}
-use Rattle.std.specs.List.{fold, list_any, zip}
+-- The rows from which the spreads that a change reaches are formed again, one after the other.
+use Rattle.std.specs.Prelude.{ℕ, ◌≡◌, ◌+◌, ◌<◌, ◌≤◌, ◌*◌, ◌^◌, ◌==◌, ◌||◌, not, if◌then◌else◌, Bool, false, ℤ, pos, unsigned_abs, List, [], ◌∷◌, ◌++◌, ◌⊎◌, length, replicate, take, slice_index, slice_index_or, slice_set, All}
+use Rattle.std.specs.List.{fold, list_any, sum_by, zip}
+use Rattle.std.specs.Ordering.{int_eq}
 use Rattle.mgn_params.specs.declared.tables.CreditSpread.{CreditSpread}
 use Rattle.mgn_params.specs.declared.tables.Leg.{Leg}
 use Rattle.mgn_span.specs.Credits.{formed}
@@ -18,9 +19,39 @@ names g legs = list_any (λ leg. leg.commodity == g) legs
 abbrev pub leg_at : List Leg → ℕ → Leg
 leg_at legs k = slice_index_or legs k no_leg
 
--- a row in which each leg's commodity has the value at the leg's place
-abbrev pub written : {X : Type 0} → List X → List Leg → List X → List X
-written row legs values = fold (λ now p. slice_set now p.0.commodity p.1) row (zip legs values)
+-- whether one of the spreads at some places names a commodity
+abbrev pub named : ℕ → List CreditSpread → List ℕ → Bool
+named k spreads places = list_any (λ i. names k (legs_of (credit_spread_at spreads i))) places
+
+-- whether a rest has moved
+abbrev pub moved_at : List Bool → ℕ → Bool
+moved_at moved c = slice_index_or moved c false
+
+-- whether a leg is of a commodity, or of one whose rest has moved
+abbrev pub reached : List Bool → ℕ → List Leg → Bool
+reached moved g legs = list_any (λ leg. (leg.commodity == g) || moved_at moved leg.commodity) legs
+
+-- the rests once a leg's commodity has the one of its turn: its own if it has moved, else the one that is given
+abbrev pub bring : List Bool → List ℤ → Leg × ℤ → List ℤ
+bring moved rests p =
+    slice_set rests p.0.commodity (if moved_at moved p.0.commodity then value_at rests p.0.commodity else p.1)
+
+abbrev pub brought : List Bool → List ℤ → List Leg → List ℤ → List ℤ
+brought moved rests legs kept = fold (bring moved) rests (zip legs kept)
+
+-- the marks once a leg's commodity has one if its rest is not the one that is given
+abbrev pub mark : List ℤ → List Bool → Leg × ℤ → List Bool
+mark rests moved p = slice_set moved p.0.commodity (not (int_eq (value_at rests p.0.commodity) p.1))
+
+abbrev pub marked : List ℤ → List Bool → List Leg → List ℤ → List Bool
+marked rests moved legs after = fold (mark rests) moved (zip legs after)
+
+-- what the credits at the legs' places come to for a commodity
+abbrev pub leg_share : ℕ → Leg × ℕ → ℕ
+leg_share g p = if p.0.commodity == g then p.1 else 0
+
+abbrev pub share_of : ℕ → List Leg → List ℕ → ℕ
+share_of g legs credits = sum_by (leg_share g) (zip legs credits)
 
 -- one net delta and one doubled price risk for each commodity, within their sizes
 pub record AreNumbers (deltas : List ℤ) (risks : List ℕ) : Type 0 where
@@ -38,22 +69,37 @@ pub record IsCreditable (deltas : List ℤ) (risks : List ℕ) (amount : ℕ) (l
   pub product : amount * leg.ratio ≤ 256 * 10 ^ 16
   pub use_small : used amount leg.ratio ≤ 256 * 10 ^ 12
 
+-- no leg's rest is farther from 0 than its net delta
+abbrev pub AreNear : List ℤ → List ℤ → List Leg → Type 0
+AreNear deltas rests legs =
+    All (λ leg. unsigned_abs (value_at rests leg.commodity) ≤ unsigned_abs (value_at deltas leg.commodity)) legs
+
 -- the rests and credits after spreads, in file order
 abbrev pub state_of : List ℤ → List ℕ → List CreditSpread → List ℤ × List ℕ
 state_of deltas risks spreads = fold (formed deltas risks) (deltas, replicate (length deltas) 0) spreads
 
+-- the rests at the turn of the spread at a place
+abbrev pub rests_at : List ℤ → List ℕ → List CreditSpread → ℕ → List ℤ
+rests_at deltas risks spreads i = (state_of deltas risks (take i spreads)).0
+
 abbrev pub nothing_kept : Kept
-nothing_kept = record { rests = replicate 4 (pos 0); credits = replicate 4 0 }
+nothing_kept = record { rests = replicate 4 (pos 0); after = replicate 4 (pos 0); credits = replicate 4 0 }
 
 abbrev pub kept_at : List Kept → ℕ → Kept
 kept_at kept i = slice_index_or kept i nothing_kept
 
--- what is kept beside a spread: the rests and credits of its legs' commodities before it
-pub record IsKept (now : List ℤ × List ℕ) (legs : List Leg) (k : Kept) : Type 0 where
+-- what is kept beside a spread, for the rests at its turn: its legs' rests before it and after it, and their credits
+pub record IsKept (deltas : List ℤ) (risks : List ℕ) (rests : List ℤ) (s : CreditSpread) (k : Kept) : Type 0 where
   pub rests_long : length k.rests ≡ 4
+  pub after_long : length k.after ≡ 4
   pub credits_long : length k.credits ≡ 4
-  pub rests_are : (j : ℕ) → j < length legs → value_at k.rests j ≡ value_at now.0 (leg_at legs j).commodity
-  pub credits_are : (j : ℕ) → j < length legs → slice_index k.credits j ≡ slice_index now.1 (leg_at legs j).commodity
+  pub rests_are : (j : ℕ) → j < length (legs_of s) → value_at k.rests j ≡ value_at rests (leg_at (legs_of s) j).commodity
+  pub after_are : (x : List ℕ) (j : ℕ) → j < length (legs_of s) → value_at k.after j ≡ value_at (formed deltas risks (rests, x) s).0 (leg_at (legs_of s) j).commodity
+  pub credits_are : (x : List ℕ) (g : ℕ) → length x ≡ length deltas → slice_index (formed deltas risks (rests, x) s).1 g ≡ slice_index x g + share_of g (legs_of s) k.credits
+
+-- what the first spreads credit to a commodity by what is kept
+abbrev pub share_at : List CreditSpread → List Kept → ℕ → ℕ → ℕ
+share_at spreads kept g i = share_of g (legs_of (credit_spread_at spreads i)) (kept_at kept i).credits
 
 -- the net deltas and doubled price risks, and what is kept by them
 pub record Credited : Type 0 where
@@ -68,16 +114,10 @@ pub record Credited : Type 0 where
 abbrev pub MissesBelow : List CreditSpread → ℕ → ℕ → Type 0
 MissesBelow spreads n g = (i : ℕ) → i < n → i < length spreads → names g (legs_of (credit_spread_at spreads i)) ≡ false
 
--- the rows are those after the first `n` spreads
-pub record AreFormed (spreads : List CreditSpread) (n : ℕ) (r : Credited) : Type 0 where
-  pub numbers : AreNumbers r.deltas r.risks
-  pub fewer : n ≤ length spreads
-  pub state : (r.rests, r.credits) ≡ state_of r.deltas r.risks (take n spreads)
-  pub one_each : length spreads ≤ length r.kept
-  pub kept_are : (i : ℕ) → i < n → IsKept (state_of r.deltas r.risks (take i spreads)) (legs_of (credit_spread_at spreads i)) (kept_at r.kept i)
-  pub one_first_each : length r.firsts ≡ length r.deltas
-  pub firsts_are : (g : ℕ) → g < length r.deltas → MissesBelow spreads (slice_index r.firsts g) g
-
 -- the net deltas and the price risks are as they were
 abbrev pub KeepsNumbers : Credited → Credited → Type 0
 KeepsNumbers old new = (new.deltas ≡ old.deltas) × (new.risks ≡ old.risks)
+
+-- some places, or the same with one more
+abbrev pub IsNextOf : List ℕ → ℕ → List ℕ → Type 0
+IsNextOf old i new = (new ≡ old) ⊎ (new ≡ old ++ i ∷ [])

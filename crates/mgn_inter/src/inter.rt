@@ -1,15 +1,16 @@
-ghost use Rattle.std.specs.Prelude.{◌≡◌, ℕ, ◌+◌, ◌*◌, ◌^◌, ◌<◌, ◌≤◌, ◌≤ℤ◌, pos, unsigned_abs, length, replicate, slice_index, slice_set, IfOk, min};
-ghost use Rattle.mgn_inter.specs.Credited.{AreCreditsOf};
-ghost use Rattle.mgn_inter.specs.Rows.{AreFormed, KeepsNumbers, MissesBelow};
+ghost use Rattle.std.specs.Prelude.{◌≡◌, ℕ, ◌+◌, ◌*◌, ◌^◌, ◌<◌, ◌≤◌, ◌≤ℤ◌, true, false, pos, unsigned_abs, length, replicate, slice_index, slice_set, All, IfOk, min};
+ghost use Rattle.mgn_inter.specs.Credited.{AreCreditsOf, IsAtTurn};
+ghost use Rattle.mgn_inter.specs.Rows.{Credited, IsNextOf, KeepsNumbers, MissesBelow, named, names};
 ghost use Rattle.mgn_inter.specs.Sizes.{IsRisk};
 ghost use Rattle.mgn_span.specs.Credits.{credits_of};
-ghost use Rattle.mgn_params.specs.Tables.{Tables};
+ghost use Rattle.mgn_params.specs.Tables.{Tables, credit_spread_at, legs_of};
 ghost use Rattle.mgn_span.specs.Sizes.{IsDelta};
 
 use crate::firsts::{first_places, spread_at};
 use crate::kept::Kept;
 use crate::rest::Rest;
-use crate::rows::{filled, form_spread, keep_legs, restore_credits, restore_rests};
+use crate::reworked::Reworked;
+use crate::rows::{bring_rests, filled, form_spread, is_reached, mark_moved, move_credits};
 use mgn_num::{Cents, TenThousandths};
 use mgn_params::ParamSet;
 use std::alloc::{AllocError, Global};
@@ -49,17 +50,7 @@ impl InterCredits {
         ensures net_deltas { IfOk result (λ c. c.deltas ≡ replicate (length set.now.commodities) (pos 0)) }
         ensures price_risks { IfOk result (λ c. c.risks ≡ replicate (length set.now.commodities) 0) }
     {
-        let mut credits = InterCredits::unformed(alloc, set)?;
-        credits.form_from(set, 0);
-        Ok(credits)
-    }
-
-    // The rows before the first spread.
-    fn unformed(alloc: Global, set: &ParamSet) -> Result<InterCredits, AllocError>
-        ensures formed { IfOk result (AreFormed set.now.credits 0) }
-        ensures net_deltas { IfOk result (λ c. c.deltas ≡ replicate (length set.now.commodities) (pos 0)) }
-        ensures price_risks { IfOk result (λ c. c.risks ≡ replicate (length set.now.commodities) 0) }
-    {
+        set.limits();
         let count = set.commodity_count();
         Ok(InterCredits {
             deltas: filled(alloc, count, Rest::ZERO)?,
@@ -71,68 +62,7 @@ impl InterCredits {
         })
     }
 
-    // Forms the spread at a place of the rests that the earlier ones left.
-    fn form(&mut self, set: &ParamSet, i: usize)
-        requires one_each { length self.old.deltas ≡ length set.now.commodities }
-        requires inside { i < length set.now.credits }
-        requires formed { AreFormed set.now.credits i self.old }
-        ensures formed { AreFormed set.now.credits (i + 1) self.new }
-        ensures numbers { KeepsNumbers self.old self.new }
-    {
-        set.limits();
-        let spread = spread_at(set.credits(), i);
-        self.kept[i] = keep_legs(&self.rests, &self.credits, &spread.legs[..spread.count]);
-        form_spread(
-            &self.deltas,
-            &self.risks,
-            &mut self.rests,
-            &mut self.credits,
-            spread,
-        );
-    }
-
-    // Takes the last formed spread back.
-    fn undo(&mut self, set: &ParamSet, i: usize)
-        requires one_each { length self.old.deltas ≡ length set.now.commodities }
-        requires formed { AreFormed set.now.credits (i + 1) self.old }
-        ensures formed { AreFormed set.now.credits i self.new }
-        ensures numbers { KeepsNumbers self.old self.new }
-    {
-        set.limits();
-        let spread = spread_at(set.credits(), i);
-        let legs = &spread.legs[..spread.count];
-        let kept = self.kept[i];
-        restore_rests(&mut self.rests, legs, &kept.rests);
-        restore_credits(&mut self.credits, legs, &kept.credits);
-    }
-
-    // Takes back the spreads from a place on.
-    fn undo_to(&mut self, set: &ParamSet, place: usize)
-        requires of_set { AreCreditsOf set.now self.old }
-        requires place { place ≤ length set.now.credits }
-        ensures formed { AreFormed set.now.credits place self.new }
-        ensures numbers { KeepsNumbers self.old self.new }
-    {
-        for i in (place..set.credits().len()).rev() {
-            self.undo(set, i);
-        }
-    }
-
-    // Forms the spreads from a place on.
-    fn form_from(&mut self, set: &ParamSet, place: usize)
-        requires one_each { length self.old.deltas ≡ length set.now.commodities }
-        requires place { place ≤ length set.now.credits }
-        requires formed { AreFormed set.now.credits place self.old }
-        ensures of_set { AreCreditsOf set.now self.new }
-        ensures numbers { KeepsNumbers self.old self.new }
-    {
-        set.limits();
-        for i in place..set.credits().len() {
-            self.form(set, i);
-        }
-    }
-
-    // Writes the numbers of a commodity that no formed spread names.
+    // Writes the numbers of a commodity, and its net delta as its rest.
     fn write_numbers(&mut self, g: usize, delta: Rest, risk: u64)
         requires delta { g < length self.old.deltas }
         requires risk { g < length self.old.risks }
@@ -144,9 +74,79 @@ impl InterCredits {
         self.rests[g] = delta;
     }
 
-    /// The place of the first spread that names the commodity at a place, or the number of spreads where none does. A
-    /// change of the commodity's numbers reaches no spread before it.
-    pub fn first_with(&self, set: &ParamSet, g: usize) -> usize
+    // Forms the spread at a place again, of the rests at its turn.
+    fn rework(&mut self, set: &ParamSet, i: usize, moved: &mut [bool; 256])
+        requires inside { i < length set.now.credits }
+        requires turn { (g : ℕ) × (was : Credited) × IsAtTurn set.now g was moved.old i self.old }
+        ensures turn { (g : ℕ) (was : Credited) → IsAtTurn set.now g was moved.old i self.old →
+            IsAtTurn set.now g was moved.new (i + 1) self.new }
+        ensures numbers { KeepsNumbers self.old self.new }
+        ensures others { (k : ℕ) → names k (legs_of (credit_spread_at set.now.credits i)) ≡ false →
+            slice_index self.new.credits k ≡ slice_index self.old.credits k }
+    {
+        set.limits();
+        let spread = spread_at(set.credits(), i);
+        let legs = &spread.legs[..spread.count];
+        let old = self.kept[i];
+        bring_rests(moved, &mut self.rests, legs, &old.rests);
+        let new = form_spread(&self.deltas, &self.risks, &mut self.rests, spread);
+        move_credits(&mut self.credits, legs, &old.credits, &new.credits);
+        mark_moved(moved, &self.rests, legs, &old.after);
+        self.kept[i] = new;
+    }
+
+    // Forms the spread at a place again if the change reaches it.
+    fn turn(
+        &mut self,
+        set: &ParamSet,
+        g: usize,
+        i: usize,
+        moved: &mut [bool; 256],
+        reworked: &mut Reworked,
+    )
+        requires inside { i < length set.now.credits }
+        requires turn { (was : Credited) × IsAtTurn set.now g was moved.old i self.old }
+        requires room { length reworked.old ≤ i }
+        ensures turn { (was : Credited) → IsAtTurn set.now g was moved.old i self.old →
+            IsAtTurn set.now g was moved.new (i + 1) self.new }
+        ensures numbers { KeepsNumbers self.old self.new }
+        ensures places { IsNextOf reworked.old i reworked.new }
+        ensures others { (k : ℕ) → named k set.now.credits reworked.new ≡ false →
+            slice_index self.new.credits k ≡ slice_index self.old.credits k }
+    {
+        set.limits();
+        let spread = spread_at(set.credits(), i);
+        if is_reached(moved, g, &spread.legs[..spread.count]) {
+            self.rework(set, i, moved);
+            reworked.push(i as u8);
+        }
+    }
+
+    // Forms again the spreads that a change of a commodity reaches, none of which stands before a place.
+    fn rework_from(&mut self, set: &ParamSet, g: usize, place: usize) -> Reworked
+        requires commodity { g < length set.now.commodities }
+        requires misses { MissesBelow set.now.credits place g }
+        requires place { place ≤ length set.now.credits }
+        requires turn { (was : Credited) ×
+            IsAtTurn set.now g was (slice_set (replicate 256 false) g true) 0 self.old }
+        ensures of_set { AreCreditsOf set.now self.new }
+        ensures numbers { KeepsNumbers self.old self.new }
+        ensures places { All (λ i. i < length set.now.credits) result }
+        ensures others { (k : ℕ) → named k set.now.credits result ≡ false →
+            slice_index self.new.credits k ≡ slice_index self.old.credits k }
+    {
+        set.limits();
+        let mut moved = [false; 256];
+        moved[g] = true;
+        let mut reworked = Reworked::none();
+        for i in place..set.credits().len() {
+            self.turn(set, g, i, &mut moved, &mut reworked);
+        }
+        reworked
+    }
+
+    // The place of the first spread that names the commodity at a place, or the number of spreads where none does.
+    fn first_with(&self, set: &ParamSet, g: usize) -> usize
         requires of_set { AreCreditsOf set.now self.now }
         requires commodity { g < length set.now.commodities }
         ensures value { result ≡ min (slice_index self.now.firsts g) (length set.now.credits) }
@@ -156,16 +156,17 @@ impl InterCredits {
         usize::from(self.firsts[g]).min(set.credits().len())
     }
 
-    /// Gives the commodity at a place a net delta, in ten-thousandths, and twice a price risk, in cents. The spreads are
-    /// formed again from the first one that names it. The net delta is at most 2.56 * 10^14 in size, the doubled price
-    /// risk 0 to 1.1 * 10^18.
+    /// Gives the commodity at a place a net delta, in ten-thousandths, and twice a price risk, in cents. Only those
+    /// spreads are formed again that name it, or of which a leg's rest at its turn is not what it was; the answer has
+    /// their places, and a commodity that none of them names has the credit that it had. The net delta is at most
+    /// 2.56 * 10^14 in size, the doubled price risk 0 to 1.1 * 10^18.
     pub fn refresh(
         &mut self,
         set: &ParamSet,
         g: usize,
         net_delta: TenThousandths,
         price_risk2: Cents,
-    )
+    ) -> Reworked
         requires of_set { AreCreditsOf set.now self.old }
         requires commodity { g < length set.now.commodities }
         requires net_delta { IsDelta net_delta }
@@ -174,11 +175,14 @@ impl InterCredits {
         ensures net_deltas { self.new.deltas ≡ slice_set self.old.deltas g net_delta }
         ensures price_risks { self.new.risks ≡ slice_set self.old.risks g (unsigned_abs price_risk2) }
         ensures of_set { AreCreditsOf set.now self.new }
+        ensures places { All (λ i. i < length set.now.credits) result }
+        ensures others { (k : ℕ) → named k set.now.credits result ≡ false →
+            slice_index self.new.credits k ≡ slice_index self.old.credits k }
     {
+        set.limits();
         let place = self.first_with(set, g);
-        self.undo_to(set, place);
         self.write_numbers(g, Rest::new(net_delta), price_risk2.size() as u64);
-        self.form_from(set, place);
+        self.rework_from(set, g, place)
     }
 
     /// What the intercommodity spreads credit to the commodity at a place, in cents.

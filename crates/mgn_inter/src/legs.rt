@@ -2,9 +2,8 @@
 
 ghost use Rattle.std.specs.Prelude.{◌≡◌, ℕ, ◌+◌, ◌*◌, ◌<◌, ◌≤◌, ◌^◌, length, All, unsigned_abs, slice_index, IsTrue};
 ghost use Rattle.std.specs.List.{list_all};
-ghost use Rattle.mgn_inter.specs.Rows.{AreNumbers, IsCreditable};
-ghost use Rattle.mgn_span.specs.Words.{AreRests};
-ghost use Rattle.mgn_span.specs.Credits.{credits_after, fits, forms, is_long, leg_amount, leg_credit, rests_after, spread_amount};
+ghost use Rattle.mgn_inter.specs.Rows.{IsCreditable, leg_at};
+ghost use Rattle.mgn_span.specs.Credits.{fits, forms, is_long, leg_amount, leg_credit, rests_after, spread_amount};
 ghost use Rattle.mgn_span.specs.Scan.{value_at};
 ghost use Rattle.mgn_span.specs.Stages.{used};
 ghost use Rattle.mgn_span.specs.Sizes.{IsDelta};
@@ -17,8 +16,8 @@ const SHORT_PART: u64 = 10_000_000_000;
 
 const SHORT_RISK: u64 = 1_000_000_000;
 
-// The rest of a commodity.
-fn rest_at(rests: &[Rest], commodity: usize) -> Rest
+/// The rest of a commodity.
+pub(crate) fn rest_at(rests: &[Rest], commodity: usize) -> Rest
     requires { commodity < length rests.now }
     ensures { result ≡ value_at rests.now commodity }
 {
@@ -125,23 +124,24 @@ fn credit_of_leg(deltas: &[Rest], risks: &[u64], rate: &u64, amount: &u64, leg: 
     u128::from(part) * u128::from(risk) / (20000 * u128::from(delta))
 }
 
-/// Credits each leg of a formed spread.
-pub(crate) fn credit_legs(
+/// What each leg of a formed spread is credited.
+pub(crate) fn credits_of_legs(
     deltas: &[Rest],
     risks: &[u64],
     rate: &u64,
     amount: &u64,
-    credits: &mut [u128],
     legs: &[Leg],
-)
+) -> [u128; 4]
     requires legs { All (IsCreditable deltas.now risks.now amount.now) legs.now }
     requires few { length legs.now ≤ 4 }
     requires rate { rate.now ≤ 10000 }
-    requires one_each { length credits.old ≡ length deltas.now }
-    requires room { (g : ℕ) → slice_index credits.old g ≤ 10 ^ 36 }
-    ensures { credits.new ≡ credits_after deltas.now risks.now rate.now amount.now credits.old legs.now }
+    ensures long { length result ≡ 4 }
+    ensures credits { (j : ℕ) → j < length legs.now →
+        slice_index result j ≡ leg_credit deltas.now risks.now rate.now amount.now (leg_at legs.now j) }
 {
-    for leg in legs {
-        credits[leg.commodity] += credit_of_leg(deltas, risks, rate, amount, leg);
+    let mut credits = [0; 4];
+    for k in 0..legs.len() {
+        credits[k] = credit_of_leg(deltas, risks, rate, amount, &legs[k]);
     }
+    credits
 }

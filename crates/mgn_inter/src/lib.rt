@@ -6,6 +6,8 @@ mod inter;
 mod kept;
 mod legs;
 mod rest;
+mod reworked;
 mod rows;
 
 pub use inter::InterCredits;
+pub use reworked::Reworked;

@@ -1,4 +1,5 @@
-ghost use Rattle.std.specs.Prelude.{◌≡◌, ◌≤◌, ◌*◌, ◌^◌, ◌<ℤ◌, pos, unsigned_abs, IsTrue, ◌↔◌};
+ghost use Rattle.std.specs.Prelude.{◌≡◌, ◌≤◌, ◌*◌, ◌^◌, ◌<ℤ◌, pos, unsigned_abs, IsTrue, not, ◌↔◌};
+ghost use Rattle.std.specs.Ordering.{int_eq};
 
 use mgn_num::TenThousandths;
 use std::marker::Model;
@@ -56,6 +57,12 @@ impl Rest {
             self.parts - by
         };
         Rest { parts }
+    }
+
+    pub fn differs(self, other: Rest) -> bool
+        ensures { result ≡ not (int_eq self other) }
+    {
+        self.parts != other.parts
     }
 
     pub fn is_positive(self) -> bool

@@ -1,17 +1,35 @@
-use Rattle.std.proofs.Common.{◌≡◌, ◌∙◌, length, refl, sym, true}
-use Rattle.mgn_span.specs.Credits.{forms}
+use Rattle.std.proofs.Common.{◌≡◌, ◌<◌, ◌≤◌, ◌∙◌, ℕ, ℤ, List, All, ap, arith, false, length, length-take, refl, sym, true}
+use Rattle.mgn_span.specs.Credits.{forms, rests_after}
+use Rattle.mgn_span.specs.Scan.{value_at}
 use Rattle.mgn_params.specs.Tables.{legs_of}
-use Rattle.mgn_inter.proofs.SpreadLemmas.{legs_creditable}
+use Rattle.mgn_inter.specs.Rows.{leg_at}
+use Rattle.mgn_inter.proofs.SpreadLemmas.{kept_no, kept_yes, legs_creditable}
 use Rattle.mgn_inter.proofs.rows.form_spread.Goals as goal
 
-pub credit_legs-requires-clause-legs : goal.credit_legs-requires-clause-legs
-credit_legs-requires-clause-legs c =
-    let yes : forms c.args.rests.now (legs_of c.args.spread.now) ≡ true = sym c.spread_forms.ensures ∙ c.if-spread_forms.true in
-    rw c.amount_of_legs-amount.ensures (legs_creditable c.args.deltas.now c.args.rests.now c.args.risks.now (length c.args.deltas.now) c.args.spread.now c.requires.numbers c.requires.rests refl c.requires.spread yes)
+pub credits_of_legs-credits-requires-clause-legs : goal.credits_of_legs-credits-requires-clause-legs
+credits_of_legs-credits-requires-clause-legs c =
+    let yes : forms c.args.rests.now (legs_of c.args.spread.now) ≡ true = sym c.spread_forms.ensures ∙ c.if-not-spread_forms.false in
+    rw c.amount_of_legs-amount.ensures (legs_creditable c.args.deltas.now c.args.rests.now c.args.risks.now (length c.args.deltas.now) c.args.spread.now c.requires.numbers c.requires.near refl c.requires.spread yes)
 
 pub use_rests-requires-clause-products : goal.use_rests-requires-clause-products
 use_rests-requires-clause-products c =
     λ k d inside.
-    let yes : forms c.args.rests.now (legs_of c.args.spread.now) ≡ true = sym c.spread_forms.ensures ∙ c.if-spread_forms.true in
-    let own = legs_creditable c.args.deltas.now c.args.rests.now c.args.risks.now (length c.args.deltas.now) c.args.spread.now c.requires.numbers c.requires.rests refl c.requires.spread yes k d inside in
+    let yes : forms c.args.rests.now (legs_of c.args.spread.now) ≡ true = sym c.spread_forms.ensures ∙ c.if-not-spread_forms.false in
+    let own = legs_creditable c.args.deltas.now c.args.rests.now c.args.risks.now (length c.args.deltas.now) c.args.spread.now c.requires.numbers c.requires.near refl c.requires.spread yes k d inside in
     rw c.amount_of_legs-amount.ensures own.product
+
+pub returns-then-not-spread_forms-clause-kept : goal.returns-then-not-spread_forms-clause-kept
+returns-then-not-spread_forms-clause-kept c =
+    let no : forms c.args.rests.now (legs_of c.args.spread.now) ≡ false = sym c.spread_forms.ensures ∙ c.if-not-spread_forms.true in
+    kept_no c.args.deltas.now c.args.risks.now c.args.rests.now c.args.spread.now _ no c.rests_of-before.ensures.long c.rests_of-before.ensures.rests refl refl
+
+pub returns-clause-kept : goal.returns-clause-kept
+returns-clause-kept c =
+    let s = c.args.spread.now in
+    let legs = legs_of s in
+    let rests = c.args.rests.now in
+    let yes : forms rests legs ≡ true = sym c.spread_forms.ensures ∙ c.if-not-spread_forms.false in
+    let few : length legs ≤ 4 = omega (arith, length-take s.count s.legs, c.requires.spread.few) in
+    let there : All (λ leg. leg.commodity < length c.args.deltas.now) legs = λ k d inside. (c.requires.spread.legs k d inside).commodity in
+    let used = c.use_rests.ensures ∙ ap (λ (n : ℕ). rests_after rests n legs) c.amount_of_legs-amount.ensures in
+    kept_yes c.args.deltas.now c.args.risks.now rests s _ there few yes c.rests_of-before.ensures.long c.rests_of.ensures.long c.credits_of_legs-credits.ensures.long c.rests_of-before.ensures.rests (λ j h. c.rests_of.ensures.rests j h ∙ ap (λ (row : List ℤ). value_at row (leg_at legs j).commodity) used) (rw c.amount_of_legs-amount.ensures at c.credits_of_legs-credits.ensures.credits)

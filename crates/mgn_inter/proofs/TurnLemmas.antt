@@ -1,0 +1,352 @@
+-- One spread after the other while the numbers of one commodity change: those that are passed over, and those that are
+-- formed again.
+use Rattle.std.proofs.Common.{◌≡◌, ◌≢◌, ℕ, zero, suc, ◌+◌, ◌*◌, ◌<◌, ◌≤◌, ◌^◌, Bool, true, false, List, length, take, get_or, slice_index, slice_set, replicate, pos, ℤ, ap, ◌∙◌, sym, arith, refl, add-one, ⊎_elim, All, length-set, length-take, get_or-set_same, get_or-set_other, eq-eqb, ne_eqb, take_all}
+use Rattle.std.specs.Prelude.{◌==◌, ◌||◌, if◌then◌else◌}
+use Rattle.std.proofs.lemmas.Bool.{cases_Bool, cases_eq, cases_lt, or_parts, true≢false}
+use Rattle.std.proofs.lemmas.List.{ext_get_or, get_or-replicate, get_or_past, length-replicate}
+use Rattle.std.proofs.lemmas.List.Elements.{All-replicate, All-set}
+use Rattle.std.proofs.lemmas.Int.{ints}
+use Rattle.std.proofs.lemmas.List.Folds.{list_any_at, list_any_none}
+use Rattle.mgn_params.specs.declared.tables.CreditSpread.{CreditSpread}
+use Rattle.mgn_params.specs.declared.tables.Leg.{Leg}
+use Rattle.mgn_params.specs.Limits.{IsWithinLimits}
+use Rattle.mgn_params.specs.Tables.{Tables, credit_spread_at, legs_of, no_credit_spread, no_leg}
+use Rattle.mgn_span.specs.Credits.{credits_of, formed}
+use Rattle.mgn_span.specs.Scan.{value_at}
+use Rattle.mgn_span.specs.Sizes.{IsDelta}
+use Rattle.mgn_inter.specs.declared.kept.Kept.{Kept}
+use Rattle.mgn_inter.specs.Sizes.{IsRisk}
+use Rattle.mgn_inter.specs.Credited.{AreCreditsOf, IsAtTurn}
+use Rattle.mgn_inter.specs.Rows.{AreNear, brought, Credited, IsKept, kept_at, leg_at, marked, MissesBelow, moved_at, names, nothing_kept, reached, rests_at, share_at, share_of, state_of}
+use Rattle.mgn_inter.specs.Shares.{shares}
+use Rattle.mgn_inter.proofs.LegLemmas.{Agree, AgreeOn, brought_is, length-brought, length-marked, marked_is, marked_out, named_all, share_out}
+use Rattle.mgn_inter.proofs.SpreadLemmas.{formed_long, formed_out, formed_same, kept_same, kept_small}
+use Rattle.mgn_inter.proofs.StateLemmas.{kept_none, kept_other, kept_own, none_at, shares_are, shares_one, shares_set, shares_small, state_long, state_near, state_none, state_suc}
+
+-- A choice by a Bool of which the cases are known.
+choose : {X : Type 0} (m : Bool) (x y z : X) → (m ≡ true → x ≡ y) → (m ≡ false → x ≡ z) → x ≡ (if m then y else z)
+choose true x y z first second = first refl
+choose false x y z first second = second refl
+
+chosen : {X : Type 0} (m : Bool) (x y z : X) → x ≡ (if m then y else z) → m ≡ true → x ≡ y
+chosen true x y z h is = h
+chosen false x y z h is = absurd (true≢false (sym is))
+
+unchosen : {X : Type 0} (m : Bool) (x y z : X) → x ≡ (if m then y else z) → m ≡ false → x ≡ z
+unchosen true x y z h is = absurd (true≢false is)
+unchosen false x y z h is = h
+
+no_by : (b : Bool) → (b ≡ true → ⊥) → b ≡ false
+no_by true h = absurd (h refl)
+no_by false h = refl
+
+-- the legs of a spread that is not reached
+unreached_at : (moved : List Bool) (g : ℕ) (legs : List Leg) (j : ℕ) → reached moved g legs ≡ false → j < length legs → ((leg_at legs j).commodity ≢ g) × (moved_at moved (leg_at legs j).commodity ≡ false)
+unreached_at moved g legs j h inside =
+    let c = (leg_at legs j).commodity in
+    let none : ((c == g) || moved_at moved c) ≡ false = no_by ((c == g) || moved_at moved c) (λ yes. true≢false (sym (list_any_at (λ (leg : Leg). (leg.commodity == g) || moved_at moved leg.commodity) legs j no_leg inside yes) ∙ h)) in
+    let parts = or_parts (c == g) (moved_at moved c) none in
+    (λ e. true≢false (sym (eq-eqb c g e) ∙ parts.0), parts.1)
+
+-- the rests at the next turn
+rests_suc : (deltas : List ℤ) (risks : List ℕ) (spreads : List CreditSpread) (i : ℕ) → i < length spreads → rests_at deltas risks spreads (i + 1) ≡ (formed deltas risks (state_of deltas risks (take i spreads)) (credit_spread_at spreads i)).0
+rests_suc deltas risks spreads i h =
+    rw add-one (ap (λ (p : List ℤ × List ℕ). p.0) (state_suc deltas risks spreads i h))
+
+rests_long : (deltas : List ℤ) (risks : List ℕ) (spreads : List CreditSpread) (i count : ℕ) → i ≤ length spreads → length deltas ≡ count → length (rests_at deltas risks spreads i) ≡ count
+rests_long deltas risks spreads i count h each = (state_long deltas risks spreads i h).0 ∙ each
+
+-- a spread that is not reached is passed over
+pub turn_passed : (set : Tables) (g : ℕ) (was : Credited) (moved : List Bool) (i : ℕ) (c : Credited) → IsAtTurn set g was moved i c → i < length set.credits → reached moved g (legs_of (credit_spread_at set.credits i)) ≡ false → IsAtTurn set g was moved (i + 1) c
+turn_passed set g was moved i c at h none =
+    let spreads = set.credits in
+    let s = credit_spread_at spreads i in
+    let legs = legs_of s in
+    let count = length set.commodities in
+    let now = state_of c.deltas c.risks (take i spreads) in
+    let before = state_of was.deltas was.risks (take i spreads) in
+    let long : length now.0 ≡ length before.0 = rests_long c.deltas c.risks spreads i count at.fewer at.one_each ∙ sym (rests_long was.deltas was.risks spreads i count at.fewer at.one_was_each) in
+    let same : Agree now.0 before.0 legs = λ j low. (let k = (leg_at legs j).commodity in unchosen (moved_at moved k) (value_at now.0 k) (value_at c.rests k) (value_at before.0 k) (at.rests k) (unreached_at moved g legs j none low).1) in
+    let deltas : Agree c.deltas was.deltas legs = λ j low. at.deltas (leg_at legs j).commodity (unreached_at moved g legs j none low).0 in
+    let risks : AgreeOn c.risks was.risks legs = λ j low. at.risks (leg_at legs j).commodity (unreached_at moved g legs j none low).0 in
+    let next = rests_suc c.deltas c.risks spreads i h in
+    let was_next = rests_suc was.deltas was.risks spreads i h in
+    record {
+      fewer = omega arith;
+      one_each = at.one_each;
+      one_was_each = at.one_was_each;
+      numbers = at.numbers;
+      were = at.were;
+      deltas = at.deltas;
+      risks = at.risks;
+      one_rest_each = at.one_rest_each;
+      one_mark_each = at.one_mark_each;
+      rests = λ k.
+          rw (next, was_next) (
+          ⊎_elim
+          (λ (named : names k legs ≡ true).
+          let no = named_all (λ (n : ℕ). moved_at moved n ≡ false) k legs (λ j low. (unreached_at moved g legs j none low).1) named in
+          let here = unchosen (moved_at moved k) (value_at now.0 k) (value_at c.rests k) (value_at before.0 k) (at.rests k) no in
+          rw no (formed_same c.deltas was.deltas c.risks was.risks now.0 before.0 now.1 before.1 s k long same here))
+          (λ (out : names k legs ≡ false).
+          rw ((formed_out c.deltas c.risks now s k out).0, (formed_out was.deltas was.risks before s k out).0) (at.rests k))
+          (cases_Bool (names k legs)));
+      one_credit_each = at.one_credit_each;
+      credits = at.credits;
+      one_kept_each = at.one_kept_each;
+      done = λ j low.
+          ⊎_elim
+          (λ (here : j ≡ i).
+          rw here (kept_same c.deltas was.deltas c.risks was.risks now.0 before.0 s (kept_at c.kept i) (at.one_each ∙ sym at.one_was_each) long same deltas risks (at.left i (omega arith) h)))
+          (λ (other : j ≢ i). at.done j (omega arith))
+          (cases_eq j i);
+      left = λ j low inside. at.left j (omega arith) inside;
+      one_first_each = at.one_first_each;
+      firsts = at.firsts;
+    }
+
+-- the rests that are brought are those of the turn, for the legs and for what has moved
+turn_brought : (set : Tables) (g : ℕ) (was : Credited) (moved : List Bool) (i : ℕ) (c : Credited) (k : ℕ) → IsWithinLimits set → IsAtTurn set g was moved i c → i < length set.credits → (names k (legs_of (credit_spread_at set.credits i)) ≡ false → moved_at moved k ≡ true) → value_at (brought moved c.rests (legs_of (credit_spread_at set.credits i)) (kept_at c.kept i).rests) k ≡ value_at (rests_at c.deltas c.risks set.credits i) k
+turn_brought set g was moved i c k limits at h out =
+    let spreads = set.credits in
+    let s = credit_spread_at spreads i in
+    let legs = legs_of s in
+    let limit = limits.credits i no_credit_spread h in
+    let now = rests_at c.deltas c.risks spreads i in
+    let before = rests_at was.deltas was.risks spreads i in
+    let own = at.left i (omega arith) h in
+    let few : length legs ≤ 4 = omega (arith, length-take s.count s.legs, limit.few) in
+    let held = λ (n : ℕ) (yes : moved_at moved n ≡ true). sym (chosen (moved_at moved n) (value_at now n) (value_at c.rests n) (value_at before n) (at.rests n) yes) in
+    brought_is moved c.rests legs (kept_at c.kept i).rests (λ n. value_at now n) k (omega (arith, few, own.rests_long)) (λ j d low. omega (arith, (limit.legs j d low).commodity, at.one_each, at.one_rest_each)) held (λ j low no.
+    let n = (leg_at legs j).commodity in
+    own.rests_are j low ∙ sym (unchosen (moved_at moved n) (value_at now n) (value_at c.rests n) (value_at before n) (at.rests n) no)) (λ none. held k (out none))
+
+-- a commodity that a leg names is named
+names_not : (k : ℕ) (legs : List Leg) (j : ℕ) → j < length legs → (leg_at legs j).commodity ≡ k → names k legs ≡ false → ⊥
+names_not k legs j low e out =
+    true≢false (sym (list_any_at (λ (leg : Leg). leg.commodity == k) legs j no_leg low (eq-eqb (leg_at legs j).commodity k e)) ∙ out)
+
+turn_agrees : (set : Tables) (g : ℕ) (was : Credited) (moved : List Bool) (i : ℕ) (c : Credited) → IsWithinLimits set → IsAtTurn set g was moved i c → i < length set.credits → Agree (brought moved c.rests (legs_of (credit_spread_at set.credits i)) (kept_at c.kept i).rests) (rests_at c.deltas c.risks set.credits i) (legs_of (credit_spread_at set.credits i))
+turn_agrees set g was moved i c limits at h j low =
+    let legs = legs_of (credit_spread_at set.credits i) in
+    let k = (leg_at legs j).commodity in
+    turn_brought set g was moved i c k limits at h (λ out. absurd (names_not k legs j low refl out))
+
+-- no rest that is brought for a leg is farther from 0 than its net delta
+pub turn_near : (set : Tables) (g : ℕ) (was : Credited) (moved : List Bool) (i : ℕ) (c : Credited) → IsWithinLimits set → IsAtTurn set g was moved i c → i < length set.credits → AreNear c.deltas (brought moved c.rests (legs_of (credit_spread_at set.credits i)) (kept_at c.kept i).rests) (legs_of (credit_spread_at set.credits i))
+turn_near set g was moved i c limits at h j d low =
+    let legs = legs_of (credit_spread_at set.credits i) in
+    let leg : Leg = get_or legs j d in
+    let same = turn_brought set g was moved i c leg.commodity limits at h (λ out. absurd (true≢false (sym (list_any_at (λ (l : Leg). l.commodity == leg.commodity) legs j d low (eq-eqb leg.commodity leg.commodity refl)) ∙ out))) in
+    rw same ((state_near c.deltas c.risks set.credits i at.fewer).near leg.commodity)
+
+-- what is kept of each spread credits a commodity at most as much
+pub turn_small : (set : Tables) (g : ℕ) (was : Credited) (moved : List Bool) (i : ℕ) (c : Credited) (k j : ℕ) → IsWithinLimits set → IsAtTurn set g was moved i c → j < length set.credits → share_at set.credits c.kept k j ≤ 4 * 10 ^ 33
+turn_small set g was moved i c k j limits at h =
+    let s = credit_spread_at set.credits j in
+    let limit = limits.credits j no_credit_spread h in
+    ⊎_elim
+    (λ (low : j < i).
+    kept_small c.deltas c.risks (rests_at c.deltas c.risks set.credits j) s (kept_at c.kept j) (length set.commodities) k at.numbers (state_near c.deltas c.risks set.credits j (omega arith)) (sym at.one_each) limit (at.done j low))
+    (λ (high : i ≤ j).
+    kept_small was.deltas was.risks (rests_at was.deltas was.risks set.credits j) s (kept_at c.kept j) (length set.commodities) k at.were (state_near was.deltas was.risks set.credits j (omega arith)) (sym at.one_was_each) limit (at.left j high h))
+    (cases_lt j i)
+
+pub turn_room : (set : Tables) (g : ℕ) (was : Credited) (moved : List Bool) (i : ℕ) (c : Credited) (k : ℕ) → IsWithinLimits set → IsAtTurn set g was moved i c → slice_index c.credits k ≤ 256 * 10 ^ 33
+turn_room set g was moved i c k limits at =
+    let small = shares_small set.credits c.kept k (4 * 10 ^ 33) (length set.credits) (λ j h. turn_small set g was moved i c k j limits at h) in
+    omega (arith, small, at.credits k, limits.few_credits)
+
+pub turn_covers : (set : Tables) (g : ℕ) (was : Credited) (moved : List Bool) (i : ℕ) (c : Credited) (k : ℕ) → IsAtTurn set g was moved i c → i < length set.credits → share_of k (legs_of (credit_spread_at set.credits i)) (kept_at c.kept i).credits ≤ slice_index c.credits k
+turn_covers set g was moved i c k at h =
+    omega (arith, at.credits k, shares_one set.credits c.kept k (length set.credits) i h)
+
+-- what is kept of the spread once it is formed of the rests that are brought
+pub turn_kept : (set : Tables) (g : ℕ) (was : Credited) (moved : List Bool) (i : ℕ) (c : Credited) (own : Kept) → IsWithinLimits set → IsAtTurn set g was moved i c → i < length set.credits → IsKept c.deltas c.risks (brought moved c.rests (legs_of (credit_spread_at set.credits i)) (kept_at c.kept i).rests) (credit_spread_at set.credits i) own → IsKept c.deltas c.risks (rests_at c.deltas c.risks set.credits i) (credit_spread_at set.credits i) own
+turn_kept set g was moved i c own limits at h is =
+    let spreads = set.credits in
+    let s = credit_spread_at spreads i in
+    let legs = legs_of s in
+    let row = brought moved c.rests legs (kept_at c.kept i).rests in
+    let now = rests_at c.deltas c.risks spreads i in
+    let agrees = turn_agrees set g was moved i c limits at h in
+    let long : length now ≡ length row = rests_long c.deltas c.risks spreads i (length set.commodities) at.fewer at.one_each ∙ sym (length-brought moved c.rests legs (kept_at c.kept i).rests ∙ at.one_rest_each ∙ at.one_each) in
+    kept_same c.deltas c.deltas c.risks c.risks now row s own refl long (λ j low. sym (agrees j low)) (λ j low. refl) (λ j low. refl) is
+
+pub turn_own_small : (set : Tables) (g : ℕ) (was : Credited) (moved : List Bool) (i : ℕ) (c : Credited) (own : Kept) (k : ℕ) → IsWithinLimits set → IsAtTurn set g was moved i c → i < length set.credits → IsKept c.deltas c.risks (brought moved c.rests (legs_of (credit_spread_at set.credits i)) (kept_at c.kept i).rests) (credit_spread_at set.credits i) own → share_of k (legs_of (credit_spread_at set.credits i)) own.credits ≤ 4 * 10 ^ 33
+turn_own_small set g was moved i c own k limits at h is =
+    kept_small c.deltas c.risks (rests_at c.deltas c.risks set.credits i) (credit_spread_at set.credits i) own (length set.commodities) k at.numbers (state_near c.deltas c.risks set.credits i at.fewer) (sym at.one_each) (limits.credits i no_credit_spread h) (turn_kept set g was moved i c own limits at h is)
+
+-- a spread that is reached is formed again
+pub turn_reworked : (set : Tables) (g : ℕ) (was : Credited) (moved marks : List Bool) (i : ℕ) (c : Credited) (rests : List ℤ) (credits : List ℕ) (own : Kept) → IsWithinLimits set → IsAtTurn set g was moved i c → i < length set.credits → let s = credit_spread_at set.credits i in let legs = legs_of s in let old = kept_at c.kept i in let row = brought moved c.rests legs old.rests in ((x : List ℕ) → rests ≡ (formed c.deltas c.risks (row, x) s).0) → IsKept c.deltas c.risks row s own → length credits ≡ length c.credits → ((k : ℕ) → slice_index credits k + share_of k legs old.credits ≡ slice_index c.credits k + share_of k legs own.credits) → marks ≡ marked rests moved legs old.after → IsAtTurn set g was marks (i + 1) (record c { rests = rests; credits = credits; kept = slice_set c.kept i own })
+turn_reworked set g was moved marks i c rests credits own limits at h rests_are is long credits_are marks_are =
+    let spreads = set.credits in
+    let s = credit_spread_at spreads i in
+    let legs = legs_of s in
+    let limit = limits.credits i no_credit_spread h in
+    let old = kept_at c.kept i in
+    let row = brought moved c.rests legs old.rests in
+    let now = state_of c.deltas c.risks (take i spreads) in
+    let before = state_of was.deltas was.risks (take i spreads) in
+    let left = at.left i (omega arith) h in
+    let row_long : length row ≡ length c.deltas = length-brought moved c.rests legs old.rests ∙ at.one_rest_each in
+    let same_long : length row ≡ length now.0 = row_long ∙ sym (state_long c.deltas c.risks spreads i at.fewer).0 in
+    let agrees = turn_agrees set g was moved i c limits at h in
+    let next = rests_suc c.deltas c.risks spreads i h in
+    let was_next = rests_suc was.deltas was.risks spreads i h in
+    let few : length legs ≤ 4 = omega (arith, length-take s.count s.legs, limit.few) in
+    let low_marks : All (λ leg. leg.commodity < length moved) legs = λ j d low. (let there = (limit.legs j d low).commodity in omega (arith, there, at.one_mark_each)) in
+    let here = λ (k : ℕ) (e : value_at row k ≡ value_at now.0 k). (ap (λ (r : List ℤ). value_at r k) (rests_are now.1) ∙ formed_same c.deltas c.deltas c.risks c.risks row now.0 now.1 now.1 s k same_long agrees e) in
+    let low_kept : i < length c.kept = omega (arith, h, at.one_kept_each) in
+    record {
+      fewer = omega arith;
+      one_each = at.one_each;
+      one_was_each = at.one_was_each;
+      numbers = at.numbers;
+      were = at.were;
+      deltas = at.deltas;
+      risks = at.risks;
+      one_rest_each = ap (λ (r : List ℤ). length r) (rests_are now.1) ∙ (formed_long c.deltas c.risks (row, now.1) s).0 ∙ row_long;
+      one_mark_each = rw marks_are (omega (arith, at.one_mark_each, length-marked rests moved legs old.after));
+      rests = λ k.
+          rw (next, was_next, marks_are) (
+          ⊎_elim
+          (λ (named : names k legs ≡ true).
+          let own_row = named_all (λ (n : ℕ). value_at row n ≡ value_at now.0 n) k legs agrees named in
+          choose (moved_at (marked rests moved legs old.after) k) (value_at (formed c.deltas c.risks now s).0 k) (value_at rests k) (value_at (formed was.deltas was.risks before s).0 k) (λ yes. sym (here k own_row)) (λ no. marked_is rests moved legs old.after (λ n. value_at (formed c.deltas c.risks now s).0 n) (λ n. value_at (formed was.deltas was.risks before s).0 n) k (omega (arith, few, left.after_long)) low_marks (λ j low. here (leg_at legs j).commodity (agrees j low)) (λ j low. left.after_are before.1 j low) (λ unmoved out. absurd (true≢false (sym named ∙ out))) no))
+          (λ (out : names k legs ≡ false).
+          rw (marked_out rests moved legs old.after k out, (formed_out was.deltas was.risks before s k out).0) (choose (moved_at moved k) (value_at (formed c.deltas c.risks now s).0 k) (value_at rests k) (value_at before.0 k) (λ yes. sym (here k (turn_brought set g was moved i c k limits at h (λ e. yes)))) (λ no. (formed_out c.deltas c.risks now s k out).0 ∙ unchosen (moved_at moved k) (value_at now.0 k) (value_at c.rests k) (value_at before.0 k) (at.rests k) no)))
+          (cases_Bool (names k legs)));
+      one_credit_each = long ∙ at.one_credit_each;
+      credits = λ k.
+          omega (arith, credits_are k, at.credits k, shares_set spreads c.kept k i (length spreads) own h low_kept);
+      one_kept_each = omega (arith, at.one_kept_each, length-set c.kept i own);
+      done = λ j low.
+          ⊎_elim
+          (λ (mine : j ≡ i).
+          rw (mine, kept_own c.kept i own low_kept) (turn_kept set g was moved i c own limits at h is))
+          (λ (other : j ≢ i). rw (kept_other c.kept i j own other) (at.done j (omega arith)))
+          (cases_eq j i);
+      left = λ j low inside.
+          rw (kept_other c.kept i j own (λ e. omega (arith, e, low))) (at.left j (omega arith) inside);
+      one_first_each = at.one_first_each;
+      firsts = at.firsts;
+    }
+
+-- its credits of the commodities that the spread does not name are as they were
+pub turn_others : (legs : List Leg) (old own credits was : List ℕ) (k : ℕ) → slice_index credits k + share_of k legs old ≡ slice_index was k + share_of k legs own → names k legs ≡ false → slice_index credits k ≡ slice_index was k
+turn_others legs old own credits was k sum out = omega (arith, sum, share_out k legs old out, share_out k legs own out)
+
+-- the credits of the definition are those of all spreads
+all_spreads : (deltas : List ℤ) (risks : List ℕ) (spreads : List CreditSpread) → (state_of deltas risks (take (length spreads) spreads)).1 ≡ credits_of deltas risks spreads
+all_spreads deltas risks spreads =
+    ap (λ (ss : List CreditSpread). (state_of deltas risks ss).1) (take_all (length spreads) spreads (omega arith))
+
+pub credits_long : (set : Tables) (c : Credited) → AreCreditsOf set c → length c.credits ≡ length c.deltas
+credits_long set c are =
+    ap (λ (row : List ℕ). length row) (are.credits ∙ sym (all_spreads c.deltas c.risks set.credits)) ∙ (state_long c.deltas c.risks set.credits (length set.credits) (omega arith)).1
+
+credit_shares : (set : Tables) (c : Credited) (k : ℕ) → AreCreditsOf set c → slice_index c.credits k ≡ shares set.credits c.kept k (length set.credits)
+credit_shares set c k are =
+    ap (λ (row : List ℕ). slice_index row k) (are.credits ∙ sym (all_spreads c.deltas c.risks set.credits)) ∙ shares_are c.deltas c.risks set.credits c.kept k (length set.credits) (omega arith) are.kept
+
+-- Before the first spread: only the commodity's rest has moved.
+mark_other : (g k : ℕ) → k ≢ g → moved_at (slice_set (replicate 256 false) g true) k ≡ false
+mark_other g k other =
+    get_or-set_other (replicate 256 false) g k true false other
+    ∙ ⊎_elim
+    (λ (inside : k < 256). get_or-replicate {A = Bool} 256 k false false inside)
+    (λ (past : 256 ≤ k). get_or_past {X = Bool} (replicate {A = Bool} 256 false) k false (omega (arith, length-replicate {A = Bool} 256 false)))
+    (cases_lt k 256)
+
+pub turn_first : (set : Tables) (g : ℕ) (was : Credited) (d : ℤ) (x : ℕ) → IsWithinLimits set → AreCreditsOf set was → g < length set.commodities → IsDelta d → IsRisk x → IsAtTurn set g was (slice_set (replicate 256 false) g true) 0 (record was { deltas = slice_set was.deltas g d; risks = slice_set was.risks g x; rests = slice_set was.rests g d })
+turn_first set g was d x limits are low small risk = record {
+  fewer = omega arith;
+  one_each = length-set was.deltas g d ∙ are.one_each;
+  one_was_each = are.one_each;
+  numbers = record {
+    one_each = length-set was.risks g x ∙ are.numbers.one_each ∙ sym (length-set was.deltas g d);
+    small_deltas = All-set IsDelta was.deltas g d small are.numbers.small_deltas;
+    small_risks = λ k.
+        ⊎_elim
+        (λ (here : k ≡ g).
+        rw (here, get_or-set_same was.risks g x 0 (omega (arith, are.numbers.one_each, are.one_each, low))) risk)
+        (λ (other : k ≢ g). rw (get_or-set_other was.risks g k x 0 other) (are.numbers.small_risks k))
+        (cases_eq k g);
+  };
+  were = are.numbers;
+  deltas = λ k other. get_or-set_other was.deltas g k d (pos 0) other;
+  risks = λ k other. get_or-set_other was.risks g k x 0 other;
+  one_rest_each = length-set was.rests g d ∙ are.one_rest_each ∙ sym (length-set was.deltas g d);
+  one_mark_each = omega (arith, limits.few_commodities, length-set (replicate 256 false) g true, length-replicate {A = Bool} 256 false);
+  rests = λ k.
+      ⊎_elim
+      (λ (here : k ≡ g).
+      rw (here, get_or-set_same (replicate 256 false) g true false (omega (arith, low, limits.few_commodities, length-replicate {A = Bool} 256 false))) (get_or-set_same was.deltas g d (pos 0) (omega (arith, low, are.one_each)) ∙ sym (get_or-set_same was.rests g d (pos 0) (omega (arith, low, are.one_each, are.one_rest_each)))))
+      (λ (other : k ≢ g).
+      rw (mark_other g k other) (get_or-set_other was.deltas g k d (pos 0) other))
+      (cases_eq k g);
+  one_credit_each = credits_long set was are ∙ sym (length-set was.deltas g d);
+  credits = λ k. credit_shares set was k are;
+  one_kept_each = are.one_kept_each;
+  done = λ j h. absurd (omega arith);
+  left = λ j h inside. are.kept j inside;
+  one_first_each = are.one_first_each ∙ sym (length-set was.deltas g d);
+  firsts = λ k h. are.firsts k (omega (arith, h, length-set was.deltas g d));
+}
+
+-- the spreads before the first that names the commodity are passed over
+unreached_first : (g : ℕ) (legs : List Leg) → names g legs ≡ false → reached (slice_set (replicate 256 false) g true) g legs ≡ false
+unreached_first g legs none =
+    list_any_none (λ (leg : Leg). (leg.commodity == g) || moved_at (slice_set (replicate 256 false) g true) leg.commodity) legs (λ j d low.
+    let c = (get_or legs j d).commodity in
+    let other : c ≢ g = λ e. true≢false (sym (list_any_at (λ (leg : Leg). leg.commodity == g) legs j d low (eq-eqb c g e)) ∙ none) in
+    rw (ne_eqb c g other) (mark_other g c other))
+
+pub turn_skipped : (set : Tables) (g : ℕ) (was c : Credited) (n : ℕ) → n ≤ length set.credits → MissesBelow set.credits n g → IsAtTurn set g was (slice_set (replicate 256 false) g true) 0 c → IsAtTurn set g was (slice_set (replicate 256 false) g true) n c
+turn_skipped set g was c zero h misses at = at
+turn_skipped set g was c (suc n) h misses at =
+    let before = turn_skipped set g was c n (omega arith) (λ i low inside. misses i (omega arith) inside) at in
+    rw (← add-one) (turn_passed set g was (slice_set (replicate 256 false) g true) n c before (omega arith) (unreached_first g (legs_of (credit_spread_at set.credits n)) (misses n (omega arith) (omega arith))))
+
+-- After the last spread everything is kept for the new numbers.
+pub turn_last : (set : Tables) (g : ℕ) (was : Credited) (moved : List Bool) (c : Credited) → IsWithinLimits set → IsAtTurn set g was moved (length set.credits) c → AreCreditsOf set c
+turn_last set g was moved c limits at =
+    let n = length set.credits in
+    let of = (state_of c.deltas c.risks (take n set.credits)).1 in
+    let long : length c.credits ≡ length of = at.one_credit_each ∙ sym (state_long c.deltas c.risks set.credits n (omega arith)).1 in
+    record {
+      one_each = at.one_each;
+      numbers = at.numbers;
+      one_rest_each = at.one_rest_each;
+      credits = ext_get_or 0 c.credits of long (λ k h. at.credits k ∙ sym (shares_are c.deltas c.risks set.credits c.kept k n (omega arith) at.done)) ∙ all_spreads c.deltas c.risks set.credits;
+      one_kept_each = at.one_kept_each;
+      kept = at.done;
+      one_first_each = at.one_first_each;
+      firsts = at.firsts;
+      small = λ k. turn_room set g was moved n c k limits at;
+    }
+
+-- Nothing held.
+pub credits_none : (set : Tables) (c : Credited) → IsWithinLimits set → let n = length set.commodities in c.deltas ≡ replicate n (pos 0) → c.risks ≡ replicate n 0 → c.rests ≡ replicate n (pos 0) → c.credits ≡ replicate n 0 → c.kept ≡ replicate (length set.credits) nothing_kept → length c.firsts ≡ n → ((g : ℕ) → g < n → MissesBelow set.credits (slice_index c.firsts g) g) → AreCreditsOf set c
+credits_none set c limits deltas risks rests credits kept firsts misses =
+    let n = length set.commodities in
+    let zeros = replicate n (pos 0) in
+    let state = λ (i : ℕ) (h : i ≤ length set.credits). state_none n i (replicate n 0) set.credits h limits.credits in
+    let long = length-replicate {A = ℤ} n (pos 0) in
+    record {
+      one_each = ap (λ (r : List ℤ). length r) deltas ∙ long;
+      numbers = rw (deltas, risks) (record {
+        one_each = length-replicate {A = ℕ} n 0 ∙ sym long;
+        small_deltas = All-replicate IsDelta n (pos 0) (omega (arith, ints));
+        small_risks = λ g. omega (arith, none_at n g);
+      });
+      one_rest_each = ap (λ (r : List ℤ). length r) (rests ∙ sym deltas);
+      credits = rw (deltas, risks) (credits ∙ sym (sym (all_spreads zeros (replicate n 0) set.credits) ∙ ap (λ (p : List ℤ × List ℕ). p.1) (state (length set.credits) (omega arith))));
+      one_kept_each = omega (arith, ap (λ (r : List Kept). length r) kept, length-replicate {A = Kept} (length set.credits) nothing_kept);
+      kept = λ i h.
+          rw (deltas, risks, kept, get_or-replicate {A = Kept} (length set.credits) i nothing_kept nothing_kept h) (rw (ap (λ (p : List ℤ × List ℕ). p.0) (state i (omega arith))) (kept_none n (replicate n 0) (credit_spread_at set.credits i) (limits.credits i no_credit_spread h)));
+      one_first_each = firsts ∙ sym (ap (λ (r : List ℤ). length r) deltas ∙ long);
+      firsts = λ g h. misses g (omega (arith, h, ap (λ (r : List ℤ). length r) deltas, long));
+      small = λ g. omega (arith, ap (λ (r : List ℕ). slice_index r g) credits, none_at n g);
+    }

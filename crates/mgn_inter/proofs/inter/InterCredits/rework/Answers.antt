@@ -1,0 +1,81 @@
+use Rattle.std.proofs.Common.{rules, ◌≡◌, ◌∙◌, ℕ, List, ap, arith, length, slice_index, subst, sym}
+use Rattle.std.proofs.lemmas.List.{get_or_read, with_items_is}
+use Rattle.std.specs.Vec.{with_items}
+use Rattle.mgn_params.specs.declared.tables.CreditSpread.{CreditSpread}
+use Rattle.mgn_params.specs.Tables.{credit_spread_at, legs_of}
+use Rattle.mgn_inter.specs.CreditRows.{credited_of}
+use Rattle.mgn_inter.specs.Credited.{IsAtTurn}
+use Rattle.mgn_inter.specs.Rows.{brought, Credited, kept_at, nothing_kept}
+use Rattle.mgn_inter.proofs.TurnLemmas.{turn_covers, turn_near, turn_others, turn_own_small, turn_reworked, turn_room}
+use Rattle.mgn_inter.proofs.inter.InterCredits.rework.Goals as goal
+use Rattle.mgn_inter.proofs.inter.InterCredits.rework.Goals.{After-deref_mut-2}
+
+-- what is kept at the turn, by the fields
+were : (c : After-deref_mut-2) → IsAtTurn c.args.set.now c.requires.turn.0 c.requires.turn.1 c.args.moved.now c.args.i (credited_of c.self.inside)
+were c =
+    subst (λ (r : Credited). IsAtTurn c.args.set.now c.requires.turn.0 c.requires.turn.1 c.args.moved.now c.args.i r) (sym c.self.view_is) c.requires.turn.2
+
+spread_is : (c : After-deref_mut-2) → c.spread_at-spread.result.now ≡ credit_spread_at c.args.set.now.credits c.args.i
+spread_is c =
+    c.spread_at-spread.ensures ∙ ap (λ (ss : List CreditSpread). credit_spread_at ss c.args.i) c.credits.ensures
+
+kept_is : (c : After-deref_mut-2) → c.index.result.now ≡ kept_at c.self.inside.kept.items c.args.i
+kept_is c =
+    get_or_read c.self.inside.kept.items c.args.i c.index.result.now (omega (arith, c.requires.inside, (were c).one_kept_each)) c.index.ensures nothing_kept
+
+-- the rests that the spread is formed of
+rests_are : (c : After-deref_mut-2) → c.deref_mut-2.result.now ≡ brought c.args.moved.now c.self.inside.rests.items (legs_of (credit_spread_at c.args.set.now.credits c.args.i)) (kept_at c.self.inside.kept.items c.args.i).rests
+rests_are c =
+    let long : length c.bring_rests.new.rests ≡ c.self.inside.rests.len = search rules in
+    c.deref_mut-2.ensures.value ∙ with_items_is c.self.inside.rests c.bring_rests.new.rests long ∙ rw (c.deref_mut.ensures.value, spread_is c, kept_is c) at c.bring_rests.ensures
+
+pub form_spread-new-requires-clause-near : goal.form_spread-new-requires-clause-near
+form_spread-new-requires-clause-near c =
+    let at = (goal.at.form_spread-new-requires-clause-near c).After-deref_mut-2 in
+    rw (c.deref.ensures.value, rests_are at, spread_is at) (turn_near c.args.set.now c.requires.turn.0 c.requires.turn.1 c.args.moved.now c.args.i (credited_of c.self.inside) c.limits.ensures (were at) c.requires.inside)
+
+pub move_credits-requires-clause-old : goal.move_credits-requires-clause-old
+move_credits-requires-clause-old c =
+    let at = (goal.at.move_credits-requires-clause-old c).After-deref_mut-2 in
+    rw (c.deref_mut-3.ensures.value, spread_is at, kept_is at) (λ g. turn_covers c.args.set.now c.requires.turn.0 c.requires.turn.1 c.args.moved.now c.args.i (credited_of c.self.inside) g (were at) c.requires.inside)
+
+pub move_credits-requires-clause-new : goal.move_credits-requires-clause-new
+move_credits-requires-clause-new c =
+    λ g.
+    let at = (goal.at.move_credits-requires-clause-new c).After-deref_mut-2 in
+    let is = rw (c.deref.ensures.value, c.deref-2.ensures.value, rests_are at, spread_is at) at c.form_spread-new.ensures.kept in
+    let small = turn_own_small c.args.set.now c.requires.turn.0 c.requires.turn.1 c.args.moved.now c.args.i (credited_of c.self.inside) c.form_spread-new.result g c.limits.ensures (were at) c.requires.inside is in
+    rw (spread_is at) (omega (arith, small))
+
+pub move_credits-requires-clause-room : goal.move_credits-requires-clause-room
+move_credits-requires-clause-room c =
+    let at = (goal.at.move_credits-requires-clause-room c).After-deref_mut-2 in
+    rw c.deref_mut-3.ensures.value (λ g.
+    let room = turn_room c.args.set.now c.requires.turn.0 c.requires.turn.1 c.args.moved.now c.args.i (credited_of c.self.inside) g c.limits.ensures (were at) in
+    omega (arith, room))
+
+pub returns-clause-turn : goal.returns-clause-turn
+returns-clause-turn c =
+    λ g was now.
+    let at = (goal.at.returns-clause-turn c).After-deref_mut-2 in
+    let set' = c.args.set.now in
+    let are = subst (λ (r : Credited). IsAtTurn set' g was c.args.moved.now c.args.i r) (sym c.self.view_is) now in
+    let rests : length c.bring_rests.new.rests ≡ c.self.inside.rests.len = search rules in
+    let formed_long : length c.form_spread-new.new.rests ≡ c.self.inside.rests.len = search rules in
+    let credits : length c.move_credits.new.credits ≡ c.self.inside.credits.len = search rules in
+    let row = with_items_is (with_items c.self.inside.rests c.bring_rests.new.rests) c.form_spread-new.new.rests formed_long in
+    let is = rw (c.deref.ensures.value, c.deref-2.ensures.value, rests_are at, spread_is at) at c.form_spread-new.ensures.kept in
+    let rests_is = rw (c.deref.ensures.value, c.deref-2.ensures.value, rests_are at, spread_is at) at c.form_spread-new.ensures.rests in
+    let moved = rw (c.deref_mut-3.ensures.value, spread_is at, kept_is at) at c.move_credits.ensures.moved in
+    let marks = rw (c.deref-3.ensures.value ∙ row, spread_is at, kept_is at) at c.mark_moved.ensures in
+    rw (row, with_items_is c.self.inside.credits c.move_credits.new.credits credits) (turn_reworked set' g was c.args.moved.now c.mark_moved.new.moved c.args.i (credited_of c.self.inside) c.form_spread-new.new.rests c.move_credits.new.credits c.form_spread-new.result c.limits.ensures are c.requires.inside rests_is is (c.move_credits.ensures.long ∙ ap (λ (xs : List ℕ). length xs) c.deref_mut-3.ensures.value) moved marks)
+
+pub returns-clause-others : goal.returns-clause-others
+returns-clause-others c =
+    λ k out.
+    let at = (goal.at.returns-clause-others c).After-deref_mut-2 in
+    let credits : length c.move_credits.new.credits ≡ c.self.inside.credits.len = search rules in
+    let moved = rw (c.deref_mut-3.ensures.value, spread_is at, kept_is at) at c.move_credits.ensures.moved in
+    let legs = legs_of (credit_spread_at c.args.set.now.credits c.args.i) in
+    let same = turn_others legs (kept_at c.self.inside.kept.items c.args.i).credits c.form_spread-new.result.credits c.move_credits.new.credits c.self.inside.credits.items k (moved k) out in
+    rw (with_items_is c.self.inside.credits c.move_credits.new.credits credits) (subst (λ (r : Credited). slice_index c.move_credits.new.credits k ≡ slice_index r.credits k) c.self.view_is same)

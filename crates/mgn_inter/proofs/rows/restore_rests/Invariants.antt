@@ -1,7 +1,0 @@
-use Rattle.std.proofs.Common.{◌≡◌, slice_set, take}
-use Rattle.std.specs.List.{fold, zip}
-use Rattle.mgn_inter.proofs.rows.restore_rests.Given as goal
-
-abbrev pub invariant-loop-k : goal.invariant-loop-k
-invariant-loop-k l =
-    l.rests ≡ fold (λ now p. slice_set now p.0.commodity p.1) l.initial.rests (take l.k (zip l.legs l.kept))
