@@ -1,5 +1,5 @@
 -- What is true of the world after every list of steps (own profile).
-use Rattle.std.specs.Prelude.{ℕ, ◌≡◌, ◌+◌, ◌≤◌, ◌⊎◌, List, [], ◌∷◌, length}
+use Rattle.std.specs.Prelude.{◌≡◌, ◌+◌, ◌≤◌, List, length}
 use Rattle.mgn_params.specs.Tables.{Tables}
 use Rattle.mgn_machine.specs.declared.entry.Entry.{Entry}
 use Rattle.mgn_machine.specs.History.{Legal, replay}
@@ -16,8 +16,3 @@ pub record IsRun (sets : List Tables) (state : State) (history : List Entry) : T
 
 abbrev pub IsReplayed : World → Type 0
 IsReplayed w = IsRun w.sets w.state w.history
-
--- a number is one of these
-abbrev pub Among : ℕ → List ℕ → Type 0
-Among u [] = ⊥
-Among u (v ∷ vs) = (u ≡ v) ⊎ Among u vs

@@ -1,6 +1,5 @@
 -- Where a session is in its call, and the steps that it makes (own profile).
-use Rattle.std.specs.Prelude.{ℕ, Bool, List, [], ◌∷◌}
-use Rattle.mgn_params.specs.Limits.{IsWithinLimits}
+use Rattle.std.specs.Prelude.{ℕ, Bool, List}
 use Rattle.mgn_params.specs.Tables.{Tables}
 use Rattle.mgn_desk.specs.Portfolios.{FourNets}
 use Rattle.mgn_machine.specs.declared.command.Command.{Command}
@@ -59,19 +58,3 @@ pub data Deed : Type 0 where
 pub record Step : Type 0 where
   pub session : ℕ
   pub deed : Deed
-
--- a set that is named is within the limits, as each set is that was read
-abbrev pub NamesSet : Deed → Type 0
-NamesSet (Gather set) = IsWithinLimits set
-NamesSet (Begin command) = Unit {0}
-NamesSet Look = Unit {0}
-NamesSet Mark = Unit {0}
-NamesSet Apply = Unit {0}
-NamesSet Commit = Unit {0}
-NamesSet Back = Unit {0}
-NamesSet End = Unit {0}
-NamesSet (Prepare unit) = Unit {0}
-
-abbrev pub NameSets : List Step → Type 0
-NameSets [] = Unit {0}
-NameSets (e ∷ es) = NamesSet e.deed × NameSets es

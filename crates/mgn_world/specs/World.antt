@@ -72,10 +72,6 @@ in_force w = set_at w.sets w.state.version
 abbrev pub unit_nets : Tables → List AccountState → ℕ → FourNets
 unit_nets set accounts u = four (nets_in (row_of set accounts u))
 
--- the state as if the day were not over: a plan that was looked at while it was not is a plan of this state
-abbrev pub before_close : State → State
-before_close s = record s { closed = false }
-
 -- The units of a command.
 
 abbrev pub unit_found : State → Result ℕ Refusal → List ℕ
