@@ -1,5 +1,6 @@
 -- The book: the state with its rows, and the history that made it.
 pub mod BookViews
+pub mod DeskCommits
 pub mod FilledAtLimit
 pub mod History
 pub mod Switches

@@ -2,8 +2,10 @@
 #![tactic(auto)]
 
 pub mod book;
+mod by_desks;
 mod history;
 mod in_force;
 pub mod laws;
 
 pub use book::{Book, Outcome};
+pub use by_desks::Decision;

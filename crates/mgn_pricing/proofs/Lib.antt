@@ -1,2 +1,6 @@
 -- Desks that move with rows.
 pub mod Moved
+-- Desks that are given with a command.
+pub mod Fitting
+-- Desks that move as a plan says.
+pub mod Planned

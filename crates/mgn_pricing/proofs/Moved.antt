@@ -1,5 +1,5 @@
 -- A desk that moves as its row does.
-use Rattle.std.proofs.Common.{◌≡◌, ◌<◌, ◌∙◌, ℕ, zero, suc, ℤ, pos, All, List, [], ◌∷◌, ◌++◌, length, get_or, set, sym, ap, subst, refl, arith, Option, Some, None}
+use Rattle.std.proofs.Common.{◌≡◌, ◌<◌, ◌∙◌, ℕ, zero, suc, ℤ, pos, All, List, [], ◌∷◌, ◌++◌, length, get_or, sym, ap, subst, refl, arith, Option, Some, None}
 use Rattle.std.specs.Prelude.{◌+ℤ◌, neg_ℤ}
 use Rattle.std.proofs.lemmas.Int.{ints}
 use Rattle.std.proofs.lemmas.List.{get_or-set_same, length-set}
@@ -9,13 +9,13 @@ use Rattle.mgn_span.specs.Scan.{value_at}
 use Rattle.mgn_desk.specs.declared.desk.Marked.{Marked}
 use Rattle.mgn_desk.specs.declared.moves.Requirements.{Requirements}
 use Rattle.mgn_desk.specs.Desks.{CanMoveMarked, DeskRows, IsMarkedBy, MarkedNets, Requires, Shown, marked_nets, marked_with, moved_desk, moved_marked, shown}
-use Rattle.mgn_desk.specs.Portfolios.{AreFourNets, ArePortfolios, AreSmall, CanMove, FourNets, moved_by, nets_of, opposite, requirements_of}
+use Rattle.mgn_desk.specs.Portfolios.{AreSmall, CanMove, FourNets, moved_by, nets_of, opposite, requirements_of}
 use Rattle.mgn_unit.specs.declared.change.Change.{Change}
 use Rattle.mgn_unit.specs.declared.row.Priced.{Priced}
 use Rattle.mgn_unit.specs.declared.row.Row.{Row}
 use Rattle.mgn_unit.specs.Rows.{IsChange, IsRoomy, IsRow, Prices, more_at}
 use Rattle.mgn_register.specs.Plans.{UnitNets, moved_nets, nets_in}
-use Rattle.mgn_pricing.specs.Desks.{IsReady, IsReadyWith, Rests, four, moves_of}
+use Rattle.mgn_pricing.specs.Desks.{IsReady, four, moves_of, required_by}
 
 -- a net that moves stays within its limit
 net-moved : (nets : List ℤ) (i : ℕ) (quantity : ℤ) → i < length nets → All IsNet (more_at nets i quantity) → IsNet (value_at nets i +ℤ quantity)
@@ -41,25 +41,28 @@ abbrev nets_or : FourNets → Option MarkedNets → FourNets
 nets_or d None = d
 nets_or d (Some m) = m.nets
 
+-- what a row requires after a change, by its nets then
+pub prices-by : (set' : Tables) (row : Row) (change : Change) (p : Priced) → required_by p ≡ requirements_of set' (moved_by (moves_of change) (four (nets_in row))) → AreSmall (required_by p) → Prices set' change row p
+prices-by set' row change p all small = record {
+  lots = record { is = ap (λ (x : Requirements). x.lots) all; small = small.lots };
+  buys = record { is = ap (λ (x : Requirements). x.buys) all; small = small.buys };
+  sales = record { is = ap (λ (x : Requirements). x.sales) all; small = small.sales };
+  all = record { is = ap (λ (x : Requirements). x.all) all; small = small.all };
+}
+
 -- what a desk requires after a change, by what its row then requires
-pub priced-by : (set' : Tables) (version : ℕ) (row : Row) (change : Change) (before after : DeskRows) (r : Requirements) → IsReady set' version (nets_in row) before.marked → shown after ≡ moved_desk (moves_of change) (shown before)
-    → Requires set' after.marked r → AreSmall r → Prices set' change row record { lots = r.lots; buys = r.buys; sales = r.sales; all = r.all }
-priced-by set' version row change before after r ready moved required small = by before.marked after.marked ready (ap (λ (s : Shown). s.marked) moved) required
+pub priced-by : (set' : Tables) (version : ℕ) (row : Row) (change : Change) (before after : DeskRows) (p : Priced) → IsReady set' version (nets_in row) before.marked → shown after ≡ moved_desk (moves_of change) (shown before)
+    → Requires set' after.marked (required_by p) → AreSmall (required_by p) → Prices set' change row p
+priced-by set' version row change before after p ready moved required small = by before.marked after.marked ready (ap (λ (s : Shown). s.marked) moved) required
   where
-    by : (b a : Option Marked) → IsReady set' version (nets_in row) b → marked_nets a ≡ moved_marked (moves_of change) (marked_nets b) → Requires set' a r → Prices set' change row record { lots = r.lots; buys = r.buys; sales = r.sales; all = r.all }
+    by : (b a : Option Marked) → IsReady set' version (nets_in row) b → marked_nets a ≡ moved_marked (moves_of change) (marked_nets b) → Requires set' a (required_by p) → Prices set' change row p
     by None a is same told = absurd is
     by (Some b) None is same told = absurd told
     by (Some b) (Some a) is same told =
         let nets : nets_of a.portfolios ≡ moved_by (moves_of change) (four (nets_in row)) =
         ap (nets_or (nets_of a.portfolios)) same ∙ ap (moved_by (moves_of change)) is.shows
         in
-        let all : r ≡ requirements_of set' (moved_by (moves_of change) (four (nets_in row))) = told ∙ ap (requirements_of set') nets in
-        record {
-          lots = record { is = ap (λ (x : Requirements). x.lots) all; small = small.lots };
-          buys = record { is = ap (λ (x : Requirements). x.buys) all; small = small.buys };
-          sales = record { is = ap (λ (x : Requirements). x.sales) all; small = small.sales };
-          all = record { is = ap (λ (x : Requirements). x.all) all; small = small.all };
-        }
+        prices-by set' row change p (told ∙ ap (requirements_of set') nets) small
 
 -- Moving back.
 

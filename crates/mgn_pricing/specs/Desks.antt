@@ -1,14 +1,17 @@
 -- The desks of margin units beside the rows of a book (own profile).
-use Rattle.std.specs.Prelude.{ℕ, ◌≡◌, ◌≢◌, ◌≤◌, ◌==◌, Bool, false, List, length, slice_index_or, Option, Some, None}
+use Rattle.std.specs.Prelude.{ℕ, ◌≡◌, ◌≢◌, ◌≤◌, ◌==◌, ◌||◌, Bool, true, false, List, length, slice_index_or, Option, Some, None, is_some}
 use Rattle.mgn_params.specs.Tables.{Tables}
 use Rattle.mgn_desk.specs.declared.desk.Marked.{Marked}
 use Rattle.mgn_desk.specs.declared.moves.Moves.{Moves}
+use Rattle.mgn_desk.specs.declared.moves.Requirements.{Requirements}
 use Rattle.mgn_desk.specs.Desks.{DeskRows}
 use Rattle.mgn_desk.specs.Portfolios.{ArePortfolios, FourNets, nets_of}
 use Rattle.mgn_unit.specs.declared.change.Change.{Change}
 use Rattle.mgn_unit.specs.declared.row.Priced.{Priced}
 use Rattle.mgn_unit.specs.declared.row.Row.{Row}
+use Rattle.mgn_register.specs.declared.plans.Known.{Known}
 use Rattle.mgn_register.specs.declared.plans.Plan.{Plan}
+use Rattle.mgn_register.specs.declared.plans.Plan.TheVariants.{Nothing, One, Two}
 use Rattle.mgn_register.specs.declared.plans.UnitChange.{UnitChange}
 use Rattle.mgn_register.specs.Plans.{UnitNets, moved_nets, nets_in, planned_nets}
 use Rattle.mgn_register.specs.TransferRows.{row_at}
@@ -22,6 +25,10 @@ moves_of change = record {
   sales = change.sales.quantity;
   all = change.all.quantity;
 }
+
+-- requirements of a row as a desk tells them
+abbrev pub required_by : Priced → Requirements
+required_by r = record { lots = r.lots; buys = r.buys; sales = r.sales; all = r.all }
 
 -- nets as a desk shows them
 abbrev pub four : UnitNets → FourNets
@@ -59,7 +66,29 @@ pub record AreDesks (set : Tables) (version : ℕ) (plan : Plan) (rows : List Ro
 abbrev pub KeepsOthers : ℕ → List DeskRows → List DeskRows → Type 0
 KeepsOthers u old new = (k : ℕ) → k ≢ u → marked_at new k ≡ marked_at old k
 
--- where a requirement is told, the desk is ready with the nets of the change; else it is empty
-abbrev pub ForeseenBy : Tables → ℕ → List Row → UnitChange → Option Priced → Option Marked → Type 0
-ForeseenBy set version rows u None now = now ≡ None
-ForeseenBy set version rows u (Some priced) now = IsReady set version (moved_nets u.change (nets_in (row_at set rows u.unit))) now
+-- a unit is one of a plan's
+abbrev pub is_planned : Plan → ℕ → Bool
+is_planned Nothing k = false
+is_planned (One u) k = u.unit == k
+is_planned (Two u v) k = (u.unit == k) || (v.unit == k)
+
+-- the desks of all units that are none of a plan's are as they were
+abbrev pub KeepsUnplanned : Plan → List DeskRows → List DeskRows → Type 0
+KeepsUnplanned plan old new = (k : ℕ) → is_planned plan k ≡ false → marked_at new k ≡ marked_at old k
+
+-- the desk of a unit is ready with its nets after a change
+abbrev pub IsMovedBy : Tables → ℕ → List Row → List DeskRows → UnitChange → Type 0
+IsMovedBy set version rows desks u =
+    IsReady set version (moved_nets u.change (nets_in (row_at set rows u.unit))) (marked_at desks u.unit)
+
+-- the desks of a plan's units are ready with their nets after it
+abbrev pub AreReady : Tables → ℕ → Plan → List Row → List DeskRows → Type 0
+AreReady set version Nothing rows desks = Unit {0}
+AreReady set version (One u) rows desks = IsMovedBy set version rows desks u
+AreReady set version (Two u v) rows desks = IsMovedBy set version rows desks u × IsMovedBy set version rows desks v
+
+-- what each unit of a plan requires is told
+abbrev pub KnowsAll : Plan → Known → Type 0
+KnowsAll Nothing known = Unit {0}
+KnowsAll (One u) known = is_some known.first ≡ true
+KnowsAll (Two u v) known = (is_some known.first ≡ true) × (is_some known.second ≡ true)

@@ -1,2 +1,3 @@
 -- Desks beside the rows of margin units.
 pub mod Desks
+pub mod Given

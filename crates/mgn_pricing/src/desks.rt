@@ -1,15 +1,17 @@
-ghost use Rattle.std.specs.Prelude.{◌≡◌, ◌<◌, ◌≤◌, ◌+◌, [], ℕ, IfSome, OnErr, OnOk, None, length};
-ghost use Rattle.mgn_desk.specs.Desks.{CanMoveMarked, IsMarkedBy};
+ghost use Rattle.std.specs.Prelude.{◌≡◌, ◌<◌, ◌≤◌, ◌+◌, [], ℕ, IfOk, OnErr, OnOk, None, length, true};
+ghost use Rattle.mgn_desk.specs.Desks.{CanMoveMarked, IsMarkedBy, Requires};
+ghost use Rattle.mgn_desk.specs.Portfolios.{AreSmall};
 ghost use Rattle.mgn_params.specs.Tables.{Tables};
 ghost use Rattle.mgn_unit.specs.Rows.{IsChange, IsRoomy, IsRow, Prices};
 ghost use Rattle.mgn_unit.specs.declared.row.Row.{Row as UnitRow};
-ghost use Rattle.mgn_register.specs.Plans.{CanChange, UnitNets, moved_nets, nets_in};
+ghost use Rattle.mgn_register.specs.Plans.{CanChange, Foresees, IsPossible, UnitNets, moved_nets, nets_in};
+ghost use Rattle.mgn_register.specs.declared.plans.Plan.TheVariants.{Nothing};
 ghost use Rattle.mgn_register.specs.TransferRows.{row_at};
-ghost use Rattle.mgn_pricing.specs.Desks.{IsReady, Rests, is_of, moves_of};
+ghost use Rattle.mgn_pricing.specs.Desks.{IsReady, Rests, is_of, moves_of, required_by};
 
 use mgn_desk::{Desk, Moves, UnitNets};
 use mgn_params::{ParamSet, Version, Work};
-use mgn_register::UnitChange;
+use mgn_register::{Known, Plan, UnitChange};
 use mgn_unit::{Change, Priced, Row};
 use std::alloc::{AllocError, Global};
 use std::marker::Model;
@@ -44,7 +46,7 @@ fn moves_of(change: &Change) -> Moves
 }
 
 // Whether a desk is marked under a version.
-fn is_of(desk: &Desk, version: Version) -> bool
+pub(crate) fn is_of(desk: &Desk, version: Version) -> bool
     ensures { result ≡ is_of version desk.now.marked }
 {
     match desk.version() {
@@ -65,6 +67,7 @@ fn ready(
     requires row { IsRow set.now row.now }
     requires rests { Rests set.now version (nets_in row.now) desk.old.marked }
     ensures ready { OnOk result (IsReady set.now version (nets_in row.now) desk.new.marked) }
+    ensures refused { OnErr result (desk.new ≡ desk.old) }
 {
     if is_of(desk, version) {
         return Ok(());
@@ -78,6 +81,22 @@ fn ready(
     desk.mark(alloc, version, set, &nets)
 }
 
+// What a marked desk requires.
+pub(crate) fn priced(desk: &Desk) -> Priced
+    requires { (set : Tables) × IsMarkedBy set desk.now.marked }
+    ensures requirements { (set : Tables) → IsMarkedBy set desk.now.marked →
+        Requires set desk.now.marked (required_by result) }
+    ensures small { AreSmall (required_by result) }
+{
+    let required = desk.requirements();
+    Priced {
+        lots: required.lots,
+        buys: required.buys,
+        sales: required.sales,
+        all: required.all,
+    }
+}
+
 // Moves a ready desk as a change of its unit's row says, and tells what is then required.
 fn foresee(desk: &mut Desk, version: Version, set: &ParamSet, row: &Row, change: &Change) -> Priced
     requires row { IsRow set.now row.now }
@@ -88,13 +107,7 @@ fn foresee(desk: &mut Desk, version: Version, set: &ParamSet, row: &Row, change:
     ensures ready { IsReady set.now version (moved_nets change.now (nets_in row.now)) desk.new.marked }
 {
     desk.apply(set, &moves_of(change), &mut Work::new());
-    let required = desk.requirements();
-    Priced {
-        lots: required.lots,
-        buys: required.buys,
-        sales: required.sales,
-        all: required.all,
-    }
+    priced(desk)
 }
 
 // Moves a desk back that was moved by a change which came to nothing.
@@ -107,8 +120,20 @@ fn take_back(desk: &mut Desk, version: Version, set: &ParamSet, row: &Row, chang
     desk.take_back(set, &moves_of(change), &mut Work::new());
 }
 
+// The same, where a desk that is empty or of an older version has nothing to take back.
+fn back(desk: &mut Desk, version: Version, set: &ParamSet, row: &Row, change: &Change)
+    requires row { IsRow set.now row.now }
+    requires change { IsChange set.now change.now }
+    requires moved { Rests set.now version (moved_nets change.now (nets_in row.now)) desk.old.marked }
+    ensures rests { Rests set.now version (nets_in row.now) desk.new.marked }
+{
+    if is_of(desk, version) {
+        take_back(desk, version, set, row, change);
+    }
+}
+
 impl Desks {
-    ghost use Rattle.mgn_pricing.specs.Desks.{ForeseenBy, IsReady, KeepsOthers, Rests, marked_at};
+    ghost use Rattle.mgn_pricing.specs.Desks.{AreDesks, AreReady, IsReady, KeepsOthers, KeepsUnplanned, KnowsAll, Rests, is_planned, marked_at};
 
     /// No desks. Takes no memory.
     pub fn new(alloc: Global) -> Desks
@@ -119,7 +144,7 @@ impl Desks {
         }
     }
 
-    // A desk for each of so many units, empty where there was none. Where memory is refused there may be more empty ones.
+    // A desk for each of so many units, empty where there was none. Where memory is refused there may be some empty ones more.
     fn grow(&mut self, units: usize) -> Result<(), AllocError>
         ensures there { OnOk result (units ≤ length self.new) }
         ensures same { (k : ℕ) → marked_at self.new k ≡ marked_at self.old k }
@@ -131,9 +156,9 @@ impl Desks {
         Ok(())
     }
 
-    /// Empties the desk of a unit.
-    pub fn forget(&mut self, unit: usize)
-        ensures forgotten { marked_at self.new unit ≡ None }
+    // Empties the desk of a unit.
+    fn empty(&mut self, unit: usize)
+        ensures emptied { marked_at self.new unit ≡ None }
         ensures others { KeepsOthers unit self.old self.new }
         ensures long { length self.new ≡ length self.old }
     {
@@ -142,51 +167,144 @@ impl Desks {
         }
     }
 
-    /// What a unit requires after a change of its row: its desk, which is marked where it has to be, moves as the change
-    /// says. None where memory for the mark was refused; the desk is then empty.
-    pub fn foresee(
+    // What a unit requires after a change of its row: its desk, which is marked where it has to be, moves as the change
+    // says. Where memory for the mark is refused all desks stay as they were.
+    fn foresee_one(
         &mut self,
         alloc: Global,
         version: Version,
         set: &ParamSet,
         rows: &[Row],
         change: &UnitChange,
-    ) -> Option<Priced>
+    ) -> Result<Priced, AllocError>
         requires possible { CanChange set.now rows.now change.now }
         requires rests { Rests set.now version (nets_in (row_at set.now rows.now change.now.unit))
             (marked_at self.old change.now.unit) }
-        ensures priced { IfSome result (Prices set.now change.now.change (row_at set.now rows.now change.now.unit)) }
-        ensures foreseen { ForeseenBy set.now version rows.now change.now result (marked_at self.new change.now.unit) }
+        ensures priced { IfOk result (Prices set.now change.now.change (row_at set.now rows.now change.now.unit)) }
+        ensures ready { OnOk result (IsReady set.now version
+            (moved_nets change.now.change (nets_in (row_at set.now rows.now change.now.unit)))
+            (marked_at self.new change.now.unit)) }
+        ensures refused { OnErr result (marked_at self.new change.now.unit ≡ marked_at self.old change.now.unit) }
         ensures others { KeepsOthers change.now.unit self.old self.new }
         ensures few { length self.old ≤ length rows.now → length self.new ≤ length rows.now }
     {
-        let unit = change.unit;
-        let row = &rows[unit];
-        if self.grow(rows.len()).is_err()
-            || ready(&mut self.desks[unit], alloc, version, set, row).is_err()
-        {
-            self.forget(unit);
-            return None;
-        }
-        let desk = &mut self.desks[unit];
-        Some(foresee(desk, version, set, row, &change.change))
+        self.grow(rows.len())?;
+        let row = &rows[change.unit];
+        let desk = &mut self.desks[change.unit];
+        ready(desk, alloc, version, set, row)?;
+        Ok(foresee(desk, version, set, row, &change.change))
     }
 
-    /// Moves the desk of a unit back, after a change that came to nothing.
-    pub fn take_back(&mut self, version: Version, set: &ParamSet, rows: &[Row], change: &UnitChange)
+    // Moves the desk of a unit back, after a change that came to nothing, where it is of the version.
+    fn take_back_one(&mut self, version: Version, set: &ParamSet, rows: &[Row], change: &UnitChange)
         requires possible { CanChange set.now rows.now change.now }
-        requires ready { IsReady set.now version
+        requires moved { Rests set.now version
             (moved_nets change.now.change (nets_in (row_at set.now rows.now change.now.unit)))
             (marked_at self.old change.now.unit) }
-        ensures ready { IsReady set.now version (nets_in (row_at set.now rows.now change.now.unit))
+        ensures rests { Rests set.now version (nets_in (row_at set.now rows.now change.now.unit))
             (marked_at self.new change.now.unit) }
         ensures others { KeepsOthers change.now.unit self.old self.new }
         ensures long { length self.new ≡ length self.old }
     {
-        let unit = change.unit;
-        let row = &rows[unit];
-        if let Some(desk) = self.desks.get_mut(unit) {
-            take_back(desk, version, set, row, &change.change);
+        if let Some(desk) = self.desks.get_mut(change.unit) {
+            back(desk, version, set, &rows[change.unit], &change.change);
+        }
+    }
+
+    // Moves the desks of a plan's units as the plan says, and tells what they then require. Where memory is refused some
+    // of these may have moved.
+    fn follow(
+        &mut self,
+        alloc: Global,
+        version: Version,
+        set: &ParamSet,
+        rows: &[Row],
+        plan: &Plan,
+    ) -> Result<Known, AllocError>
+        requires possible { IsPossible set.now rows.now plan.now }
+        requires rest { AreDesks set.now version Nothing rows.now self.old }
+        ensures known { IfOk result (Foresees set.now rows.now plan.now) }
+        ensures whole { IfOk result (KnowsAll plan.now) }
+        ensures desks { OnOk result (AreDesks set.now version plan.now rows.now self.new) }
+        ensures ready { OnOk result (AreReady set.now version plan.now rows.now self.new) }
+        ensures others { KeepsUnplanned plan.now self.old self.new }
+        ensures few { length self.new ≤ length rows.now }
+    {
+        match plan {
+            Plan::Nothing => Ok(Known::NOTHING),
+            Plan::One(change) => {
+                let first = self.foresee_one(alloc, version, set, rows, change)?;
+                Ok(Known {
+                    first: Some(first),
+                    second: None,
+                })
+            }
+            Plan::Two(giver, taker) => {
+                let first = self.foresee_one(alloc, version, set, rows, giver)?;
+                let second = self.foresee_one(alloc, version, set, rows, taker)?;
+                Ok(Known {
+                    first: Some(first),
+                    second: Some(second),
+                })
+            }
+        }
+    }
+
+    // Empties the desks of a plan's units.
+    fn forget(&mut self, plan: &Plan)
+        ensures emptied { (k : ℕ) → is_planned plan.now k ≡ true → marked_at self.new k ≡ None }
+        ensures others { KeepsUnplanned plan.now self.old self.new }
+        ensures long { length self.new ≡ length self.old }
+    {
+        match plan {
+            Plan::Nothing => {}
+            Plan::One(change) => self.empty(change.unit),
+            Plan::Two(giver, taker) => {
+                self.empty(giver.unit);
+                self.empty(taker.unit);
+            }
+        }
+    }
+
+    /// What the units of a plan require once it is done: their desks, which are marked where they have to be, move as
+    /// the plan says. An error says that memory for a mark was refused; these desks are then empty, and all are in step
+    /// with the rows whether the plan is done or not.
+    pub fn foresee(
+        &mut self,
+        alloc: Global,
+        version: Version,
+        set: &ParamSet,
+        rows: &[Row],
+        plan: &Plan,
+    ) -> Result<Known, AllocError>
+        requires possible { IsPossible set.now rows.now plan.now }
+        requires rest { AreDesks set.now version Nothing rows.now self.old }
+        ensures known { IfOk result (Foresees set.now rows.now plan.now) }
+        ensures whole { IfOk result (KnowsAll plan.now) }
+        ensures ready { OnOk result (AreReady set.now version plan.now rows.now self.new) }
+        ensures moved { AreDesks set.now version plan.now rows.now self.new }
+        ensures refused { OnErr result (AreDesks set.now version Nothing rows.now self.new) }
+    {
+        let known = self.follow(alloc, version, set, rows, plan);
+        if known.is_err() {
+            self.forget(plan);
+        }
+        known
+    }
+
+    /// Moves the desks of a plan's units back, after a plan that came to nothing.
+    pub fn take_back(&mut self, version: Version, set: &ParamSet, rows: &[Row], plan: &Plan)
+        requires possible { IsPossible set.now rows.now plan.now }
+        requires moved { AreDesks set.now version plan.now rows.now self.old }
+        ensures rest { AreDesks set.now version Nothing rows.now self.new }
+    {
+        match plan {
+            Plan::Nothing => {}
+            Plan::One(change) => self.take_back_one(version, set, rows, change),
+            Plan::Two(giver, taker) => {
+                self.take_back_one(version, set, rows, taker);
+                self.take_back_one(version, set, rows, giver);
+            }
         }
     }
 }

@@ -2,5 +2,7 @@
 #![tactic(auto)]
 
 mod desks;
+mod given;
 
 pub use desks::Desks;
+pub use given::{is_one_older, known_by};

@@ -25,75 +25,8 @@ use Rattle.mgn_book.specs.declared.book.Outcome.{Outcome}
 use Rattle.mgn_book.specs.declared.book.Outcome.TheVariants.{Done, Full, Memory}
 use Rattle.mgn_script.specs.Desks.{AreAtRest, AreDesksBy, is_done}
 
--- a desk that is ready rests
-pub rests : (set' : Tables) (version : ℕ) (nets : UnitNets) (now : Option Marked) → IsReady set' version nets now → Rests set' version nets now
-rests set' version nets None ready = tt
-rests set' version nets (Some m) ready = (omega (arith, ready.under), λ same. ready)
-
 pub rests-none : (set' : Tables) (version : ℕ) (nets : UnitNets) (now : Option Marked) → now ≡ None → Rests set' version nets now
 rests-none set' version nets now none = subst (λ (m : Option Marked). Rests set' version nets m) (sym none) tt
-
-rests-foreseen : (set' : Tables) (version : ℕ) (rows : List Row) (u : UnitChange) (told : Option Priced) (now : Option Marked) → ForeseenBy set' version rows u told now → Rests set' version (moved_nets u.change (nets_in (row_at set' rows u.unit))) now
-rests-foreseen set' version rows u None now none = rests-none set' version _ now none
-rests-foreseen set' version rows u (Some priced) now ready = rests set' version _ now ready
-
-by-same : (u : UnitChange) (k : ℕ) (nets : UnitNets) → u.unit ≡ k → nets_by u k nets ≡ moved_nets u.change nets
-by-same u k nets same = rw (eq-eqb u.unit k same) refl
-
-pub by-other : (u : UnitChange) (k : ℕ) (nets : UnitNets) → u.unit ≢ k → nets_by u k nets ≡ nets
-by-other u k nets apart = rw (ne_eqb u.unit k apart) refl
-
--- Before a commit: one desk more is moved.
-
-pub foreseen-one : (set' : Tables) (version : ℕ) (rows : List Row) (u : UnitChange) (old new : List DeskRows) (told : Option Priced) → AreDesks set' version Nothing rows old → ForeseenBy set' version rows u told (marked_at new u.unit)
-    → KeepsOthers u.unit old new → length new ≤ length rows → AreDesks set' version (One u) rows new
-foreseen-one set' version rows u old new told at_rest foreseen others few = record {
-  few = few;
-  each = λ k. ⊎_elim
-      (λ (same : u.unit ≡ k). subst (λ (j : ℕ). Rests set' version (nets_by u j (nets_in (row_at set' rows j))) (marked_at new j)) same
-      (subst (λ (nets : UnitNets). Rests set' version nets (marked_at new u.unit)) (sym (by-same u u.unit (nets_in (row_at set' rows u.unit)) refl)) (rests-foreseen set' version rows u told (marked_at new u.unit) foreseen)))
-      (λ (apart : u.unit ≢ k). subst (λ (nets : UnitNets). Rests set' version nets (marked_at new k)) (sym (by-other u k (nets_in (row_at set' rows k)) apart))
-      (subst (λ (m : Option Marked). Rests set' version (nets_in (row_at set' rows k)) m) (sym (others k (λ e. apart (sym e)))) (at_rest.each k)))
-      (cases_eq u.unit k);
-}
-
-pub foreseen-two : (set' : Tables) (version : ℕ) (rows : List Row) (u v : UnitChange) (old new : List DeskRows) (told : Option Priced) → v.unit ≢ u.unit → AreDesks set' version (One u) rows old → ForeseenBy set' version rows v told (marked_at new v.unit)
-    → KeepsOthers v.unit old new → length new ≤ length rows → AreDesks set' version (Two u v) rows new
-foreseen-two set' version rows u v old new told units at_one foreseen others few = record {
-  few = few;
-  each = λ k. ⊎_elim
-      (λ (same : v.unit ≡ k). subst (λ (j : ℕ). Rests set' version (nets_by v j (nets_by u j (nets_in (row_at set' rows j)))) (marked_at new j)) same
-      (subst (λ (nets : UnitNets). Rests set' version nets (marked_at new v.unit))
-      (sym (by-same v v.unit (nets_by u v.unit (nets_in (row_at set' rows v.unit))) refl ∙ ap (moved_nets v.change) (by-other u v.unit (nets_in (row_at set' rows v.unit)) (λ e. units (sym e)))))
-      (rests-foreseen set' version rows v told (marked_at new v.unit) foreseen)))
-      (λ (apart : v.unit ≢ k). subst (λ (nets : UnitNets). Rests set' version nets (marked_at new k)) (sym (by-other v k (nets_by u k (nets_in (row_at set' rows k))) apart))
-      (subst (λ (m : Option Marked). Rests set' version (nets_by u k (nets_in (row_at set' rows k))) m) (sym (others k (λ e. apart (sym e)))) (at_one.each k)))
-      (cases_eq v.unit k);
-}
-
--- an empty desk rests whatever the plan
-pub forgotten : (set' : Tables) (version : ℕ) (plan : Plan) (rows : List Row) (u : UnitChange) (desks : List DeskRows) → AreDesks set' version (One u) rows desks → marked_at desks u.unit ≡ None → AreDesks set' version Nothing rows desks
-forgotten set' version plan rows u desks at_one none = record {
-  few = at_one.few;
-  each = λ k. ⊎_elim
-      (λ (same : u.unit ≡ k). rests-none set' version (nets_in (row_at set' rows k)) (marked_at desks k) (subst (λ (j : ℕ). marked_at desks j ≡ None) same none))
-      (λ (apart : u.unit ≢ k). subst (λ (nets : UnitNets). Rests set' version nets (marked_at desks k)) (by-other u k (nets_in (row_at set' rows k)) apart) (at_one.each k))
-      (cases_eq u.unit k);
-}
-
--- After a commit.
-
--- a desk that moved back
-pub taken-back : (set' : Tables) (version : ℕ) (rows : List Row) (u : UnitChange) (old new : List DeskRows) → AreDesks set' version (One u) rows old → IsReady set' version (nets_in (row_at set' rows u.unit)) (marked_at new u.unit)
-    → KeepsOthers u.unit old new → length new ≡ length old → AreDesks set' version Nothing rows new
-taken-back set' version rows u old new at_one ready others long = record {
-  few = omega (arith, long, at_one.few);
-  each = λ k. ⊎_elim
-      (λ (same : u.unit ≡ k). subst (λ (j : ℕ). Rests set' version (nets_in (row_at set' rows j)) (marked_at new j)) same (rests set' version (nets_in (row_at set' rows u.unit)) (marked_at new u.unit) ready))
-      (λ (apart : u.unit ≢ k). subst (λ (m : Option Marked). Rests set' version (nets_in (row_at set' rows k)) m) (sym (others k (λ e. apart (sym e))))
-      (subst (λ (nets : UnitNets). Rests set' version nets (marked_at old k)) (by-other u k (nets_in (row_at set' rows k)) apart) (at_one.each k)))
-      (cases_eq u.unit k);
-}
 
 -- the desks that a plan moved rest at the rows that follow it
 follows : (set' : Tables) (version : ℕ) (plan : Plan) (old new : List Row) (desks : List DeskRows) → FollowsPlan set' plan old new → AreDesks set' version plan old desks → AreDesks set' version Nothing new desks

@@ -1,6 +1,6 @@
-use Rattle.std.proofs.Common.{◌≡◌, ap, ◌∙◌, sym, subst}
+use Rattle.std.proofs.Common.{ap, ◌∙◌, sym, subst}
 use Rattle.mgn_desk.specs.declared.moves.Moves.{Moves}
-use Rattle.mgn_desk.specs.Desks.{CanMoveMarked, Shown, marked_with, moved_desk, shown}
+use Rattle.mgn_desk.specs.Desks.{CanMoveMarked, Shown, marked_with, moved_desk}
 use Rattle.mgn_desk.specs.Portfolios.{opposite}
 use Rattle.mgn_register.specs.Plans.{nets_in}
 use Rattle.mgn_pricing.specs.Desks.{four}

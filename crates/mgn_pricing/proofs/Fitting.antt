@@ -1,0 +1,190 @@
+-- Desks that are given with a command.
+use Rattle.std.proofs.Common.{◌≡◌, ◌<◌, ◌+◌, ◌∙◌, ℕ, zero, suc, ℤ, Bool, true, false, List, [], ◌∷◌, length, ◌≤◌, ◌-◌, take, drop, get_or, set, map, sym, ap, refl, arith, cond, Option, Some, None}
+use Rattle.std.specs.Prelude.{◌||◌, ◌&&◌, ◌==◌, nat_lt, not}
+use Rattle.std.specs.Ordering.{int_eq}
+use Rattle.std.specs.Bool.{Decides}
+use Rattle.std.specs.List.{find, list_any, position, position_or_len}
+use Rattle.std.proofs.lemmas.Bool.Decides.{Decides-eqb, Decides-int_eq}
+use Rattle.std.proofs.lemmas.Slice.Eq.{slice_eq-Decides}
+use Rattle.std.proofs.lemmas.List.Folds.{find_at}
+use Rattle.std.proofs.lemmas.List.Quantifiers.{position-Some}
+use Rattle.std.proofs.lemmas.Option.{slice_get_past}
+use Rattle.std.proofs.lemmas.Bool.{ltb-false}
+use Rattle.std.proofs.lemmas.List.{drop-set-lt, get_or-set_same, length-drop, length-set, take-set}
+use Rattle.std.proofs.Math.Seq.{take-length}
+use Rattle.mgn_params.specs.Tables.{Tables}
+use Rattle.mgn_desk.specs.declared.desk.Marked.{Marked}
+use Rattle.mgn_desk.specs.Desks.{DeskRows, IsMarkedBy, Requires}
+use Rattle.mgn_desk.specs.Portfolios.{AreSmall, FourNets, nets_of, requirements_of}
+use Rattle.mgn_unit.specs.declared.change.Change.{Change}
+use Rattle.mgn_unit.specs.declared.row.Priced.{Priced}
+use Rattle.mgn_unit.specs.declared.row.Row.{Row}
+use Rattle.mgn_unit.specs.Rows.{Prices}
+use Rattle.mgn_register.specs.declared.plans.UnitChange.{UnitChange}
+use Rattle.mgn_register.specs.Plans.{moved_nets, nets_in}
+use Rattle.mgn_register.specs.TransferRows.{row_at}
+use Rattle.mgn_pricing.specs.Desks.{four, is_of, required_by}
+use Rattle.mgn_pricing.specs.Given.{IsRight, fits, fits_change, marked_in, same_four, same_nets}
+use Rattle.mgn_pricing.proofs.Moved.{prices-by}
+
+pub any_map : {A B : Type 0} (f : A → B) (p : B → Bool) (xs : List A) → list_any (λ a. p (f a)) xs ≡ list_any p (map f xs)
+any_map f p [] = refl
+any_map f p (x ∷ xs) = ap (λ (b : Bool). p (f x) || b) (any_map f p xs)
+
+pub right_marked : (set' : Tables) (version : ℕ) (m : Option Marked) → IsRight set' version m → is_of version m ≡ true → IsMarkedBy set' m
+right_marked set' version None right is = cc
+right_marked set' version (Some m) right is = right ((Decides-eqb m.version version).0 is)
+
+pub default-is : {A : Type 0} (xs : List A) (i : ℕ) (d e : A) → i < length xs → get_or xs i d ≡ get_or xs i e
+default-is [] i d e inside = absurd (omega (arith, inside))
+default-is (x ∷ xs) zero d e inside = refl
+default-is (x ∷ xs) (suc i) d e inside = default-is xs i d e (omega (arith, inside))
+
+-- Nets with one that is changed.
+
+same-bool : (r s : Bool) {P : Type 0} → Decides r P → Decides s P → r ≡ s
+same-bool true true d e = refl
+same-bool false false d e = refl
+same-bool true false d e = sym (e.1 (d.0 refl))
+same-bool false true d e = d.1 (e.0 refl)
+
+decided : (xs ys : List ℤ) → Decides (same_nets xs ys) (xs ≡ ys)
+decided xs ys = slice_eq-Decides Decides-int_eq xs ys (same_nets xs ys) refl
+
+pub not-same : (xs ys : List ℤ) → (xs ≡ ys → ⊥) → false ≡ same_nets xs ys
+not-same xs ys differ = same-bool false (same_nets xs ys) (λ e. cc, λ e. absurd (differ e)) (decided xs ys)
+
+joined : (xs ys : List ℤ) (i : ℕ) (v d : ℤ) → i < length xs → length xs ≡ length ys → take i xs ≡ take i ys → get_or xs i d ≡ v → drop (i + 1) xs ≡ drop (i + 1) ys → xs ≡ set ys i v
+joined [] ys i v d inside long before here after = absurd (omega (arith, inside))
+joined (x ∷ xs) [] i v d inside long before here after = absurd (omega (arith, long))
+joined (x ∷ xs) (y ∷ ys) zero v d inside long before here after = ap (λ (z : ℤ). z ∷ xs) here ∙ ap (λ (zs : List ℤ). v ∷ zs) after
+joined (x ∷ xs) (y ∷ ys) (suc i) v d inside long before here after =
+    let more : suc i + 1 ≡ suc (i + 1) = omega arith in
+    let first : x ≡ y = ap (λ (zs : List ℤ). get_or zs 0 y) before in
+    let rest = joined xs ys i v d (omega (arith, inside)) (omega (arith, long)) (ap (drop 1) before) here (rw more at after) in
+    ap (λ (z : ℤ). z ∷ xs) first ∙ ap (λ (zs : List ℤ). y ∷ zs) rest
+
+pub not-long : (xs ys : List ℤ) (i : ℕ) (v : ℤ) → (length xs ≡ length ys → ⊥) → false ≡ same_nets xs (set ys i v)
+not-long xs ys i v differ = not-same xs (set ys i v) (λ e. differ (ap (λ (zs : List ℤ). length zs) e ∙ length-set ys i v))
+
+pub not-before : (xs ys : List ℤ) (i : ℕ) (v : ℤ) → (take i xs ≡ take i ys → ⊥) → false ≡ same_nets xs (set ys i v)
+not-before xs ys i v differ = not-same xs (set ys i v) (λ e. differ (ap (take i) e ∙ take-set ys i v))
+
+pub not-here : (xs ys : List ℤ) (i : ℕ) (v d : ℤ) → i < length ys → (get_or xs i d ≡ v → ⊥) → false ≡ same_nets xs (set ys i v)
+not-here xs ys i v d inside differ = not-same xs (set ys i v) (λ e. differ (ap (λ (zs : List ℤ). get_or zs i d) e ∙ get_or-set_same ys i v d inside))
+
+pub all-same : (xs ys : List ℤ) (i : ℕ) (v d : ℤ) (r : Bool) → i < length ys → length xs ≡ length ys → take i xs ≡ take i ys → get_or xs i d ≡ v → r ≡ same_nets (drop (i + 1) xs) (drop (i + 1) ys) → r ≡ same_nets xs (set ys i v)
+all-same xs ys i v d r inside long before here is =
+    let whole : Decides r (xs ≡ set ys i v) = (
+      λ e. joined xs ys i v d (omega (arith, inside, long)) long before here ((decided (drop (i + 1) xs) (drop (i + 1) ys)).0 (sym is ∙ e)),
+      λ e. is ∙ (decided (drop (i + 1) xs) (drop (i + 1) ys)).1 (ap (drop (i + 1)) e ∙ drop-set-lt (i + 1) ys i v (omega arith)),
+    )
+    in
+    same-bool r (same_nets xs (set ys i v)) whole (decided xs (set ys i v))
+
+-- A desk that fits.
+
+both-true : (a b : Bool) → (a && b) ≡ true → (a ≡ true) × (b ≡ true)
+both-true true b e = (refl, e)
+both-true false b e = cc
+
+same-is : (m n : FourNets) → same_four m n ≡ true → m ≡ n
+same-is m n e =
+    let lots = both-true (same_nets m.lots n.lots) (same_nets m.buys n.buys && (same_nets m.sales n.sales && same_nets m.all n.all)) e in
+    let buys = both-true (same_nets m.buys n.buys) (same_nets m.sales n.sales && same_nets m.all n.all) lots.1 in
+    let sales = both-true (same_nets m.sales n.sales) (same_nets m.all n.all) buys.1 in
+    four-same m n ((decided m.lots n.lots).0 lots.0) ((decided m.buys n.buys).0 buys.0) ((decided m.sales n.sales).0 sales.0) ((decided m.all n.all).0 sales.1)
+  where
+    four-same : (m n : FourNets) → m.lots ≡ n.lots → m.buys ≡ n.buys → m.sales ≡ n.sales → m.all ≡ n.all → m ≡ n
+    four-same m n a b c d = λ j. record { lots = a j; buys = b j; sales = c j; all = d j }
+
+pub fits-of : (version : ℕ) (nets : FourNets) (m : Option Marked) → fits version nets m ≡ true → is_of version m ≡ true
+fits-of version nets None is = cc
+fits-of version nets (Some m) is = (both-true (m.version == version) (same_four (nets_of m.portfolios) nets) is).0
+
+pub priced-fit : (set' : Tables) (version : ℕ) (row : Row) (change : Change) (m : Option Marked) (p : Priced) → fits version (four (moved_nets change (nets_in row))) m ≡ true → Requires set' m (required_by p) → AreSmall (required_by p) → Prices set' change row p
+priced-fit set' version row change None p is required small = cc
+priced-fit set' version row change (Some m) p is required small =
+    let nets : nets_of m.portfolios ≡ four (moved_nets change (nets_in row)) =
+    same-is (nets_of m.portfolios) (four (moved_nets change (nets_in row))) (both-true (m.version == version) (same_four (nets_of m.portfolios) (four (moved_nets change (nets_in row)))) is).1
+    in
+    prices-by set' row change p (required ∙ ap (requirements_of set') nets) small
+
+-- What tests of `!=` say.
+
+not-true : (b : Bool) → true ≡ not b → b ≡ true → ⊥
+not-true true e f = cc
+not-true false e f = cc
+
+not-not : (b : Bool) → false ≡ not b → b ≡ true
+not-not true e = refl
+not-not false e = cc
+
+pub differ : (xs ys : List ℤ) → true ≡ not (same_nets xs ys) → xs ≡ ys → ⊥
+differ xs ys test e = not-true (same_nets xs ys) test ((decided xs ys).1 e)
+
+pub alike : (xs ys : List ℤ) → false ≡ not (same_nets xs ys) → xs ≡ ys
+alike xs ys test = (decided xs ys).0 (not-not (same_nets xs ys) test)
+
+pub differ-here : (a b : ℤ) → true ≡ not (int_eq a b) → a ≡ b → ⊥
+differ-here a b test e = not-true (int_eq a b) test ((Decides-int_eq a b).1 e)
+
+pub alike-here : (a b : ℤ) → false ≡ not (int_eq a b) → a ≡ b
+alike-here a b test = (Decides-int_eq a b).0 (not-not (int_eq a b) test)
+
+-- The first that passes.
+
+first-place : {A B : Type 0} (f : A → B) (p : B → Bool) (xs : List A) (i : ℕ) (d : A) → i < length xs → p (f (get_or xs i d)) ≡ true → ((k : ℕ) → k < i → p (f (get_or xs k d)) ≡ false) → find p (map f xs) ≡ Some (f (get_or xs i d))
+first-place f p [] i d inside here before = absurd (omega (arith, inside))
+first-place f p (x ∷ xs) zero d inside here before = ap (λ (b : Bool). cond b (Some (f x)) (find p (map f xs))) here
+first-place f p (x ∷ xs) (suc i) d inside here before =
+    ap (λ (b : Bool). cond b (Some (f x)) (find p (map f xs))) (before 0 (omega arith)) ∙ first-place f p xs i d (omega (arith, inside)) here (λ k small. before (suc k) (omega (arith, small)))
+
+pub found-at : {A B : Type 0} (f : A → B) (p : B → Bool) (xs : List A) (i : ℕ) (d : A) → position (λ a. p (f a)) xs ≡ Some i → find p (map f xs) ≡ Some (f (get_or xs i d))
+found-at f p xs i d at =
+    let all = position-Some (λ a. p (f a)) xs i d at in
+    first-place f p xs i d all.0 all.1 all.2
+
+some-none : {A : Type 0} {a : A} → Some a ≡ None → ⊥
+some-none e = cc
+
+no-place : {A B : Type 0} (f : A → B) (p : B → Bool) (xs : List A) → find (λ a. p (f a)) xs ≡ None → find p (map f xs) ≡ None
+no-place f p [] none = refl
+no-place f p (x ∷ xs) none = by (λ rest. no-place f p xs rest) (p (f x)) refl
+  where
+    by : (find (λ a. p (f a)) xs ≡ None → find p (map f xs) ≡ None) → (b : Bool) → p (f x) ≡ b → find p (map f (x ∷ xs)) ≡ None
+    by more true is = absurd (some-none (sym (ap (λ (c : Bool). cond c (Some x) (find (λ a. p (f a)) xs)) is) ∙ none))
+    by more false is =
+        ap (λ (c : Bool). cond c (Some (f x)) (find p (map f xs))) is ∙ more (sym (ap (λ (c : Bool). cond c (Some x) (find (λ a. p (f a)) xs)) is) ∙ none)
+
+not-found : {A : Type 0} (p : A → Bool) (xs : List A) → position p xs ≡ None → find p xs ≡ None
+not-found p xs none = find_at p xs ∙ slice_get_past xs (position_or_len p xs) (past (nat_lt (position_or_len p xs) (length xs)) refl)
+  where
+    past : (b : Bool) → nat_lt (position_or_len p xs) (length xs) ≡ b → length xs ≤ position_or_len p xs
+    past true is = absurd (some-none (sym (ap (λ (c : Bool). cond c (Some (position_or_len p xs)) None) is) ∙ none))
+    past false is = ltb-false (position_or_len p xs) (length xs) is
+
+pub found-none : {A B : Type 0} (f : A → B) (p : B → Bool) (xs : List A) → position (λ a. p (f a)) xs ≡ None → find p (map f xs) ≡ None
+found-none f p xs none = no-place f p xs (not-found (λ a. p (f a)) xs none)
+
+-- A plan's desk among some.
+
+-- no desk of the unit
+pub unfit-none : {A : Type 0} (f : A → DeskRows) (set' : Tables) (version : ℕ) (rows : List Row) (u : UnitChange) (desks : List A) → position (λ d. (f d).unit == u.unit) desks ≡ None → fits_change set' version rows (map f desks) u ≡ false
+unfit-none f set' version rows u desks none =
+    ap (λ (o : Option DeskRows). fits version (four (moved_nets u.change (nets_in (row_at set' rows u.unit)))) (marked_in o)) (found-none f (λ d. d.unit == u.unit) desks none)
+
+-- the desk of the unit, and its row
+pub fits-place : {A : Type 0} (f : A → DeskRows) (set' : Tables) (version : ℕ) (rows : List Row) (u : UnitChange) (desks : List A) (i : ℕ) (d : A) (row : Row)
+    → u.unit < length rows → row ≡ get_or rows u.unit row → position (λ a. (f a).unit == u.unit) desks ≡ Some i → d ≡ get_or desks i d → fits_change set' version rows (map f desks) u ≡ fits version (four (moved_nets u.change (nets_in row))) (f d).marked
+fits-place {A = A} f set' version rows u desks i d row inside row_is at d_is = λ j. fits version (four (moved_nets u.change (nets_in (row-same j)))) (marked_in (desk-same j))
+  where
+    row-same : row_at set' rows u.unit ≡ row
+    row-same = default-is rows u.unit _ row inside ∙ sym row_is
+
+    desk-same : find (λ (a : DeskRows). a.unit == u.unit) (map f desks) ≡ Some (f d)
+    desk-same = found-at f (λ a. a.unit == u.unit) desks i d at ∙ ap (λ (a : A). Some (f a)) (sym d_is)
+
+-- the end of a list
+pub rest-is : (n : ℕ) (xs : List ℤ) → take (length xs - n) (drop n xs) ≡ drop n xs
+rest-is n xs = ap (λ (m : ℕ). take m (drop n xs)) (sym (length-drop n xs)) ∙ take-length (drop n xs)

@@ -1,0 +1,98 @@
+"""Proves the program and every crate below it, builds it, and answers its stored run. Called by first.sh.
+
+A run of rt keeps all others out of the crates below its own, so that it builds one after another. Here each crate is proved in a
+copy of its own as soon as those below it are, several side by side, and what that keeps goes to crates/*/out. So a second run
+takes seconds. Only tests/gate.sh proves everything anew.
+"""
+import os
+import re
+import shutil
+import subprocess
+import sys
+import tempfile
+import time
+from concurrent.futures import FIRST_COMPLETED, ThreadPoolExecutor, wait
+
+import source
+
+PROGRAM = "spand"
+# What a check holds at most, but for a few, in bytes; no machine is asked for more than it has free.
+HELD = 5 * 2**30
+
+
+def free_memory():
+    with open("/proc/meminfo", encoding="utf-8") as it:
+        return int(re.search(r"MemAvailable:\s+(\d+) kB", it.read())[1]) * 1024
+
+
+def copy_of(crate, room):
+    """Makes a copy of the crate with the libraries below it, as they are built; what the crate kept moves there."""
+    crates = [*crate.below(), crate]
+    shutil.copy(f"{source.TOP}/HANDLES", room)
+    with open(f"{source.TOP}/crates.txt", encoding="utf-8") as lines, open(f"{room}/crates.txt", "w", encoding="utf-8") as to:
+        to.writelines(line for line in lines if line.partition(":")[0].split()[:1] in [[it.name] for it in crates])
+    for it in crates:
+        to = f"{room}/crates/{it.name}"
+        shutil.copytree(it.folder, to, ignore=shutil.ignore_patterns("out"))
+        if it is not crate:
+            shutil.copytree(f"{it.folder}/out/rlib", f"{to}/out/rlib", copy_function=os.link)
+    if os.path.isdir(f"{crate.folder}/out"):
+        shutil.move(f"{crate.folder}/out", f"{room}/crates/{crate.name}/out")
+
+
+def prove(crate, jobs):
+    """Returns the crate, whether it is proved and built, what rt said, and the seconds that it took."""
+    began = time.time()
+    with tempfile.TemporaryDirectory(prefix="first-", dir=f"{source.TOP}/out") as room:
+        copy_of(crate, room)
+        folder = f"{room}/crates/{crate.name}"
+        how = {"stdin": subprocess.DEVNULL, "stdout": subprocess.PIPE, "stderr": subprocess.STDOUT, "text": True}
+        ran = subprocess.run(["rt", "lib", "--jobs", str(jobs)], cwd=folder, **how, errors="replace", check=False)
+        if os.path.isdir(f"{folder}/out"):
+            shutil.move(f"{folder}/out", f"{crate.folder}/out")
+    return crate, ran.returncode == 0 and crate.is_built(), ran.stdout, time.time() - began
+
+
+def prove_all(crates):
+    """Proves the crates, each once those below it are; returns whether all are proved."""
+    processors = len(os.sched_getaffinity(0))
+    at_once = max(1, min(processors, free_memory() // HELD))
+    waiting, done = [it for it in crates if not it.is_built()], len([it for it in crates if it.is_built()])
+    began, running, failed = time.time(), set(), False
+    with ThreadPoolExecutor(at_once) as pool:
+        while (waiting and not failed) or running:
+            # (the crates that most others wait for come first)
+            ready = [it for it in waiting if all(one.is_built() for one in it.below())] if not failed else []
+            for it in sorted(ready, key=lambda it: -sum(it in one.below() for one in waiting))[: at_once - len(running)]:
+                waiting.remove(it)
+                running.add(pool.submit(prove, it, min(processors, 4)))
+            ended, running = wait(running, return_when=FIRST_COMPLETED)
+            for it in ended:
+                crate, is_proved, said, seconds = it.result()
+                done += is_proved
+                functions = re.search(r"^logic=proved functions=(\d+)", said, re.M)
+                told = f"{functions[1]} functions, {seconds:.0f} s" if is_proved and functions else f"{seconds:.0f} s"
+                minutes = f"{(time.time() - began) / 60:.1f} min"
+                print(f"{minutes}: {crate.name} {'proved' if is_proved else 'NOT PROVED'} ({told}); {done} of {len(crates)} crates", flush=True)
+                if not is_proved:
+                    print(said, flush=True)
+                    failed = True
+    return not failed
+
+
+def main():
+    top, rt = source.TOP, source.load_rt()
+    program = next(it for it in rt.rtlib.crates_below(top) if it.name == PROGRAM)
+    os.makedirs(f"{top}/out", exist_ok=True)
+    try:
+        if not prove_all(program.below()):
+            return 1
+    finally:
+        shutil.rmtree(f"{top}/out", ignore_errors=True)
+    os.chdir(program.folder)
+    with open("stdin", "rb") as lines:
+        return subprocess.run(["rt", "run", "--", "script", "--dir", "data", "--set", "FUT"], stdin=lines, check=False).returncode
+
+
+if __name__ == "__main__":
+    sys.exit(main())
