@@ -1,5 +1,5 @@
 -- Desks beside a book, over the ways that a command goes.
-use Rattle.std.proofs.Common.{◌≡◌, ◌∙◌, ℕ, Bool, true, false, List, sym, ap, subst, true≢false}
+use Rattle.std.proofs.Common.{◌≡◌, ◌∙◌, ℕ, true, false, List, sym, subst, true≢false}
 use Rattle.mgn_params.specs.Shelves.{set_at}
 use Rattle.mgn_params.specs.Tables.{Tables}
 use Rattle.mgn_desk.specs.Desks.{DeskRows}
@@ -14,7 +14,7 @@ use Rattle.mgn_pricing.specs.Desks.{AreDesks}
 use Rattle.mgn_book.specs.BookViews.{BookView, Committed, Leaves}
 use Rattle.mgn_book.specs.declared.book.Outcome.{Outcome}
 use Rattle.mgn_script.specs.Desks.{AreAtRest, AreDesksBy, is_done}
-use Rattle.mgn_script.proofs.DeskFacts.{left-same, settled}
+use Rattle.mgn_script.proofs.DeskFacts.{settled}
 
 -- what a commit was made of: the set in force, its version and the rows, as they were read
 abbrev pub Read : Type 0
@@ -47,13 +47,3 @@ unmoved sets old new number command outcome plan r desks commit same moved at_re
 pub moved-on : (sets : List Tables) (old new : BookView) (number : ℕ) (command : Command) (outcome : Outcome) (plan : Plan) (r : Read) (desks : List DeskRows) → IsCommit sets old new number command outcome plan → is_done outcome ≡ true → r ≡ read_of sets old.book → AreDesksOf r plan desks → AreAtRest sets new.book desks
 moved-on sets old new number command outcome plan r desks commit done_is same moved =
     settle sets old new number command outcome plan desks commit (λ _. subst (λ (x : Read). AreDesksOf x plan desks) same moved) (λ done_not. absurd (true≢false (sym done_is ∙ done_not)))
-
--- desks that moved back
-pub moved-back : (sets : List Tables) (old new : BookView) (number : ℕ) (command : Command) (outcome : Outcome) (plan : Plan) (r : Read) (desks : List DeskRows) → IsCommit sets old new number command outcome plan → is_done outcome ≡ false → r ≡ read_of sets old.book → AreDesksOf r Nothing desks → AreAtRest sets new.book desks
-moved-back sets old new number command outcome plan r desks commit done_not same at_rest =
-    settle sets old new number command outcome plan desks commit (λ done_is. absurd (true≢false (sym done_is ∙ done_not))) (λ _. subst (λ (x : Read). AreDesksOf x Nothing desks) same at_rest)
-
--- the rows that are read again after a command that was not done are those before
-pub read-again : (sets : List Tables) (old new : BookView) (number : ℕ) (command : Command) (outcome : Outcome) (plan : Plan) (r : Read) (rows : List Row) → IsCommit sets old new number command outcome plan → is_done outcome ≡ false → r ≡ read_of sets old.book → rows ≡ new.book.rows → rows ≡ r.1.1
-read-again sets old new number command outcome plan r rows commit done_not same read =
-    read ∙ left-same (set_at sets old.book.state.version) (plan_of (set_at sets old.book.state.version) old.book.state command) old.book.rows new.book.rows outcome done_not commit.left ∙ sym (ap (λ (x : Read). x.1.1) same)
