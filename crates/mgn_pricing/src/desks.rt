@@ -1,5 +1,5 @@
 ghost use Rattle.std.specs.Prelude.{◌≡◌, ◌<◌, ◌≤◌, ◌+◌, [], ℕ, IfSome, OnErr, OnOk, None, length};
-ghost use Rattle.mgn_desk.specs.Desks.{CanMoveMarked, IsMarkedBy};
+ghost use Rattle.mgn_desk.specs.Desks.{CanFollowMarked, CanMoveMarked, IsMarkedBy, shown};
 ghost use Rattle.mgn_params.specs.Tables.{Tables};
 ghost use Rattle.mgn_unit.specs.Rows.{IsChange, IsRoomy, IsRow, Prices};
 ghost use Rattle.mgn_unit.specs.declared.row.Row.{Row as UnitRow};
@@ -55,7 +55,7 @@ fn is_of(desk: &Desk, version: Version) -> bool
 
 // Marks a desk with the nets of a row, unless it is marked under the version already. Where memory is refused nothing has
 // changed.
-fn ready(
+fn mark(
     desk: &mut Desk,
     alloc: Global,
     version: Version,
@@ -78,12 +78,50 @@ fn ready(
     desk.mark(alloc, version, set, &nets)
 }
 
+// Has a marked desk keep its portfolios such that they can follow moves.
+fn make_room(
+    desk: &mut Desk,
+    alloc: Global,
+    set: &ParamSet,
+    moves: &Moves,
+) -> Result<(), AllocError>
+    requires { IsMarkedBy set.now desk.old.marked }
+    ensures same { OnOk result (shown desk.new ≡ shown desk.old) }
+    ensures of_set { OnOk result (IsMarkedBy set.now desk.new.marked) }
+    ensures room { OnOk result (CanFollowMarked moves.now desk.new.marked) }
+{
+    if desk.can_follow(moves) {
+        return Ok(());
+    }
+    desk.part(alloc, set)?;
+    Ok(())
+}
+
+// Has a desk that rests be marked with the nets of a row, and be able to follow a change.
+fn ready(
+    desk: &mut Desk,
+    alloc: Global,
+    version: Version,
+    set: &ParamSet,
+    row: &Row,
+    change: &Change,
+) -> Result<(), AllocError>
+    requires row { IsRow set.now row.now }
+    requires rests { Rests set.now version (nets_in row.now) desk.old.marked }
+    ensures ready { OnOk result (IsReady set.now version (nets_in row.now) desk.new.marked) }
+    ensures room { OnOk result (CanFollowMarked (moves_of change.now) desk.new.marked) }
+{
+    mark(desk, alloc, version, set, row)?;
+    make_room(desk, alloc, set, &moves_of(change))
+}
+
 // Moves a ready desk as a change of its unit's row says, and tells what is then required.
 fn foresee(desk: &mut Desk, version: Version, set: &ParamSet, row: &Row, change: &Change) -> Priced
     requires row { IsRow set.now row.now }
     requires change { IsChange set.now change.now }
     requires roomy { IsRoomy change.now row.now }
     requires ready { IsReady set.now version (nets_in row.now) desk.old.marked }
+    requires room { CanFollowMarked (moves_of change.now) desk.old.marked }
     ensures priced { Prices set.now change.now row.now result }
     ensures ready { IsReady set.now version (moved_nets change.now (nets_in row.now)) desk.new.marked }
 {
@@ -97,14 +135,20 @@ fn foresee(desk: &mut Desk, version: Version, set: &ParamSet, row: &Row, change:
     }
 }
 
-// Moves a desk back that was moved by a change which came to nothing.
+// Moves a desk back that was moved by a change which came to nothing. A desk that cannot follow the change, which has not
+// followed it either, is emptied.
 fn take_back(desk: &mut Desk, version: Version, set: &ParamSet, row: &Row, change: &Change)
     requires row { IsRow set.now row.now }
     requires change { IsChange set.now change.now }
     requires ready { IsReady set.now version (moved_nets change.now (nets_in row.now)) desk.old.marked }
-    ensures ready { IsReady set.now version (nets_in row.now) desk.new.marked }
+    ensures { Rests set.now version (nets_in row.now) desk.new.marked }
 {
-    desk.take_back(set, &moves_of(change), &mut Work::new());
+    let moves = moves_of(change);
+    if !desk.can_follow(&moves) {
+        *desk = Desk::empty(desk.unit());
+        return;
+    }
+    desk.take_back(set, &moves, &mut Work::new());
 }
 
 impl Desks {
@@ -163,7 +207,15 @@ impl Desks {
         let unit = change.unit;
         let row = &rows[unit];
         if self.grow(rows.len()).is_err()
-            || ready(&mut self.desks[unit], alloc, version, set, row).is_err()
+            || ready(
+                &mut self.desks[unit],
+                alloc,
+                version,
+                set,
+                row,
+                &change.change,
+            )
+            .is_err()
         {
             self.forget(unit);
             return None;
@@ -172,13 +224,13 @@ impl Desks {
         Some(foresee(desk, version, set, row, &change.change))
     }
 
-    /// Moves the desk of a unit back, after a change that came to nothing.
+    /// Moves the desk of a unit back, after a change that came to nothing. It then is as before the change, or empty.
     pub fn take_back(&mut self, version: Version, set: &ParamSet, rows: &[Row], change: &UnitChange)
         requires possible { CanChange set.now rows.now change.now }
         requires ready { IsReady set.now version
             (moved_nets change.now.change (nets_in (row_at set.now rows.now change.now.unit)))
             (marked_at self.old change.now.unit) }
-        ensures ready { IsReady set.now version (nets_in (row_at set.now rows.now change.now.unit))
+        ensures rests { Rests set.now version (nets_in (row_at set.now rows.now change.now.unit))
             (marked_at self.new change.now.unit) }
         ensures others { KeepsOthers change.now.unit self.old self.new }
         ensures long { length self.new ≡ length self.old }

@@ -20,7 +20,7 @@ use Rattle.mgn_pricing.specs.Desks.{AreDesks, ForeseenBy, IsReady, KeepsOthers, 
 use Rattle.mgn_book.specs.BookViews.{BookView, Committed, Leaves}
 use Rattle.mgn_book.specs.declared.book.Outcome.{Outcome}
 use Rattle.mgn_script.specs.Desks.{AreAtRest, AreDesksBy, is_done}
-use Rattle.mgn_script.proofs.DeskFacts.{by-other, foreseen-one, foreseen-two, forgotten, left-same, rests, rests-none, settled, taken-back}
+use Rattle.mgn_script.proofs.DeskFacts.{by-other, foreseen-one, foreseen-two, forgotten, left-same, rests-none, settled, taken-back}
 
 -- what a commit was made of: the set in force, its version and the rows, as they were read
 abbrev pub Read : Type 0
@@ -66,11 +66,11 @@ one-done sets old new number command outcome r u before after told commit done_i
 
 pub one-back : (sets : List Tables) (old new : BookView) (number : ℕ) (command : Command) (outcome : Outcome) (r : Read) (u : UnitChange) (before after back : List DeskRows) (told : Option Priced) → IsCommit sets old new number command outcome (One u) → is_done outcome ≡ false → r ≡ read_of sets old.book
     → AreAtRest sets old.book before → ForeseenBy r.0 r.1.0 r.1.1 u told (marked_at after u.unit) → KeepsOthers u.unit before after → (length before ≤ length r.1.1 → length after ≤ length r.1.1)
-    → IsReady r.0 r.1.0 (nets_in (row_at r.0 r.1.1 u.unit)) (marked_at back u.unit) → KeepsOthers u.unit after back → length back ≡ length after → AreAtRest sets new.book back
-one-back sets old new number command outcome r u before after back told commit done_not same at_rest foreseen others few ready kept long =
+    → Rests r.0 r.1.0 (nets_in (row_at r.0 r.1.1 u.unit)) (marked_at back u.unit) → KeepsOthers u.unit after back → length back ≡ length after → AreAtRest sets new.book back
+one-back sets old new number command outcome r u before after back told commit done_not same at_rest foreseen others few rested kept long =
     settle sets old new number command outcome (One u) back commit (λ done_is. absurd (true≢false (sym done_is ∙ done_not)))
     (λ _. taken-back (set_at sets old.book.state.version) old.book.state.version old.book.rows u after back (one-moved sets old.book r u before after told same at_rest foreseen others few)
-    (subst (λ (x : Read). IsReady x.0 x.1.0 (nets_in (row_at x.0 x.1.1 u.unit)) (marked_at back u.unit)) same ready) kept long)
+    (subst (λ (x : Read). Rests x.0 x.1.0 (nets_in (row_at x.0 x.1.1 u.unit)) (marked_at back u.unit)) same rested) kept long)
 
 -- the rows that are read again after a command that was not done are those before
 pub read-again : (sets : List Tables) (old new : BookView) (number : ℕ) (command : Command) (outcome : Outcome) (plan : Plan) (r : Read) (rows : List Row) → IsCommit sets old new number command outcome plan → is_done outcome ≡ false → r ≡ read_of sets old.book → rows ≡ new.book.rows → rows ≡ r.1.1
@@ -140,9 +140,9 @@ two-fallback sets old new number command outcome r u v before between moved empt
 
 pub two-back : (sets : List Tables) (old new : BookView) (number : ℕ) (command : Command) (outcome : Outcome) (r : Read) (u v : UnitChange) (before between moved given taken : List DeskRows) → IsCommit sets old new number command outcome (Two u v) → is_done outcome ≡ false → r ≡ read_of sets old.book → v.unit ≢ u.unit
     → AreAtRest sets old.book before → KeepsOthers u.unit before between → (length before ≤ length r.1.1 → length between ≤ length r.1.1) → KeepsOthers v.unit between moved → (length between ≤ length r.1.1 → length moved ≤ length r.1.1)
-    → IsReady r.0 r.1.0 (nets_in (row_at r.0 r.1.1 u.unit)) (marked_at given u.unit) → KeepsOthers u.unit moved given → length given ≡ length moved
-    → IsReady r.0 r.1.0 (nets_in (row_at r.0 r.1.1 v.unit)) (marked_at taken v.unit) → KeepsOthers v.unit given taken → length taken ≡ length given → AreAtRest sets new.book taken
-two-back sets old new number command outcome r u v before between moved given taken commit done_not same apart at_rest first few second few_too ready third_kept long ready_too fourth long_too =
+    → Rests r.0 r.1.0 (nets_in (row_at r.0 r.1.1 u.unit)) (marked_at given u.unit) → KeepsOthers u.unit moved given → length given ≡ length moved
+    → Rests r.0 r.1.0 (nets_in (row_at r.0 r.1.1 v.unit)) (marked_at taken v.unit) → KeepsOthers v.unit given taken → length taken ≡ length given → AreAtRest sets new.book taken
+two-back sets old new number command outcome r u v before between moved given taken commit done_not same apart at_rest first few second few_too rested third_kept long rested_too fourth long_too =
     settle sets old new number command outcome (Two u v) taken commit (λ done_is. absurd (true≢false (sym done_is ∙ done_not))) (λ _. back)
   where
     set' : Tables
@@ -156,19 +156,19 @@ two-back sets old new number command outcome r u v before between moved given ta
         let bounds = subst (λ (x : Read). length before ≤ length x.1.1 → length between ≤ length x.1.1) same few at_rest.few in
         omega (arith, long_too, long, subst (λ (x : Read). length between ≤ length x.1.1 → length moved ≤ length x.1.1) same few_too bounds)
 
-    giver : IsReady set' version (nets_in (row_at set' old.book.rows u.unit)) (marked_at taken u.unit)
+    giver : Rests set' version (nets_in (row_at set' old.book.rows u.unit)) (marked_at taken u.unit)
     giver =
-        subst (λ (m : Option Marked). IsReady set' version (nets_in (row_at set' old.book.rows u.unit)) m) (sym (fourth u.unit (λ e. apart (sym e))))
-        (subst (λ (x : Read). IsReady x.0 x.1.0 (nets_in (row_at x.0 x.1.1 u.unit)) (marked_at given u.unit)) same ready)
+        subst (λ (m : Option Marked). Rests set' version (nets_in (row_at set' old.book.rows u.unit)) m) (sym (fourth u.unit (λ e. apart (sym e))))
+        (subst (λ (x : Read). Rests x.0 x.1.0 (nets_in (row_at x.0 x.1.1 u.unit)) (marked_at given u.unit)) same rested)
 
-    taker : IsReady set' version (nets_in (row_at set' old.book.rows v.unit)) (marked_at taken v.unit)
-    taker = subst (λ (x : Read). IsReady x.0 x.1.0 (nets_in (row_at x.0 x.1.1 v.unit)) (marked_at taken v.unit)) same ready_too
+    taker : Rests set' version (nets_in (row_at set' old.book.rows v.unit)) (marked_at taken v.unit)
+    taker = subst (λ (x : Read). Rests x.0 x.1.0 (nets_in (row_at x.0 x.1.1 v.unit)) (marked_at taken v.unit)) same rested_too
 
     kept : (k : ℕ) → k ≢ u.unit → k ≢ v.unit → marked_at taken k ≡ marked_at before k
     kept k a b = fourth k b ∙ third_kept k a ∙ second k b ∙ first k a
 
     back : AreDesks set' version Nothing old.book.rows taken
-    back = two-rest set' version Nothing old.book.rows u v before taken at_rest short kept (λ k nets a b. refl) (rests set' version _ (marked_at taken u.unit) giver) (rests set' version _ (marked_at taken v.unit) taker)
+    back = two-rest set' version Nothing old.book.rows u v before taken at_rest short kept (λ k nets a b. refl) giver taker
 
 -- a desk whose requirement is told is ready
 pub ready-foreseen : (set' : Tables) (version : ℕ) (rows : List Row) (u : UnitChange) (told : Option Priced) (now : Option Marked) → is_none told ≡ false → ForeseenBy set' version rows u told now → IsReady set' version (moved_nets u.change (nets_in (row_at set' rows u.unit))) now

@@ -19,16 +19,12 @@ use Rattle.mgn_register.specs.declared.plans.UnitChange.{UnitChange}
 use Rattle.mgn_register.specs.BookStates.{BookState}
 use Rattle.mgn_register.specs.Plans.{FollowsPlan, UnitNets, moved_nets, nets_by, nets_in, planned_nets}
 use Rattle.mgn_register.specs.TransferRows.{row_at}
-use Rattle.mgn_pricing.specs.Desks.{AreDesks, ForeseenBy, IsReady, IsReadyWith, KeepsOthers, Rests, marked_at}
+use Rattle.mgn_pricing.specs.Desks.{AreDesks, ForeseenBy, KeepsOthers, Rests, marked_at}
+use Rattle.mgn_pricing.proofs.Moved.{rests}
 use Rattle.mgn_book.specs.BookViews.{BookView, Committed, Leaves}
 use Rattle.mgn_book.specs.declared.book.Outcome.{Outcome}
 use Rattle.mgn_book.specs.declared.book.Outcome.TheVariants.{Done, Full, Memory}
 use Rattle.mgn_script.specs.Desks.{AreAtRest, AreDesksBy, is_done}
-
--- a desk that is ready rests
-pub rests : (set' : Tables) (version : ℕ) (nets : UnitNets) (now : Option Marked) → IsReady set' version nets now → Rests set' version nets now
-rests set' version nets None ready = tt
-rests set' version nets (Some m) ready = (omega (arith, ready.under), λ same. ready)
 
 pub rests-none : (set' : Tables) (version : ℕ) (nets : UnitNets) (now : Option Marked) → now ≡ None → Rests set' version nets now
 rests-none set' version nets now none = subst (λ (m : Option Marked). Rests set' version nets m) (sym none) tt
@@ -84,12 +80,12 @@ forgotten set' version plan rows u desks at_one none = record {
 -- After a commit.
 
 -- a desk that moved back
-pub taken-back : (set' : Tables) (version : ℕ) (rows : List Row) (u : UnitChange) (old new : List DeskRows) → AreDesks set' version (One u) rows old → IsReady set' version (nets_in (row_at set' rows u.unit)) (marked_at new u.unit)
+pub taken-back : (set' : Tables) (version : ℕ) (rows : List Row) (u : UnitChange) (old new : List DeskRows) → AreDesks set' version (One u) rows old → Rests set' version (nets_in (row_at set' rows u.unit)) (marked_at new u.unit)
     → KeepsOthers u.unit old new → length new ≡ length old → AreDesks set' version Nothing rows new
-taken-back set' version rows u old new at_one ready others long = record {
+taken-back set' version rows u old new at_one at_rest others long = record {
   few = omega (arith, long, at_one.few);
   each = λ k. ⊎_elim
-      (λ (same : u.unit ≡ k). subst (λ (j : ℕ). Rests set' version (nets_in (row_at set' rows j)) (marked_at new j)) same (rests set' version (nets_in (row_at set' rows u.unit)) (marked_at new u.unit) ready))
+      (λ (same : u.unit ≡ k). subst (λ (j : ℕ). Rests set' version (nets_in (row_at set' rows j)) (marked_at new j)) same at_rest)
       (λ (apart : u.unit ≢ k). subst (λ (m : Option Marked). Rests set' version (nets_in (row_at set' rows k)) m) (sym (others k (λ e. apart (sym e))))
       (subst (λ (nets : UnitNets). Rests set' version nets (marked_at old k)) (by-other u k (nets_in (row_at set' rows k)) apart) (at_one.each k)))
       (cases_eq u.unit k);
