@@ -1,5 +1,5 @@
 -- Desks beside a book, over the ways that a command goes.
-use Rattle.std.proofs.Common.{◌≡◌, ◌≢◌, ◌<◌, ◌≤◌, ◌∙◌, ⊎_elim, ℕ, Bool, true, false, List, length, Option, Some, None, sym, ap, subst, refl, arith, eq-eqb, ne_eqb, true≢false}
+use Rattle.std.proofs.Common.{◌≡◌, ◌≢◌, ◌≤◌, ◌∙◌, ⊎_elim, ℕ, true, false, List, length, Option, Some, None, sym, ap, subst, refl, arith, true≢false}
 use Rattle.std.proofs.lemmas.Bool.{cases_eq}
 use Rattle.std.specs.Prelude.{is_none}
 use Rattle.mgn_params.specs.Shelves.{set_at}

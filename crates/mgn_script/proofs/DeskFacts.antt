@@ -1,5 +1,5 @@
 -- Desks beside a book, before and after a commit.
-use Rattle.std.proofs.Common.{◌≡◌, ◌≢◌, ◌<◌, ◌≤◌, ◌∙◌, ◌⊎◌, ⊎_elim, ℕ, Bool, true, false, List, [], length, Option, Some, None, sym, ap, subst, refl, arith, eq-eqb, ne_eqb, true≢false}
+use Rattle.std.proofs.Common.{◌≡◌, ◌≢◌, ◌<◌, ◌≤◌, ◌∙◌, ⊎_elim, ℕ, Bool, true, false, List, [], length, Option, Some, None, sym, ap, subst, refl, arith, eq-eqb, ne_eqb, true≢false}
 use Rattle.std.proofs.lemmas.Bool.{cases_eq, cases_lt}
 use Rattle.std.proofs.lemmas.List.{get_or_past}
 use Rattle.mgn_params.specs.Shelves.{set_at}
@@ -7,7 +7,6 @@ use Rattle.mgn_params.specs.Tables.{Tables}
 use Rattle.mgn_desk.specs.declared.desk.Marked.{Marked}
 use Rattle.mgn_desk.specs.Desks.{DeskRows}
 use Rattle.mgn_machine.specs.declared.command.Command.{Command}
-use Rattle.mgn_machine.specs.declared.reply.Reply.{Reply}
 use Rattle.mgn_machine.specs.declared.reply.Reply.TheVariants as reply
 use Rattle.mgn_machine.specs.declared.request.Request.TheVariants.{Do}
 use Rattle.mgn_machine.proofs.Versions.{keeps_version}
@@ -17,7 +16,7 @@ use Rattle.mgn_register.specs.declared.plans.Plan.{Plan}
 use Rattle.mgn_register.specs.declared.plans.Plan.TheVariants.{Nothing, One, Two}
 use Rattle.mgn_register.specs.declared.plans.UnitChange.{UnitChange}
 use Rattle.mgn_register.specs.BookStates.{BookState}
-use Rattle.mgn_register.specs.Plans.{FollowsPlan, UnitNets, moved_nets, nets_by, nets_in, planned_nets}
+use Rattle.mgn_register.specs.Plans.{FollowsPlan, UnitNets, moved_nets, nets_by, nets_in}
 use Rattle.mgn_register.specs.TransferRows.{row_at}
 use Rattle.mgn_pricing.specs.Desks.{AreDesks, ForeseenBy, KeepsOthers, Rests, marked_at}
 use Rattle.mgn_pricing.proofs.Moved.{rests}

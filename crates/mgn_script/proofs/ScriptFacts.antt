@@ -1,5 +1,5 @@
 -- A session over a book of one session is a run of the machine, under the sets that there are in the end.
-use Rattle.std.proofs.Common.{◌≡◌, ◌+◌, ◌-◌, ◌∙◌, ◌<◌, ◌≤◌, ℕ, List, [], ◌∷◌, ◌++◌, length, Option, Some, None, Result, Ok, Err, IfOk, OnErr, refl, sym, ap, subst, arith, append_assoc, length-append, inl, inr}
+use Rattle.std.proofs.Common.{◌≡◌, ◌+◌, ◌-◌, ◌∙◌, ◌<◌, ℕ, List, [], ◌∷◌, ◌++◌, length, Option, Some, None, Result, Ok, Err, IfOk, OnErr, refl, sym, ap, subst, arith, append_assoc, length-append, inl, inr}
 use Rattle.std.proofs.lemmas.List.{append-nil, get_or_append_left, get_or-append_right}
 use Rattle.mgn_params.specs.Shelves.{set_at}
 use Rattle.mgn_params.specs.Tables.{Tables, no_tables}
@@ -7,18 +7,16 @@ use Rattle.mgn_machine.specs.History.{entry, items_of, recorded, replay, request
 use Rattle.mgn_machine.specs.NewSet.{on_call, set_fits}
 use Rattle.mgn_machine.specs.State.{State, start}
 use Rattle.mgn_machine.specs.Step.{step, step_under, switched}
-use Rattle.mgn_machine.specs.declared.entry.Entry.{Entry}
 use Rattle.mgn_machine.specs.declared.request.Request.{Request}
 use Rattle.mgn_machine.specs.declared.request.Request.TheVariants.{Do, Switch}
 use Rattle.mgn_machine.proofs.Histories.{replay-push}
 use Rattle.mgn_machine.proofs.Versions.{keeps_version}
-use Rattle.mgn_machine.specs.declared.reply.Answer.{Answer}
 use Rattle.mgn_machine.specs.declared.reply.Refusal.{Refusal}
 use Rattle.mgn_machine.specs.declared.reply.Reply.{Reply}
 use Rattle.mgn_machine.specs.declared.reply.Reply.TheVariants.{Done, Figures, NewSet, Statement, Totals, Refused}
 use Rattle.mgn_book.specs.BookViews.{BookView, opening, sets_after}
 use Rattle.mgn_session.specs.Conversation.{ConversationView}
-use Rattle.mgn_session.specs.Session.{Answers, Call, Calls, Fetch, HasAnswered, HasStopped, HasTooMuch, IsCaughtUp, IsSession, IsUnplaced, Step}
+use Rattle.mgn_session.specs.Session.{Answers, Call, Calls, Fetch, HasAnswered, HasStopped, HasTooMuch, IsCaughtUp, IsSession, IsUnplaced}
 use Rattle.mgn_session.specs.declared.fault.SessionFault.{SessionFault}
 use Rattle.mgn_session.proofs.Seen.{IsSeen, IsSeenCall, seen_answered, seen_caught_up, seen_session, seen_stopped, seen_too_much, session_before, with_source}
 use Rattle.mgn_script.proofs.PlainFacts.{refused_sets}

@@ -1,4 +1,4 @@
-use Rattle.std.proofs.Common.{◌≡◌, ◌∙◌, sym, rules}
+use Rattle.std.proofs.Common.{◌≡◌, rules}
 use Rattle.mgn_params.specs.Shelves.{set_at}
 use Rattle.mgn_register.specs.Plans.{plan_of}
 use Rattle.mgn_register.specs.declared.plans.Plan.TheVariants.{Nothing}

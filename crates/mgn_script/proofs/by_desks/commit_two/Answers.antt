@@ -1,4 +1,4 @@
-use Rattle.std.proofs.Common.{◌≡◌, ◌≢◌, ◌≤◌, ◌∙◌, sym, ap, subst, rules, false, List, length, Option}
+use Rattle.std.proofs.Common.{◌≡◌, ◌≤◌, ◌∙◌, sym, subst, rules, false, List, length, Option}
 use Rattle.std.specs.Prelude.{is_none}
 use Rattle.mgn_params.specs.Shelves.{set_at}
 use Rattle.mgn_desk.specs.declared.desk.Marked.{Marked}
@@ -95,3 +95,34 @@ returns-else-not-is_done-clause-desks c =
     in
     two-done sets old new c.args.number c.args.command.now c.commit_known-outcome.result read c.args.giver.now c.args.taker.now c.args.desks.now between moved c.foresee-given.result c.foresee-taken.result commit (sym c.is_done.ensures ∙ c.if-not-is_done.false) same c.requires.possible.2 c.requires.desks
     c.foresee-given.ensures.foreseen c.foresee-given.ensures.others c.foresee-given.ensures.few foreseen c.foresee-taken.ensures.others few
+
+pub returns-then-not-is_done-clause-desks : goal.returns-then-not-is_done-clause-desks
+returns-then-not-is_done-clause-desks c =
+    let sets = c.args.shelf.now in
+    let old = c.args.book.now in
+    let new = c.commit_known-outcome.new.self in
+    let giver = c.args.giver.now in
+    let taker = c.args.taker.now in
+    let outcome = c.commit_known-outcome.result in
+    let set' = c.in-Some.set.now in
+    let version = c.version-version.result in
+    let set_is : set' ≡ set_at sets old.book.state.version = search rules in
+    let read : Read = (set', (version, c.rows.result.now)) in
+    let same : read ≡ read_of sets old.book = λ j. (set_is j, (c.version-version.ensures j, c.rows.ensures j)) in
+    let between = c.foresee-given.new.self in
+    let moved = c.foresee-taken.new.self in
+    let given = c.take_back.new.self in
+    let taken = c.take_back-then-not-is_done.new.self in
+    let rows = c.rows-2.ensures ∙ sym c.rows.ensures in
+    let few = subst (λ (x : List Row). length between ≤ length x → length moved ≤ length x) rows c.foresee-taken.ensures.few in
+    let committed = rw c.new-session.ensures at c.commit_known-outcome.ensures.committed in
+    let commit : IsCommit sets old new c.args.number c.args.command.now outcome (Two giver taker) =
+    record { planned = c.requires.plan; committed = committed; left = c.commit_known-outcome.ensures.nets }
+    in
+    let not_done = sym c.is_done.ensures ∙ c.if-not-is_done.true in
+    let again = read-again sets old new c.args.number c.args.command.now outcome (Two giver taker) read c.rows-then-not-is_done.result.now commit not_done same c.rows-then-not-is_done.ensures in
+    let again_too = read-again sets old new c.args.number c.args.command.now outcome (Two giver taker) read c.rows-then-not-is_done-2.result.now commit not_done same c.rows-then-not-is_done-2.ensures in
+    let rested = subst (λ (x : List Row). Rests set' version (nets_in (row_at set' x giver.unit)) (marked_at given giver.unit)) again c.take_back.ensures.rests in
+    let rested_too = subst (λ (x : List Row). Rests set' version (nets_in (row_at set' x taker.unit)) (marked_at taken taker.unit)) again_too c.take_back-then-not-is_done.ensures.rests in
+    two-back sets old new c.args.number c.args.command.now outcome read giver taker c.args.desks.now between moved given taken commit not_done same c.requires.possible.2 c.requires.desks
+    c.foresee-given.ensures.others c.foresee-given.ensures.few c.foresee-taken.ensures.others few rested c.take_back.ensures.others c.take_back.ensures.long rested_too c.take_back-then-not-is_done.ensures.others c.take_back-then-not-is_done.ensures.long
