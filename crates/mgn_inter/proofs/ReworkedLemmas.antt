@@ -1,5 +1,6 @@
 -- The places of the spreads that were formed again, when one more may have been.
-use Rattle.std.proofs.Common.{◌≡◌, ℕ, ◌+◌, ◌<◌, ◌≤◌, false, List, [], ◌∷◌, ◌++◌, length, ap, ◌∙◌, sym, subst, arith, ⊎_elim, All, length-append}
+use Rattle.std.proofs.Common.{◌≡◌, ℕ, ◌+◌, ◌<◌, ◌≤◌, Bool, true, false, inl, inr, List, [], ◌∷◌, ◌++◌, length, ap, ◌∙◌, sym, subst, arith, ⊎_elim, All, length-append}
+use Rattle.std.specs.Prelude.{if◌then◌else◌}
 use Rattle.std.proofs.lemmas.Bool.{or_parts}
 use Rattle.std.proofs.lemmas.List.Elements.{All-push}
 use Rattle.std.proofs.lemmas.List.Folds.{list_any-append}
@@ -31,3 +32,14 @@ others_next k spreads old new i next h =
     (λ (more : new ≡ old ++ i ∷ []).
     (or_parts (named k spreads old) (named k spreads (i ∷ [])) (sym (list_any-append p old (i ∷ [])) ∙ ap (λ (xs : List ℕ). named k spreads xs) (sym more) ∙ h)).0)
     next
+
+-- A place that may be told.
+pub told_next : (told : Bool) (old new : List ℕ) (i : ℕ) → new ≡ (if told then old ++ i ∷ [] else old) → IsNextOf old i new
+told_next true old new i is = inr is
+told_next false old new i is = inl is
+
+pub told_out : (k : ℕ) (spreads : List CreditSpread) (old new : List ℕ) (i : ℕ) → new ≡ old ++ i ∷ [] → named k spreads new ≡ false → names k (legs_of (credit_spread_at spreads i)) ≡ false
+told_out k spreads old new i is h =
+    let p = λ (n : ℕ). names k (legs_of (credit_spread_at spreads n)) in
+    let last = (or_parts (named k spreads old) (named k spreads (i ∷ [])) (sym (list_any-append p old (i ∷ [])) ∙ ap (λ (xs : List ℕ). named k spreads xs) (sym is) ∙ h)).1 in
+    (or_parts (names k (legs_of (credit_spread_at spreads i))) false last).0

@@ -2,6 +2,7 @@
 -- formed again.
 use Rattle.std.proofs.Common.{◌≡◌, ◌≢◌, ℕ, zero, suc, ◌+◌, ◌*◌, ◌<◌, ◌≤◌, ◌^◌, Bool, true, false, List, length, take, get_or, slice_index, slice_set, replicate, pos, ℤ, ap, ◌∙◌, sym, arith, refl, add-one, ⊎_elim, All, length-set, length-take, get_or-set_same, get_or-set_other, eq-eqb, ne_eqb, take_all}
 use Rattle.std.specs.Prelude.{◌==◌, ◌||◌, if◌then◌else◌}
+use Rattle.std.specs.Int.{bit_at}
 use Rattle.std.proofs.lemmas.Bool.{cases_Bool, cases_eq, cases_lt, or_parts, true≢false}
 use Rattle.std.proofs.lemmas.List.{ext_get_or, get_or-replicate, get_or_past, length-replicate}
 use Rattle.std.proofs.lemmas.List.Elements.{All-replicate, All-set}
@@ -17,7 +18,7 @@ use Rattle.mgn_span.specs.Sizes.{IsDelta}
 use Rattle.mgn_inter.specs.declared.kept.Kept.{Kept}
 use Rattle.mgn_inter.specs.Sizes.{IsRisk}
 use Rattle.mgn_inter.specs.Credited.{AreCreditsOf, IsAtTurn}
-use Rattle.mgn_inter.specs.Rows.{AreNear, brought, Credited, IsKept, kept_at, leg_at, marked, MissesBelow, moved_at, names, nothing_kept, reached, rests_at, share_at, share_of, state_of}
+use Rattle.mgn_inter.specs.Rows.{AreNear, brought, Credited, AreWaiting, IsKept, kept_at, leg_at, marked, Misses, moved_at, names, nothing_kept, reached, rests_at, share_at, share_of, state_of}
 use Rattle.mgn_inter.specs.Shares.{shares}
 use Rattle.mgn_inter.proofs.LegLemmas.{Agree, AgreeOn, brought_is, length-brought, length-marked, marked_is, marked_out, named_all, share_out}
 use Rattle.mgn_inter.proofs.SpreadLemmas.{formed_long, formed_out, formed_same, kept_same, kept_small}
@@ -101,8 +102,8 @@ turn_passed set g was moved i c at h none =
           (λ (other : j ≢ i). at.done j (omega arith))
           (cases_eq j i);
       left = λ j low inside. at.left j (omega arith) inside;
-      one_first_each = at.one_first_each;
-      firsts = at.firsts;
+      one_naming_each = at.one_naming_each;
+      naming = at.naming;
     }
 
 -- the rests that are brought are those of the turn, for the legs and for what has moved
@@ -229,8 +230,8 @@ turn_reworked set g was moved marks i c rests credits own limits at h rests_are 
           (cases_eq j i);
       left = λ j low inside.
           rw (kept_other c.kept i j own (λ e. omega (arith, e, low))) (at.left j (omega arith) inside);
-      one_first_each = at.one_first_each;
-      firsts = at.firsts;
+      one_naming_each = at.one_naming_each;
+      naming = at.naming;
     }
 
 -- its credits of the commodities that the spread does not name are as they were
@@ -291,8 +292,8 @@ turn_first set g was d x limits are low small risk = record {
   one_kept_each = are.one_kept_each;
   done = λ j h. absurd (omega arith);
   left = λ j h inside. are.kept j inside;
-  one_first_each = are.one_first_each ∙ sym (length-set was.deltas g d);
-  firsts = λ k h. are.firsts k (omega (arith, h, length-set was.deltas g d));
+  one_naming_each = are.one_naming_each ∙ sym (length-set was.deltas g d);
+  naming = are.naming;
 }
 
 -- the spreads before the first that names the commodity are passed over
@@ -303,11 +304,36 @@ unreached_first g legs none =
     let other : c ≢ g = λ e. true≢false (sym (list_any_at (λ (leg : Leg). leg.commodity == g) legs j d low (eq-eqb c g e)) ∙ none) in
     rw (ne_eqb c g other) (mark_other g c other))
 
-pub turn_skipped : (set : Tables) (g : ℕ) (was c : Credited) (n : ℕ) → n ≤ length set.credits → MissesBelow set.credits n g → IsAtTurn set g was (slice_set (replicate 256 false) g true) 0 c → IsAtTurn set g was (slice_set (replicate 256 false) g true) n c
+-- Those that name the commodity wait first, then those that a rest reaches which has moved.
+pub waiting_first : (spreads : List CreditSpread) (g waiting : ℕ) → Misses spreads waiting g → AreWaiting spreads g (slice_set (replicate 256 false) g true) 0 waiting
+waiting_first spreads g waiting misses j from inside none =
+    unreached_first g (legs_of (credit_spread_at spreads j)) (misses j inside none)
+
+pub waiting_next : (spreads : List CreditSpread) (g i : ℕ) (naming : List ℕ) (moved marks : List Bool) (old new : ℕ) → ((k : ℕ) → Misses spreads (slice_index naming k) k) → AreWaiting spreads g moved i old → ((j : ℕ) → bit_at new j ≡ 0 → bit_at old j ≡ 0) → let legs = legs_of (credit_spread_at spreads i) in ((j n : ℕ) → bit_at new j ≡ 0 → n < length legs → moved_at marks (leg_at legs n).commodity ≡ true → bit_at (slice_index naming (leg_at legs n).commodity) j ≡ 0) → ((k : ℕ) → names k legs ≡ false → moved_at marks k ≡ moved_at moved k) → AreWaiting spreads g marks (i + 1) new
+waiting_next spreads g i naming moved marks old new misses wait kept added out j from inside none =
+    let own = legs_of (credit_spread_at spreads i) in
+    let legs = legs_of (credit_spread_at spreads j) in
+    let was : reached moved g legs ≡ false = wait j (omega arith) inside (kept j none) in
+    list_any_none (λ (leg : Leg). (leg.commodity == g) || moved_at marks leg.commodity) legs (λ n d low.
+    let c = (get_or legs n d).commodity in
+    let no : ((c == g) || moved_at moved c) ≡ false = no_by ((c == g) || moved_at moved c) (λ yes. true≢false (sym (list_any_at (λ (leg : Leg). (leg.commodity == g) || moved_at moved leg.commodity) legs n d low yes) ∙ was)) in
+    let parts = or_parts (c == g) (moved_at moved c) no in
+    let unmoved : moved_at marks c ≡ false =
+    ⊎_elim
+    (λ (named : names c own ≡ true).
+    no_by (moved_at marks c) (λ yes.
+    let bit = named_all (λ (k : ℕ). moved_at marks k ≡ true → bit_at (slice_index naming k) j ≡ 0) c own (λ m inner. added j m none inner) named yes in
+    true≢false (sym (list_any_at (λ (leg : Leg). leg.commodity == c) legs n d low (eq-eqb c c refl)) ∙ misses c j inside bit)))
+    (λ (other : names c own ≡ false). out c other ∙ parts.1)
+    (cases_Bool (names c own))
+    in
+    rw (parts.0, unmoved) refl)
+
+pub turn_skipped : (set : Tables) (g : ℕ) (was c : Credited) (n : ℕ) → n ≤ length set.credits → ((i : ℕ) → i < n → names g (legs_of (credit_spread_at set.credits i)) ≡ false) → IsAtTurn set g was (slice_set (replicate 256 false) g true) 0 c → IsAtTurn set g was (slice_set (replicate 256 false) g true) n c
 turn_skipped set g was c zero h misses at = at
 turn_skipped set g was c (suc n) h misses at =
-    let before = turn_skipped set g was c n (omega arith) (λ i low inside. misses i (omega arith) inside) at in
-    rw (← add-one) (turn_passed set g was (slice_set (replicate 256 false) g true) n c before (omega arith) (unreached_first g (legs_of (credit_spread_at set.credits n)) (misses n (omega arith) (omega arith))))
+    let before = turn_skipped set g was c n (omega arith) (λ i low. misses i (omega arith)) at in
+    rw (← add-one) (turn_passed set g was (slice_set (replicate 256 false) g true) n c before (omega arith) (unreached_first g (legs_of (credit_spread_at set.credits n)) (misses n (omega arith))))
 
 -- After the last spread everything is kept for the new numbers.
 pub turn_last : (set : Tables) (g : ℕ) (was : Credited) (moved : List Bool) (c : Credited) → IsWithinLimits set → IsAtTurn set g was moved (length set.credits) c → AreCreditsOf set c
@@ -322,14 +348,14 @@ turn_last set g was moved c limits at =
       credits = ext_get_or 0 c.credits of long (λ k h. at.credits k ∙ sym (shares_are c.deltas c.risks set.credits c.kept k n (omega arith) at.done)) ∙ all_spreads c.deltas c.risks set.credits;
       one_kept_each = at.one_kept_each;
       kept = at.done;
-      one_first_each = at.one_first_each;
-      firsts = at.firsts;
+      one_naming_each = at.one_naming_each;
+      naming = at.naming;
       small = λ k. turn_room set g was moved n c k limits at;
     }
 
 -- Nothing held.
-pub credits_none : (set : Tables) (c : Credited) → IsWithinLimits set → let n = length set.commodities in c.deltas ≡ replicate n (pos 0) → c.risks ≡ replicate n 0 → c.rests ≡ replicate n (pos 0) → c.credits ≡ replicate n 0 → c.kept ≡ replicate (length set.credits) nothing_kept → length c.firsts ≡ n → ((g : ℕ) → g < n → MissesBelow set.credits (slice_index c.firsts g) g) → AreCreditsOf set c
-credits_none set c limits deltas risks rests credits kept firsts misses =
+pub credits_none : (set : Tables) (c : Credited) → IsWithinLimits set → let n = length set.commodities in c.deltas ≡ replicate n (pos 0) → c.risks ≡ replicate n 0 → c.rests ≡ replicate n (pos 0) → c.credits ≡ replicate n 0 → c.kept ≡ replicate (length set.credits) nothing_kept → length c.naming ≡ n → ((g : ℕ) → Misses set.credits (slice_index c.naming g) g) → AreCreditsOf set c
+credits_none set c limits deltas risks rests credits kept naming misses =
     let n = length set.commodities in
     let zeros = replicate n (pos 0) in
     let state = λ (i : ℕ) (h : i ≤ length set.credits). state_none n i (replicate n 0) set.credits h limits.credits in
@@ -346,7 +372,7 @@ credits_none set c limits deltas risks rests credits kept firsts misses =
       one_kept_each = omega (arith, ap (λ (r : List Kept). length r) kept, length-replicate {A = Kept} (length set.credits) nothing_kept);
       kept = λ i h.
           rw (deltas, risks, kept, get_or-replicate {A = Kept} (length set.credits) i nothing_kept nothing_kept h) (rw (ap (λ (p : List ℤ × List ℕ). p.0) (state i (omega arith))) (kept_none n (replicate n 0) (credit_spread_at set.credits i) (limits.credits i no_credit_spread h)));
-      one_first_each = firsts ∙ sym (ap (λ (r : List ℤ). length r) deltas ∙ long);
-      firsts = λ g h. misses g (omega (arith, h, ap (λ (r : List ℤ). length r) deltas, long));
+      one_naming_each = naming ∙ sym (ap (λ (r : List ℤ). length r) deltas ∙ long);
+      naming = misses;
       small = λ g. omega (arith, ap (λ (r : List ℕ). slice_index r g) credits, none_at n g);
     }

@@ -9,5 +9,5 @@ credited_of c = record {
   rests = c.rests.items;
   credits = c.credits.items;
   kept = c.kept.items;
-  firsts = c.firsts.items;
+  naming = c.naming.items;
 }

@@ -1,5 +1,6 @@
 -- The rows from which the spreads that a change reaches are formed again, one after the other.
 use Rattle.std.specs.Prelude.{ℕ, ◌≡◌, ◌+◌, ◌<◌, ◌≤◌, ◌*◌, ◌^◌, ◌==◌, ◌||◌, not, if◌then◌else◌, Bool, false, ℤ, pos, unsigned_abs, List, [], ◌∷◌, ◌++◌, ◌⊎◌, length, replicate, take, slice_index, slice_index_or, slice_set, All}
+use Rattle.std.specs.Int.{bit_at}
 use Rattle.std.specs.List.{fold, list_any, sum_by, zip}
 use Rattle.std.specs.Ordering.{int_eq}
 use Rattle.mgn_params.specs.declared.tables.CreditSpread.{CreditSpread}
@@ -108,11 +109,15 @@ pub record Credited : Type 0 where
   pub rests : List ℤ
   pub credits : List ℕ
   pub kept : List Kept
-  pub firsts : List ℕ
+  pub naming : List ℕ
 
--- no spread before a place names the commodity
-abbrev pub MissesBelow : List CreditSpread → ℕ → ℕ → Type 0
-MissesBelow spreads n g = (i : ℕ) → i < n → i < length spreads → names g (legs_of (credit_spread_at spreads i)) ≡ false
+-- no spread but those at some places, by their bits, names the commodity
+abbrev pub Misses : List CreditSpread → ℕ → ℕ → Type 0
+Misses spreads places g = (i : ℕ) → i < length spreads → bit_at places i ≡ 0 → names g (legs_of (credit_spread_at spreads i)) ≡ false
+
+-- no spread from a place on but those that wait, by their bits, is of a commodity, or of one whose rest has moved
+abbrev pub AreWaiting : List CreditSpread → ℕ → List Bool → ℕ → ℕ → Type 0
+AreWaiting spreads g moved i waiting = (j : ℕ) → i ≤ j → j < length spreads → bit_at waiting j ≡ 0 → reached moved g (legs_of (credit_spread_at spreads j)) ≡ false
 
 -- the net deltas and the price risks are as they were
 abbrev pub KeepsNumbers : Credited → Credited → Type 0

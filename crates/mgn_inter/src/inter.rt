@@ -1,13 +1,13 @@
 ghost use Rattle.std.specs.Prelude.{◌≡◌, ℕ, ◌+◌, ◌*◌, ◌^◌, ◌<◌, ◌≤◌, ◌≤ℤ◌, true, false, pos, unsigned_abs, length, replicate, slice_index, slice_set, All, IfOk, min};
 ghost use Rattle.mgn_inter.specs.Credited.{AreCreditsOf, IsAtTurn};
-ghost use Rattle.mgn_inter.specs.Rows.{Credited, IsNextOf, KeepsNumbers, MissesBelow, named, names};
+ghost use Rattle.mgn_inter.specs.Rows.{Credited, IsNextOf, AreWaiting, KeepsNumbers, moved_at, named, names};
 ghost use Rattle.mgn_inter.specs.Sizes.{IsRisk};
 ghost use Rattle.mgn_span.specs.Credits.{credits_of};
 ghost use Rattle.mgn_params.specs.Tables.{Tables, credit_spread_at, legs_of};
 ghost use Rattle.mgn_span.specs.Sizes.{IsDelta};
 
-use crate::firsts::{first_places, spread_at};
 use crate::kept::Kept;
+use crate::naming::{await_moved, first_place, has_place, naming_spreads, spread_at};
 use crate::rest::Rest;
 use crate::reworked::Reworked;
 use crate::rows::{bring_rests, filled, form_spread, is_reached, mark_moved, move_credits};
@@ -30,7 +30,8 @@ pub struct InterCredits {
     rests: Vec<Rest>,
     credits: Vec<u128>,
     kept: Vec<Kept>,
-    firsts: Vec<u8>,
+    // For each commodity the spreads that name it.
+    naming: Vec<u64>,
 }
 
 impl Model for InterCredits {
@@ -58,7 +59,7 @@ impl InterCredits {
             rests: filled(alloc, count, Rest::ZERO)?,
             credits: filled(alloc, count, 0)?,
             kept: filled(alloc, set.credits().len(), Kept::NOTHING)?,
-            firsts: first_places(alloc, set)?,
+            naming: naming_spreads(alloc, set)?,
         })
     }
 
@@ -74,15 +75,18 @@ impl InterCredits {
         self.rests[g] = delta;
     }
 
-    // Forms the spread at a place again, of the rests at its turn.
-    fn rework(&mut self, set: &ParamSet, i: usize, moved: &mut [bool; 256])
+    // Forms the spread at a place again, of the rests at its turn, and tells whether it now credits something else.
+    fn rework(&mut self, set: &ParamSet, i: usize, moved: &mut [bool; 256]) -> bool
         requires inside { i < length set.now.credits }
         requires turn { (g : ℕ) × (was : Credited) × IsAtTurn set.now g was moved.old i self.old }
         ensures turn { (g : ℕ) (was : Credited) → IsAtTurn set.now g was moved.old i self.old →
             IsAtTurn set.now g was moved.new (i + 1) self.new }
         ensures numbers { KeepsNumbers self.old self.new }
+        ensures marks { (k : ℕ) → names k (legs_of (credit_spread_at set.now.credits i)) ≡ false →
+            moved_at moved.new k ≡ moved_at moved.old k }
         ensures others { (k : ℕ) → names k (legs_of (credit_spread_at set.now.credits i)) ≡ false →
             slice_index self.new.credits k ≡ slice_index self.old.credits k }
+        ensures same { result ≡ false → (k : ℕ) → slice_index self.new.credits k ≡ slice_index self.old.credits k }
     {
         set.limits();
         let spread = spread_at(set.credits(), i);
@@ -93,22 +97,26 @@ impl InterCredits {
         move_credits(&mut self.credits, legs, &old.credits, &new.credits);
         mark_moved(moved, &self.rests, legs, &old.after);
         self.kept[i] = new;
+        old.credits != new.credits
     }
 
-    // Forms the spread at a place again if the change reaches it.
+    // Forms the spread at a place again if the change reaches it. Those that it reaches then wait too.
     fn turn(
         &mut self,
         set: &ParamSet,
         g: usize,
         i: usize,
+        waiting: &mut u64,
         moved: &mut [bool; 256],
         reworked: &mut Reworked,
     )
         requires inside { i < length set.now.credits }
         requires turn { (was : Credited) × IsAtTurn set.now g was moved.old i self.old }
+        requires waiting { AreWaiting set.now.credits g moved.old i waiting.old }
         requires room { length reworked.old ≤ i }
         ensures turn { (was : Credited) → IsAtTurn set.now g was moved.old i self.old →
             IsAtTurn set.now g was moved.new (i + 1) self.new }
+        ensures waiting { AreWaiting set.now.credits g moved.new (i + 1) waiting.new }
         ensures numbers { KeepsNumbers self.old self.new }
         ensures places { IsNextOf reworked.old i reworked.new }
         ensures others { (k : ℕ) → named k set.now.credits reworked.new ≡ false →
@@ -116,17 +124,18 @@ impl InterCredits {
     {
         set.limits();
         let spread = spread_at(set.credits(), i);
-        if is_reached(moved, g, &spread.legs[..spread.count]) {
-            self.rework(set, i, moved);
-            reworked.push(i as u8);
+        let legs = &spread.legs[..spread.count];
+        if is_reached(moved, g, legs) {
+            let is_told = self.rework(set, i, moved);
+            await_moved(waiting, &self.naming, moved, legs);
+            reworked.tell(is_told, i as u8);
         }
     }
 
-    // Forms again the spreads that a change of a commodity reaches, none of which stands before a place.
-    fn rework_from(&mut self, set: &ParamSet, g: usize, place: usize) -> Reworked
+    // Forms again the spreads that a change of a commodity reaches. Those that name it wait for their turn, and those
+    // that a rest reaches which has moved.
+    fn rework_reached(&mut self, set: &ParamSet, g: usize) -> Reworked
         requires commodity { g < length set.now.commodities }
-        requires misses { MissesBelow set.now.credits place g }
-        requires place { place ≤ length set.now.credits }
         requires turn { (was : Credited) ×
             IsAtTurn set.now g was (slice_set (replicate 256 false) g true) 0 self.old }
         ensures of_set { AreCreditsOf set.now self.new }
@@ -139,26 +148,20 @@ impl InterCredits {
         let mut moved = [false; 256];
         moved[g] = true;
         let mut reworked = Reworked::none();
-        for i in place..set.credits().len() {
-            self.turn(set, g, i, &mut moved, &mut reworked);
+        let mut waiting = self.naming[g];
+        let count = set.credits().len();
+        for i in first_place(waiting).min(count)..count {
+            if has_place(waiting, i) {
+                self.turn(set, g, i, &mut waiting, &mut moved, &mut reworked);
+            }
         }
         reworked
     }
 
-    // The place of the first spread that names the commodity at a place, or the number of spreads where none does.
-    fn first_with(&self, set: &ParamSet, g: usize) -> usize
-        requires of_set { AreCreditsOf set.now self.now }
-        requires commodity { g < length set.now.commodities }
-        ensures value { result ≡ min (slice_index self.now.firsts g) (length set.now.credits) }
-        ensures place { result ≤ length set.now.credits }
-        ensures misses { MissesBelow set.now.credits result g }
-    {
-        usize::from(self.firsts[g]).min(set.credits().len())
-    }
-
     /// Gives the commodity at a place a net delta, in ten-thousandths, and twice a price risk, in cents. Only those
     /// spreads are formed again that name it, or of which a leg's rest at its turn is not what it was; the answer has
-    /// their places, and a commodity that none of them names has the credit that it had. The net delta is at most
+    /// the places of those that credit something else, and a commodity that none of them names has the credit that it
+    /// had. The net delta is at most
     /// 2.56 * 10^14 in size, the doubled price risk 0 to 1.1 * 10^18.
     pub fn refresh(
         &mut self,
@@ -180,9 +183,11 @@ impl InterCredits {
             slice_index self.new.credits k ≡ slice_index self.old.credits k }
     {
         set.limits();
-        let place = self.first_with(set, g);
         self.write_numbers(g, Rest::new(net_delta), price_risk2.size() as u64);
-        self.rework_from(set, g, place)
+        if self.naming[g] == 0 {
+            return Reworked::none();
+        }
+        self.rework_reached(set, g)
     }
 
     /// What the intercommodity spreads credit to the commodity at a place, in cents.

@@ -1,10 +1,10 @@
 //! Credits of spreads between commodities, kept under changes of the commodities' net deltas and price risks.
 #![tactic(auto)]
 
-mod firsts;
 mod inter;
 mod kept;
 mod legs;
+mod naming;
 mod rest;
 mod reworked;
 mod rows;

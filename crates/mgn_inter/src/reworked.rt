@@ -1,8 +1,8 @@
-ghost use Rattle.std.specs.Prelude.{◌≡◌, ℕ, ◌<◌, ◌≤◌, List, [], ◌∷◌, ◌++◌, length, take};
+ghost use Rattle.std.specs.Prelude.{◌≡◌, ℕ, ◌<◌, ◌≤◌, List, [], ◌∷◌, ◌++◌, length, take, if◌then◌else◌};
 
 use std::marker::Model;
 
-/// The places of the spreads that a change made work again, in file order. Contracts see the places.
+/// The places of the spreads that credit something else after a change, in file order. Contracts see the places.
 #[derive(Drop)]
 pub struct Reworked {
     places: [u8; 64],
@@ -27,12 +27,15 @@ impl Reworked {
         }
     }
 
-    pub(crate) fn push(&mut self, place: u8)
+    // Adds a place, if it is to be told.
+    pub(crate) fn tell(&mut self, is_told: bool, place: u8)
         requires { length self.old < 64 }
-        ensures { self.new ≡ self.old ++ place ∷ [] }
+        ensures { self.new ≡ (if is_told then self.old ++ place ∷ [] else self.old) }
     {
-        self.places[self.count] = place;
-        self.count += 1;
+        if is_told {
+            self.places[self.count] = place;
+            self.count += 1;
+        }
     }
 
     /// The places.

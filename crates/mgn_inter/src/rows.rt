@@ -1,7 +1,7 @@
 //! The rows of the commodities while spreads are formed.
 
 ghost use Rattle.std.specs.Prelude.{◌≡◌, ℕ, ℤ, ◌+◌, ◌*◌, ◌<◌, ◌≤◌, ◌^◌, ◌==◌, if◌then◌else◌, pos, length, replicate, All, slice_index, IfOk, List};
-ghost use Rattle.mgn_inter.specs.Rows.{AreNear, AreNumbers, brought, IsKept, leg_at, marked, moved_at, names, reached, share_of};
+ghost use Rattle.mgn_inter.specs.Rows.{AreNear, AreNumbers, brought, IsKept, leg_at, marked, moved_at, reached, share_of};
 ghost use Rattle.mgn_span.specs.Credits.{formed};
 ghost use Rattle.mgn_params.specs.Limits.{IsCreditSpread};
 ghost use Rattle.mgn_span.specs.Scan.{value_at};
@@ -132,15 +132,5 @@ pub(crate) fn mark_moved(moved: &mut [bool], rests: &[Rest], legs: &[Leg], after
     for k in 0..legs.len() {
         let commodity = legs[k].commodity;
         moved[commodity] = rest_at(rests, commodity).differs(after[k]);
-    }
-}
-
-/// Writes a place beside each commodity that a leg names.
-pub(crate) fn mark_legs(firsts: &mut [u8], legs: &[Leg], place: u8)
-    requires { All (λ leg. leg.commodity < length firsts.old) legs.now }
-    ensures { (g : ℕ) → g < length firsts.old → slice_index firsts.new g ≡ (if names g legs.now then place else slice_index firsts.old g) }
-{
-    for leg in legs {
-        firsts[leg.commodity] = place;
     }
 }

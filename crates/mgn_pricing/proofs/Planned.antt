@@ -11,12 +11,8 @@ use Rattle.mgn_register.specs.declared.plans.Plan.TheVariants.{Nothing, One, Two
 use Rattle.mgn_register.specs.declared.plans.UnitChange.{UnitChange}
 use Rattle.mgn_register.specs.Plans.{UnitNets, moved_nets, nets_by, nets_in, planned_nets}
 use Rattle.mgn_register.specs.TransferRows.{row_at}
+use Rattle.mgn_pricing.proofs.Moved.{rests}
 use Rattle.mgn_pricing.specs.Desks.{AreDesks, IsMovedBy, IsReady, KeepsOthers, KeepsUnplanned, Rests, marked_at}
-
--- a desk that is ready rests
-pub rests : (set' : Tables) (version : ℕ) (nets : UnitNets) (now : Option Marked) → IsReady set' version nets now → Rests set' version nets now
-rests set' version nets None ready = tt
-rests set' version nets (Some m) ready = (omega (arith, ready.under), λ same. ready)
 
 by-same : (u : UnitChange) (k : ℕ) (nets : UnitNets) → u.unit ≡ k → nets_by u k nets ≡ moved_nets u.change nets
 by-same u k nets same = rw (eq-eqb u.unit k same) refl

@@ -74,6 +74,9 @@ pub(crate) fn form_stage(left: &mut [u64; 16], stage: &Stage) -> u128
     ensures small_charge { result ≤ 2 * 10 ^ 25 }
 {
     let amount = stage_amount(left, stage);
+    if amount == 0 {
+        return 0;
+    }
     left[stage.first_leg] -= used(amount, stage.first_ratio);
     left[stage.second_leg] -= used(amount, stage.second_ratio);
     charge(amount, stage.charge)

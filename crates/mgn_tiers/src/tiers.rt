@@ -49,8 +49,8 @@ impl TierStages {
         })
     }
 
-    /// Adds to the delta of the month at a place, in ten-thousandths. The stages of its commodity are formed again from
-    /// the first one whose start changed. The resulting month delta and net delta are at most 2.56 * 10^14 in size.
+    /// Adds to the delta of the month at a place, in ten-thousandths. The stages of its commodity are formed again
+    /// where that changes what a leg starts with. The resulting month delta and net delta are at most 2.56 * 10^14 in size.
     pub fn add(&mut self, set: &ParamSet, month: usize, delta: TenThousandths)
         requires of_set { AreTiersOf set.now self.old }
         requires month { month < length set.now.months }

@@ -1,14 +1,22 @@
-use Rattle.std.proofs.Common.{rules, ◌≡◌, ◌∙◌, ℕ, List, ap, arith, length, slice_index, subst, sym}
+use Rattle.std.proofs.Common.{rules, ◌≡◌, ◌∙◌, ℕ, Bool, List, ap, arith, false, length, refl, slice_index, subst, sym, true}
+use Rattle.std.specs.Prelude.{not}
+use Rattle.std.specs.Str.{bytes_eq}
+use Rattle.std.proofs.lemmas.Slice.Eq.{bytes_eq-Decides}
 use Rattle.std.proofs.lemmas.List.{get_or_read, with_items_is}
 use Rattle.std.specs.Vec.{with_items}
 use Rattle.mgn_params.specs.declared.tables.CreditSpread.{CreditSpread}
 use Rattle.mgn_params.specs.Tables.{credit_spread_at, legs_of}
 use Rattle.mgn_inter.specs.CreditRows.{credited_of}
 use Rattle.mgn_inter.specs.Credited.{IsAtTurn}
-use Rattle.mgn_inter.specs.Rows.{brought, Credited, kept_at, nothing_kept}
+use Rattle.mgn_inter.specs.Rows.{brought, Credited, kept_at, moved_at, nothing_kept}
+use Rattle.mgn_inter.proofs.LegLemmas.{marked_out}
 use Rattle.mgn_inter.proofs.TurnLemmas.{turn_covers, turn_near, turn_others, turn_own_small, turn_reworked, turn_room}
 use Rattle.mgn_inter.proofs.inter.InterCredits.rework.Goals as goal
 use Rattle.mgn_inter.proofs.inter.InterCredits.rework.Goals.{After-deref_mut-2}
+
+not_false : (b : Bool) → not b ≡ false → b ≡ true
+not_false true h = refl
+not_false false h = sym h
 
 -- what is kept at the turn, by the fields
 were : (c : After-deref_mut-2) → IsAtTurn c.args.set.now c.requires.turn.0 c.requires.turn.1 c.args.moved.now c.args.i (credited_of c.self.inside)
@@ -78,4 +86,24 @@ returns-clause-others c =
     let moved = rw (c.deref_mut-3.ensures.value, spread_is at, kept_is at) at c.move_credits.ensures.moved in
     let legs = legs_of (credit_spread_at c.args.set.now.credits c.args.i) in
     let same = turn_others legs (kept_at c.self.inside.kept.items c.args.i).credits c.form_spread-new.result.credits c.move_credits.new.credits c.self.inside.credits.items k (moved k) out in
+    rw (with_items_is c.self.inside.credits c.move_credits.new.credits credits) (subst (λ (r : Credited). slice_index c.move_credits.new.credits k ≡ slice_index r.credits k) c.self.view_is same)
+
+pub returns-clause-marks : goal.returns-clause-marks
+returns-clause-marks c =
+    λ k out.
+    let at = (goal.at.returns-clause-marks c).After-deref_mut-2 in
+    let marks = rw (spread_is at, kept_is at) at c.mark_moved.ensures in
+    ap (λ (row : List Bool). moved_at row k) marks
+    ∙ marked_out c.deref-3.result.now c.args.moved.now (legs_of (credit_spread_at c.args.set.now.credits c.args.i)) (kept_at c.self.inside.kept.items c.args.i).after k out
+
+pub returns-clause-same : goal.returns-clause-same
+returns-clause-same c =
+    λ no k.
+    let at = (goal.at.returns-clause-same c).After-deref_mut-2 in
+    let old = c.index.result.now.credits in
+    let new = c.form_spread-new.result.credits in
+    let alike : old ≡ new = (bytes_eq-Decides old new).0 (not_false (bytes_eq old new) (sym c.ne.ensures ∙ no)) in
+    let credits : length c.move_credits.new.credits ≡ c.self.inside.credits.len = search rules in
+    let moved = rw (c.deref_mut-3.ensures.value, sym alike) at (c.move_credits.ensures.moved k) in
+    let same : slice_index c.move_credits.new.credits k ≡ slice_index c.self.inside.credits.items k = omega (arith, moved) in
     rw (with_items_is c.self.inside.credits c.move_credits.new.credits credits) (subst (λ (r : Credited). slice_index c.move_credits.new.credits k ≡ slice_index r.credits k) c.self.view_is same)

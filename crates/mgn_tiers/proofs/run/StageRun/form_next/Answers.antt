@@ -1,4 +1,4 @@
-use Rattle.std.proofs.Common.{◌≡◌, ◌<◌, ◌∙◌, ap, subst, sym, arith, refl, length, slice_index}
+use Rattle.std.proofs.Common.{◌≡◌, ◌<◌, ◌∙◌, ap, subst, sym, arith, length}
 use Rattle.std.proofs.lemmas.List.{get_or_read}
 use Rattle.mgn_span.specs.declared.stage.Stage.{Stage}
 use Rattle.mgn_span.specs.Stages.{left_after}
@@ -9,12 +9,11 @@ use Rattle.mgn_tiers.proofs.RunLemmas.{charged_small, left_small, run_formed}
 use Rattle.mgn_tiers.proofs.run.StageRun.form_next.Goals as goal
 
 pub form_stage-requires-clause-left : goal.form_stage-requires-clause-left
-form_stage-requires-clause-left c =
-    left_small _ c.self.inside.left c.self.inside.charged c.self.inside.kept.items c.self.inside.firsts c.self.invariant
+form_stage-requires-clause-left c = left_small _ c.self.inside.left c.self.inside.charged c.self.invariant
 
 pub overflow_add-self : goal.overflow_add-self
 overflow_add-self c =
-    let small = charged_small _ c.self.inside.left c.self.inside.charged c.self.inside.kept.items c.self.inside.firsts c.self.invariant in
+    let small = charged_small _ c.self.inside.left c.self.inside.charged c.self.invariant in
     omega (arith, small, c.self.invariant.few, c.self.invariant.formed, c.form_stage.ensures.small_charge)
 
 pub invariant_of-self : goal.invariant_of-self
@@ -22,4 +21,4 @@ invariant_of-self c =
     let inside : c.self.inside.formed < length c.self.inside.stages.items = subst (λ (r : Run). r.formed < length r.stages) (sym c.self.view_is) c.requires in
     let stage : c.index.result.now ≡ stage_at c.self.inside.stages.items c.self.inside.formed = get_or_read c.self.inside.stages.items c.self.inside.formed c.index.result.now inside c.index.ensures no_stage in
     let left = c.self.inside.left in
-    run_formed (run_of c.self.inside) left c.self.inside.charged c.self.inside.kept.items c.self.inside.firsts c.form_stage.new.left c.form_stage.result _ c.self.invariant inside (c.form_stage.ensures.left ∙ ap (λ (s : Stage). left_after left s) stage) (c.form_stage.ensures.charge ∙ ap (λ (s : Stage). charge_of left s) stage) (ap (λ (s : Stage). slice_index left s.first_leg) stage) (ap (λ (s : Stage). slice_index left s.second_leg) stage) refl
+    run_formed (run_of c.self.inside) left c.self.inside.charged c.form_stage.new.left c.form_stage.result c.self.invariant inside (c.form_stage.ensures.left ∙ ap (λ (s : Stage). left_after left s) stage) (c.form_stage.ensures.charge ∙ ap (λ (s : Stage). charge_of left s) stage)
