@@ -11,6 +11,7 @@ use Rattle.mgn_desk.specs.declared.moves.Requirements.{Requirements}
 use Rattle.mgn_desk.specs.Desks.{CanMoveMarked, DeskRows, IsMarkedBy, MarkedNets, Requires, Shown, marked_nets, marked_with, moved_desk, moved_marked, shown}
 use Rattle.mgn_desk.specs.Portfolios.{AreSmall, CanMove, FourNets, moved_by, nets_of, opposite, requirements_of}
 use Rattle.mgn_unit.specs.declared.change.Change.{Change}
+use Rattle.mgn_unit.specs.declared.row.Priced.{Priced}
 use Rattle.mgn_unit.specs.declared.row.Row.{Row}
 use Rattle.mgn_unit.specs.Rows.{IsChange, IsRoomy, IsRow, Prices, more_at}
 use Rattle.mgn_register.specs.Plans.{UnitNets, moved_nets, nets_in}
