@@ -48,6 +48,15 @@ twin-less M N a b less twin = record {
   holds = λ n. twin.holds (less a.unit n);
 }
 
+pub twin-both : (M : ℕ → Type 0) (a b c : AccountState) → Twin M a b → Twin M b c → Twin M a c
+twin-both M a b c first second = record {
+  name = second.name ∙ first.name;
+  origin = second.origin ∙ first.origin;
+  unit = second.unit ∙ first.unit;
+  lots = λ m. second.lots (subst M (sym first.unit) m) ∙ first.lots m;
+  holds = λ m. second.holds (subst M (sym first.unit) m) ∙ first.holds m;
+}
+
 -- of fewer units
 pub keeps-less : (M N : ℕ → Type 0) (xs ys : List AccountState) → ((u : ℕ) → N u → M u) → Keeps M xs ys → Keeps N xs ys
 keeps-less M N [] ys less keeps = keeps
