@@ -4,3 +4,4 @@ pub mod Twins
 pub mod Places
 pub mod Stays
 pub mod Effects
+pub mod Frames

@@ -1,3 +1,4 @@
+use Rattle.mgn_world.proofs.Frames.{good_after}
 use Rattle.mgn_world.proofs.Places.{trade_at}
 use Rattle.mgn_world.proofs.Stays.{plan_stays}
 use Rattle.mgn_world.proofs.Effects.{outcome}
