@@ -5,3 +5,7 @@ pub mod Places
 pub mod Stays
 pub mod Effects
 pub mod Frames
+pub mod Locks
+pub mod Simple
+pub mod Desks
+pub mod Commits

@@ -83,7 +83,7 @@ choose : (b : Bool) (x y : World) → IsReplayed x → IsReplayed y → IsReplay
 choose true x y p q = p
 choose false x y p q = q
 
-room : (n : ℕ) → nat_le 1000000 n ≡ false → n < 1000000
+pub room : (n : ℕ) → nat_le 1000000 n ≡ false → n < 1000000
 room n e = grind (arith, nat_tests)
 
 entered-by : (w : World) (p : ℕ) (request : Request) (full : Bool) → is_full w ≡ full → (length w.history < 1000000 → IsReplayed (stepped w p request (step w.sets w.state request))) → IsReplayed w → IsReplayed (if full then w else stepped w p request (step w.sets w.state request))

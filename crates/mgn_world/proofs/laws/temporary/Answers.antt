@@ -1,3 +1,6 @@
+use Rattle.mgn_world.proofs.Commits.{good_switch}
+use Rattle.mgn_world.proofs.Desks.{good_backed}
+use Rattle.mgn_world.proofs.Simple.{good_looked}
 use Rattle.mgn_world.proofs.Frames.{good_after}
 use Rattle.mgn_world.proofs.Places.{trade_at}
 use Rattle.mgn_world.proofs.Stays.{plan_stays}
