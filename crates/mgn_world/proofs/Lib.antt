@@ -9,3 +9,4 @@ pub mod Locks
 pub mod Simple
 pub mod Desks
 pub mod Commits
+pub mod Each

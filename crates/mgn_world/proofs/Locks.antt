@@ -22,7 +22,7 @@ lock_inside (o ∷ locks) (suc u) p e = let less = lock_inside locks u p e in om
 
 -- Longer lists.
 
-none_past : {X : Type 0} (n i : ℕ) (z : X) → get_or (replicate n z) i z ≡ z
+pub none_past : {X : Type 0} (n i : ℕ) (z : X) → get_or (replicate n z) i z ≡ z
 none_past zero i z = refl
 none_past (suc n) zero z = refl
 none_past (suc n) (suc i) z = none_past n i z

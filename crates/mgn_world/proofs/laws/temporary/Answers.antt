@@ -1,3 +1,4 @@
+use Rattle.mgn_world.proofs.Each.{good_run, good_opening}
 use Rattle.mgn_world.proofs.Commits.{good_switch}
 use Rattle.mgn_world.proofs.Desks.{good_backed}
 use Rattle.mgn_world.proofs.Simple.{good_looked}
