@@ -27,10 +27,10 @@ use Rattle.mgn_register.specs.declared.plans.Plan.{Plan}
 use Rattle.mgn_register.specs.declared.plans.Plan.TheVariants.{Nothing, One, Two}
 use Rattle.mgn_register.specs.Plans.{plan_of}
 use Rattle.mgn_book.specs.BookViews.{sets_after}
-use Rattle.mgn_world.specs.Claims.{DeskOf, Good, HasPlan, HeldDesk, IsAmong, IsHoused, IsPassed, IsReplayed, Owns, Rests, Sees, StageOf, before_close}
+use Rattle.mgn_world.specs.Claims.{HasPlan, IsAmong, IsReplayed, Rests, before_close}
 use Rattle.mgn_world.specs.Stages.{Call, Gathering, Seen, Stage, View, Idle, Held, Looked, Applied, Failed, Ended, Gathered}
-use Rattle.mgn_world.specs.Twins.{Keeps}
 use Rattle.mgn_world.specs.World.{World, are_fit, are_stale, desk_at, entered, finished, in_force, is_apart, is_done, is_fit, is_full, is_stale, lengthened, lock_at, placed, plan_units, planned, same_nets, seen_at, stage_at, stepped, unit_nets, units_of, with_stage}
+use Rattle.mgn_world.proofs.Standing.{DeskOf, Good, HeldDesk, IsHoused, IsPassed, Owns, Sees, StageOf}
 use Rattle.mgn_world.proofs.Desks.{held_planned, plan_held}
 use Rattle.mgn_world.proofs.Effects.{Before, Outcome, outcome}
 use Rattle.mgn_world.proofs.Frames.{Change, good_after, holder, owns_kept, planned_same, rests_same, sees_kept, some_same, view_inside}
@@ -39,9 +39,9 @@ use Rattle.mgn_world.proofs.Places.{test_passed}
 use Rattle.mgn_world.proofs.Replays.{last-set, room, run-done, run-switch}
 use Rattle.mgn_world.proofs.Simple.{desk_in, good_stage, held_desk, session, stage_in}
 use Rattle.mgn_world.proofs.Stays.{plan_now, plan_open}
-use Rattle.mgn_world.proofs.Twins.{keeps-less, keeps-same}
+use Rattle.mgn_world.proofs.Twins.{Keeps, keeps-less, keeps-same}
 
-before_step : (w : World) → Good w → Before (in_force w) w.state
+pub before_step : (w : World) → Good w → Before (in_force w) w.state
 before_step w good = record { limits = good.limits w.state.version (omega (arith, good.replayed.shown)); known = good.known; housed = good.housed }
 
 -- The world after a command, and after the stage of its session is set.
@@ -201,7 +201,7 @@ never_apart w p k l good is e =
     (plan_now (in_force w) w.state k.command)
 
 -- after a command that is done the desks of its plan have the unit's nets
-settled : (w : World) (p u : ℕ) (k : Call) (l : View) (d : Option MarkedNets) → Good w → stage_at w p ≡ Applied k l → l.version ≡ w.state.version → is_done (step_under (in_force w) w.state k.command).1 ≡ true → HasPlan w.sets w.state.accounts l u d
+pub settled : (w : World) (p u : ℕ) (k : Call) (l : View) (d : Option MarkedNets) → Good w → stage_at w p ≡ Applied k l → l.version ≡ w.state.version → is_done (step_under (in_force w) w.state k.command).1 ≡ true → HasPlan w.sets w.state.accounts l u d
     → Rests w.sets (step_under (in_force w) w.state k.command).0.accounts u d
 settled w p u k l None good is now done h = absurd h
 settled w p u k l (Some m) good is now done h =

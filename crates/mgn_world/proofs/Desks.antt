@@ -15,9 +15,10 @@ use Rattle.mgn_register.specs.declared.plans.UnitChange.{UnitChange}
 use Rattle.mgn_register.specs.Plans.{UnitNets, moved_nets, nets_by, nets_in, planned_nets}
 use Rattle.mgn_unit.specs.Rows.{row_of}
 use Rattle.mgn_pricing.specs.Desks.{four, moves_of}
-use Rattle.mgn_world.specs.Claims.{DeskOf, Good, HasPlan, HeldDesk, IsAmong, IsPassed, Owns, Rests, Sees, StageOf}
+use Rattle.mgn_world.specs.Claims.{HasPlan, IsAmong, Rests}
 use Rattle.mgn_world.specs.Stages.{Call, Seen, Stage, View, Idle, Held, Looked, Applied, Failed, Ended, Gathered}
 use Rattle.mgn_world.specs.World.{World, applies, are_of, backs, desk_at, desks_with, desks_without, in_order, is_of, lock_at, mark_first, plan_units, planned, planned_desks, seen_at, stage_at, unit_nets, units_of, unplanned_desks, with_stage}
+use Rattle.mgn_world.proofs.Standing.{DeskOf, Good, HeldDesk, IsPassed, Owns, Sees, StageOf}
 use Rattle.mgn_world.proofs.Frames.{view_inside, view_units}
 use Rattle.mgn_world.proofs.Locks.{both_true, lock_inside}
 use Rattle.mgn_world.proofs.Simple.{good_desks, held_desk, session}

@@ -48,11 +48,11 @@ use Rattle.mgn_register.specs.declared.plans.UnitChange.{UnitChange}
 use Rattle.mgn_register.specs.Plans.{UnitNets, both_plan, bust_plan, bust_plan_at, fill_plan, fill_plan_at, hold_plan, in_unit_of, move_plan, moved_nets, nets_by, nets_in, plan_of, planned_nets, release_plan, release_plan_at, trade_plan}
 use Rattle.mgn_register.proofs.Kept.{contract-stands, found-Some, known-stands, stands-known}
 use Rattle.mgn_pricing.specs.Desks.{four}
-use Rattle.mgn_world.specs.Claims.{IsAmong, IsHoused}
-use Rattle.mgn_world.specs.Twins.{IsBare, Keeps, Twin}
+use Rattle.mgn_world.specs.Claims.{IsAmong}
 use Rattle.mgn_world.specs.World.{is_done, planned, unit_found, unit_nets, units_found, units_of}
+use Rattle.mgn_world.proofs.Standing.{IsHoused}
 use Rattle.mgn_world.proofs.Places.{Takes, bust_at, fill_at, first_done, hold_takes, move_at, release_at, test_passed, trade_at}
-use Rattle.mgn_world.proofs.Twins.{keeps-push, keeps-same, keeps-set, nets-by_sums, nets-kept, place-inside, twin-both}
+use Rattle.mgn_world.proofs.Twins.{IsBare, Keeps, Twin, keeps-push, keeps-same, keeps-set, nets-by_sums, nets-kept, place-inside, twin-both}
 
 -- what is known before a command
 pub record Before (set' : Tables) (s : State) : Type 0 where

@@ -13,12 +13,12 @@ use Rattle.mgn_machine.specs.State.{AccountState, State}
 use Rattle.mgn_register.specs.declared.plans.Plan.{Plan}
 use Rattle.mgn_register.specs.Plans.{UnitNets, plan_of, planned_nets}
 use Rattle.mgn_pricing.specs.Desks.{four}
-use Rattle.mgn_world.specs.Claims.{DeskOf, Good, HasPlan, HeldDesk, IsAmong, IsHoused, IsPassed, IsReplayed, Owns, Rests, Sees, StageOf, before_close}
+use Rattle.mgn_world.specs.Claims.{HasPlan, IsAmong, IsReplayed, Rests, before_close}
 use Rattle.mgn_world.specs.Stages.{Call, Seen, Stage, View, Idle, Held, Looked, Applied, Failed, Ended, Gathered}
-use Rattle.mgn_world.specs.Twins.{Keeps}
 use Rattle.mgn_world.specs.World.{World, desk_at, in_force, lock_at, plan_units, planned, seen_at, stage_at, unit_nets, units_of}
+use Rattle.mgn_world.proofs.Standing.{DeskOf, Good, HeldDesk, IsHoused, IsPassed, Owns, Sees, StageOf}
 use Rattle.mgn_world.proofs.Stays.{SameUnits, plan_stays, plan_units-are, units_before, units_stay}
-use Rattle.mgn_world.proofs.Twins.{nets-kept}
+use Rattle.mgn_world.proofs.Twins.{Keeps, nets-kept}
 
 -- what a step of the session at place p does to the others: what they see and hold stays, and versions only grow
 pub record Change (w v : World) (p : ℕ) : Type 0 where

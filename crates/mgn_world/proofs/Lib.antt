@@ -1,6 +1,7 @@
 -- The law of the world, step by step.
 pub mod Replays
 pub mod Twins
+pub mod Standing
 pub mod Places
 pub mod Stays
 pub mod Effects
@@ -10,3 +11,5 @@ pub mod Simple
 pub mod Desks
 pub mod Commits
 pub mod Each
+pub mod Turns
+pub mod Said

@@ -21,9 +21,10 @@ use Rattle.mgn_register.specs.declared.plans.UnitChange.{UnitChange}
 use Rattle.mgn_register.specs.Plans.{UnitNets, nets_by, nets_in, plan_of, planned_nets}
 use Rattle.mgn_unit.specs.Rows.{row_of}
 use Rattle.mgn_pricing.specs.Desks.{four, moves_of}
-use Rattle.mgn_world.specs.Claims.{DeskOf, Good, HasPlan, HeldDesk, IsAmong, IsHoused, IsPassed, Owns, Rests, Sees, StageOf, before_close}
+use Rattle.mgn_world.specs.Claims.{HasPlan, IsAmong, Rests, before_close}
 use Rattle.mgn_world.specs.Stages.{Call, Seen, Stage, View, Idle, Held, Looked, Applied, Failed, Ended, Gathered}
 use Rattle.mgn_world.specs.World.{World, are_free, are_of, desk_at, desks_with, desks_without, finished, freed, in_force, in_order, is_of, lock_at, looked_at, mark_first, plan_units, planned, planned_desks, seen_at, stage_at, taken, unit_found, unit_nets, units_found, units_of, unplanned_desks, with_stage}
+use Rattle.mgn_world.proofs.Standing.{DeskOf, Good, HeldDesk, IsHoused, IsPassed, Owns, Sees, StageOf}
 use Rattle.mgn_world.proofs.Frames.{Change, good_after, holder, some_none, some_same, view_inside, view_units}
 use Rattle.mgn_world.proofs.Locks.{among_or, both_true, free_at, freed_at, freed_mine, freed_other, lock_inside, taken_long, taken_mine, taken_other}
 use Rattle.mgn_world.proofs.Stays.{plan_now}

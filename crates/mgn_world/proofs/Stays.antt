@@ -27,10 +27,9 @@ use Rattle.mgn_register.specs.declared.plans.UnitChange.{UnitChange}
 use Rattle.mgn_register.specs.Plans.{both_plan, bust_plan, bust_plan_at, fill_plan, fill_plan_at, hold_plan, in_unit_of, move_plan, plan_of, release_plan, release_plan_at, trade_plan}
 use Rattle.mgn_register.proofs.Following.{both-none, both-two}
 use Rattle.mgn_world.specs.Claims.{IsAmong, before_close}
-use Rattle.mgn_world.specs.Twins.{Keeps, Twin}
 use Rattle.mgn_world.specs.World.{in_order, plan_units, unit_found, units_found, units_of}
 use Rattle.mgn_world.proofs.Places.{Takes, bust_at, fill_at, hold_takes, move_at, parties_at, release_at, trade_at}
-use Rattle.mgn_world.proofs.Twins.{account-kept, place-kept, size-counts, sum-kept}
+use Rattle.mgn_world.proofs.Twins.{Keeps, Twin, account-kept, place-kept, size-counts, sum-kept}
 
 -- Chains of refusals that read the same.
 

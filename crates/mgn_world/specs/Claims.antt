@@ -1,19 +1,14 @@
 -- What is true of the world after every list of steps (own profile).
-use Rattle.std.specs.Prelude.{ℕ, ◌≡◌, ◌≢◌, ◌⊎◌, ◌+◌, ◌<◌, ◌≤◌, Bool, true, false, Option, None, Some, IfSome, All, List, [], ◌∷◌, length, map, slice_index_or}
+use Rattle.std.specs.Prelude.{ℕ, ◌≡◌, ◌⊎◌, ◌+◌, ◌<◌, ◌≤◌, false, Option, None, Some, List, [], ◌∷◌, ◌++◌, length}
 use Rattle.mgn_params.specs.Limits.{IsWithinLimits}
 use Rattle.mgn_params.specs.Shelves.{set_at}
 use Rattle.mgn_params.specs.Tables.{Tables}
 use Rattle.mgn_desk.specs.Desks.{MarkedNets}
-use Rattle.mgn_machine.specs.declared.command.Command.{Command}
 use Rattle.mgn_machine.specs.declared.entry.Entry.{Entry}
-use Rattle.mgn_machine.specs.declared.origin.Origin.{Origin}
 use Rattle.mgn_machine.specs.History.{Legal, replay}
-use Rattle.mgn_machine.specs.Refusals.{IsKnown}
 use Rattle.mgn_machine.specs.State.{AccountState, State}
-use Rattle.mgn_register.specs.declared.plans.Plan.TheVariants.{Nothing}
-use Rattle.mgn_register.specs.Plans.{plan_of}
 use Rattle.mgn_world.specs.Stages.{Call, Deed, Gather, Stage, Step, View, Idle, Held, Looked, Applied, Failed, Ended, Gathered}
-use Rattle.mgn_world.specs.World.{World, desk_at, in_force, lock_at, plan_units, planned, seen_at, stage_at, unit_nets, units_of}
+use Rattle.mgn_world.specs.World.{World, desk_at, in_force, opening, planned, run, stage_at, unit_nets}
 
 -- the history is legal, the state is its replay by the machine of one thread, the version in force is that of the last
 -- set, and there are at most 1,000,000 entries
@@ -26,91 +21,6 @@ pub record IsRun (sets : List Tables) (state : State) (history : List Entry) : T
 abbrev pub IsReplayed : World → Type 0
 IsReplayed w = IsRun w.sets w.state w.history
 
--- a number is one of a list
-abbrev pub IsAmong : ℕ → List ℕ → Type 0
-IsAmong u [] = ⊥
-IsAmong u (v ∷ vs) = (u ≡ v) ⊎ IsAmong u vs
-
--- Desks.
-
--- a desk is empty, or has the nets of the unit under the set of its own version
-abbrev pub Rests : List Tables → List AccountState → ℕ → Option MarkedNets → Type 0
-Rests sets accounts u None = Unit {0}
-Rests sets accounts u (Some m) = (m.version < length sets) × (m.nets ≡ unit_nets (set_at sets m.version) accounts u)
-
--- a desk is of the looked version, and has the unit's nets changed by exactly the plan
-abbrev pub HasPlan : List Tables → List AccountState → View → ℕ → Option MarkedNets → Type 0
-HasPlan sets accounts l u None = ⊥
-HasPlan sets accounts l u (Some m) =
-    (m.version ≡ l.version) × (m.nets ≡ planned l.plan (set_at sets l.version) accounts u)
-
--- the desk of a unit that a session holds, by the session's stage
-abbrev pub HeldDesk : List Tables → List AccountState → ℕ → Option MarkedNets → Stage → Type 0
-HeldDesk sets accounts u d Idle = ⊥
-HeldDesk sets accounts u d (Held k) = Rests sets accounts u d
-HeldDesk sets accounts u d (Looked k l) = Rests sets accounts u d
-HeldDesk sets accounts u d (Applied k l) = HasPlan sets accounts l u d
-HeldDesk sets accounts u d (Failed k l again) = HasPlan sets accounts l u d
-HeldDesk sets accounts u d (Ended k) = Rests sets accounts u d
-HeldDesk sets accounts u d (Gathered g) = ⊥
-
--- the desk of any unit
-abbrev pub DeskOf : List Tables → List AccountState → List Stage → ℕ → Option MarkedNets → Option ℕ → Type 0
-DeskOf sets accounts stages u d None = Rests sets accounts u d
-DeskOf sets accounts stages u d (Some p) = HeldDesk sets accounts u d (slice_index_or stages p Idle)
-
--- Sessions.
-
--- a session holds the units of its command, at least one, and no other
-pub record Owns (locks : List (Option ℕ)) (s : State) (p : ℕ) (c : Command) : Type 0 where
-  pub some : units_of s c ≢ []
-  pub all_of : (u : ℕ) → IsAmong u (units_of s c) → slice_index_or locks u None ≡ Some p
-  pub no_other : (u : ℕ) → slice_index_or locks u None ≡ Some p → IsAmong u (units_of s c)
-
--- the state, with a day that is not over
-abbrev pub before_close : State → State
-before_close s = record s { closed = false }
-
--- what a Look took is still so, but for the version in force and the end of the day
-pub record Sees (sets : List Tables) (s : State) (k : Call) (l : View) : Type 0 where
-  pub version : l.version ≤ s.version
-  pub plan : plan_of (set_at sets l.version) (before_close s) k.command ≡ l.plan
-  pub some : l.plan ≢ Nothing
-  pub seen : l.seen ≡ map (seen_at (set_at sets l.version) s.accounts) (plan_units l.plan)
-  pub looks : k.looks + k.began ≤ l.version + 1
-
--- a call is to Look again only where another set came into force
-abbrev pub IsPassed : Bool → ℕ → ℕ → Type 0
-IsPassed false looked now = Unit {0}
-IsPassed true looked now = looked < now
-
--- what is true of a session, by its stage
-abbrev pub StageOf : List Tables → State → List (Option ℕ) → ℕ → Stage → Type 0
-StageOf sets s locks p Idle = Unit {0}
-StageOf sets s locks p (Held k) = Owns locks s p k.command × (k.looks + k.began ≤ s.version)
-StageOf sets s locks p (Looked k l) = Owns locks s p k.command × Sees sets s k l
-StageOf sets s locks p (Applied k l) = Owns locks s p k.command × Sees sets s k l
-StageOf sets s locks p (Failed k l again) = Owns locks s p k.command × Sees sets s k l × IsPassed again l.version s.version
-StageOf sets s locks p (Ended k) = Owns locks s p k.command × (k.looks + k.began ≤ s.version + 1)
-StageOf sets s locks p (Gathered g) = IsWithinLimits g.set
-
--- The units of accounts and of netted origins were made.
-pub record IsHoused (s : State) : Type 0 where
-  pub accounts : All (λ (a : AccountState). a.unit < s.units) s.accounts
-  pub origins : All (λ (o : Origin). IfSome o.unit (λ u. u < s.units)) s.origins
-
--- all of it
-pub record Good (w : World) : Type 0 where
-  pub replayed : IsReplayed w
-  pub limits : (i : ℕ) → i < length w.sets → IsWithinLimits (set_at w.sets i)
-  -- the set in force has the contract of each live lot and of each hold
-  pub known : All (IsKnown (in_force w)) w.state.accounts
-  pub housed : IsHoused w.state
-  pub desks_long : length w.desks ≡ w.state.units
-  pub locks_long : length w.locks ≡ w.state.units
-  pub desks : (u : ℕ) → DeskOf w.sets w.state.accounts w.stages u (desk_at w u) (lock_at w u)
-  pub sessions : (p : ℕ) → StageOf w.sets w.state w.locks p (stage_at w p)
-
 -- a set that is gathered is within the limits of set files
 abbrev pub IsLimited : Deed → Type 0
 IsLimited (Gather set) = IsWithinLimits set
@@ -119,3 +29,63 @@ IsLimited _ = Unit {0}
 abbrev pub AreLimited : List Step → Type 0
 AreLimited [] = Unit {0}
 AreLimited (e ∷ es) = IsLimited e.deed × AreLimited es
+
+-- steps of any sessions, in any order, lead to this world
+pub record IsReached (w : World) : Type 0 where
+  pub set : Tables
+  pub steps : List Step
+  pub limits : IsWithinLimits set
+  pub gathered : AreLimited steps
+  pub is : w ≡ run (opening set) steps
+
+-- a number is one of a list
+abbrev pub IsAmong : ℕ → List ℕ → Type 0
+IsAmong u [] = ⊥
+IsAmong u (v ∷ vs) = (u ≡ v) ⊎ IsAmong u vs
+
+-- a desk is empty, or has the nets of the unit under the set of its own version
+abbrev pub Rests : List Tables → List AccountState → ℕ → Option MarkedNets → Type 0
+Rests sets accounts u None = Unit {0}
+Rests sets accounts u (Some m) =
+    (m.version < length sets) × (m.nets ≡ unit_nets (set_at sets m.version) accounts u)
+
+-- a desk is of the looked version, and has the unit's nets changed by exactly the plan
+abbrev pub HasPlan : List Tables → List AccountState → View → ℕ → Option MarkedNets → Type 0
+HasPlan sets accounts l u None = ⊥
+HasPlan sets accounts l u (Some m) =
+    (m.version ≡ l.version) × (m.nets ≡ planned l.plan (set_at sets l.version) accounts u)
+
+-- the call of a session, which a switch is not
+abbrev pub call_in : Stage → Option Call
+call_in Idle = None
+call_in (Held k) = Some k
+call_in (Looked k l) = Some k
+call_in (Applied k l) = Some k
+call_in (Failed k l again) = Some k
+call_in (Ended k) = Some k
+call_in (Gathered g) = None
+
+-- the session at a place is in this call
+abbrev pub IsIn : World → ℕ → Call → Type 0
+IsIn w p k = call_in (stage_at w p) ≡ Some k
+
+-- the nets of a unit as the state has them, under the set in force
+abbrev pub shown_now : World → ℕ → MarkedNets
+shown_now w u = record { version = w.state.version; nets = unit_nets (in_force w) w.state.accounts u }
+
+-- the state, as if the day were not over
+abbrev pub before_close : State → State
+before_close s = record s { closed = false }
+
+-- between two worlds a set came into force for all units at once: it is the last one now, and of the state nothing but
+-- its version changed, nor any desk
+pub record Switches (w v : World) : Type 0 where
+  pub set : Tables
+  pub sets : v.sets ≡ w.sets ++ set ∷ []
+  pub state : v.state ≡ record w.state { version = w.state.version + 1 }
+  pub desks : (u : ℕ) → desk_at v u ≡ desk_at w u
+
+-- the sets and the version in force are what they were
+pub record KeepsSets (w v : World) : Type 0 where
+  pub sets : v.sets ≡ w.sets
+  pub version : v.state.version ≡ w.state.version
