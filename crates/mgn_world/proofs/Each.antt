@@ -41,12 +41,7 @@ begin_by w p c (u ∷ us) e good is there = by (are_free w.locks (u ∷ us)) ref
 
 good_begin : (w : World) (p : ℕ) (c : Command) (st : Stage) → Good w → stage_at w p ≡ st → p < length w.stages → Good (begins w p c st)
 good_begin w p c Idle good is there = begin_by w p c (units_of w.state c) refl good is there
-good_begin w p c (Held k) good is there = good
-good_begin w p c (Looked k l) good is there = good
-good_begin w p c (Applied k l) good is there = good
-good_begin w p c (Failed k l again) good is there = good
-good_begin w p c (Ended k) good is there = good
-good_begin w p c (Gathered g) good is there = good
+good_begin w p c st good is there = good
 
 -- Look
 
@@ -62,23 +57,13 @@ look_by w p k (Two u v) e good is there = good_looked w p k (Two u v) good is th
 
 good_look : (w : World) (p : ℕ) (st : Stage) → Good w → stage_at w p ≡ st → p < length w.stages → Good (looks w p st)
 good_look w p (Held k) good is there = look_by w p k _ refl good is there
-good_look w p Idle good is there = good
-good_look w p (Looked k l) good is there = good
-good_look w p (Applied k l) good is there = good
-good_look w p (Failed k l again) good is there = good
-good_look w p (Ended k) good is there = good
-good_look w p (Gathered g) good is there = good
+good_look w p st good is there = good
 
 -- Mark
 
 good_marks : (w : World) (p : ℕ) (st : Stage) → Good w → stage_at w p ≡ st → p < length w.stages → Good (marks w st)
 good_marks w p (Looked k l) good is there = good_mark w p k l good is there
-good_marks w p Idle good is there = good
-good_marks w p (Held k) good is there = good
-good_marks w p (Applied k l) good is there = good
-good_marks w p (Failed k l again) good is there = good
-good_marks w p (Ended k) good is there = good
-good_marks w p (Gathered g) good is there = good
+good_marks w p st good is there = good
 
 -- Apply
 
@@ -88,12 +73,7 @@ apply_by w p k l false e good is there = good
 
 good_apply : (w : World) (p : ℕ) (st : Stage) → Good w → stage_at w p ≡ st → p < length w.stages → Good (applies w p st)
 good_apply w p (Looked k l) good is there = apply_by w p k l _ refl good is there
-good_apply w p Idle good is there = good
-good_apply w p (Held k) good is there = good
-good_apply w p (Applied k l) good is there = good
-good_apply w p (Failed k l again) good is there = good
-good_apply w p (Ended k) good is there = good
-good_apply w p (Gathered g) good is there = good
+good_apply w p st good is there = good
 
 -- Commit
 
@@ -115,42 +95,23 @@ switch_by w p g false e good is there =
 good_commit : (w : World) (p : ℕ) (st : Stage) → Good w → stage_at w p ≡ st → p < length w.stages → Good (commits w p st)
 good_commit w p (Applied k l) good is there = commit_by w p k l _ _ _ refl refl refl good is there
 good_commit w p (Gathered g) good is there = switch_by w p g _ refl good is there
-good_commit w p Idle good is there = good
-good_commit w p (Held k) good is there = good
-good_commit w p (Looked k l) good is there = good
-good_commit w p (Failed k l again) good is there = good
-good_commit w p (Ended k) good is there = good
+good_commit w p st good is there = good
 
 -- Back and End
 
 good_back : (w : World) (p : ℕ) (st : Stage) → Good w → stage_at w p ≡ st → p < length w.stages → Good (backs w p st)
 good_back w p (Failed k l again) good is there = good_backed w p k l again good is there
-good_back w p Idle good is there = good
-good_back w p (Held k) good is there = good
-good_back w p (Looked k l) good is there = good
-good_back w p (Applied k l) good is there = good
-good_back w p (Ended k) good is there = good
-good_back w p (Gathered g) good is there = good
+good_back w p st good is there = good
 
 good_end : (w : World) (p : ℕ) (st : Stage) → Good w → stage_at w p ≡ st → p < length w.stages → Good (ends w p st)
 good_end w p (Ended k) good is there = good_finished w p (Ended k) good is there (λ u d h. h)
-good_end w p Idle good is there = good
-good_end w p (Held k) good is there = good
-good_end w p (Looked k l) good is there = good
-good_end w p (Applied k l) good is there = good
-good_end w p (Failed k l again) good is there = good
-good_end w p (Gathered g) good is there = good
+good_end w p st good is there = good
 
 -- Gather and Prepare
 
 good_gather : (w : World) (p : ℕ) (set : Tables) (st : Stage) → IsWithinLimits set → Good w → stage_at w p ≡ st → p < length w.stages → Good (gathers w p set st)
 good_gather w p set Idle limits good is there = good_stage w p Idle _ good is there limits (λ u d h. absurd h)
-good_gather w p set (Held k) limits good is there = good
-good_gather w p set (Looked k l) limits good is there = good
-good_gather w p set (Applied k l) limits good is there = good
-good_gather w p set (Failed k l again) limits good is there = good
-good_gather w p set (Ended k) limits good is there = good
-good_gather w p set (Gathered g) limits good is there = good
+good_gather w p set st limits good is there = good
 
 choose : (b : Bool) (v x : World) → Good v → Good x → Good (if b then v else x)
 choose true v x first second = first
@@ -160,12 +121,7 @@ good_prepare : (w : World) (p u : ℕ) (st : Stage) → Good w → stage_at w p 
 good_prepare w p u (Gathered g) good is there =
     choose (nat_lt u (length g.nets) && are_covered (set_at w.sets g.version) g.set (slice_index_or g.nets u no_nets)) _ _
     (good_stage w p (Gathered g) (Gathered record g { prepared = u ∷ g.prepared }) good is there (session w p (Gathered g) good is) (λ x d h. h)) good
-good_prepare w p u Idle good is there = good
-good_prepare w p u (Held k) good is there = good
-good_prepare w p u (Looked k l) good is there = good
-good_prepare w p u (Applied k l) good is there = good
-good_prepare w p u (Failed k l again) good is there = good
-good_prepare w p u (Ended k) good is there = good
+good_prepare w p u st good is there = good
 
 -- All steps
 

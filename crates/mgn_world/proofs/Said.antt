@@ -1,5 +1,5 @@
 -- What is true of every world that is reached.
-use Rattle.std.proofs.Common.{◌≡◌, ◌≢◌, ◌<◌, ◌≤◌, ◌+◌, ◌∙◌, ℕ, suc, Bool, true, false, Option, None, Some, List, length, sym, ap, subst, refl, arith}
+use Rattle.std.proofs.Common.{◌≡◌, ◌≢◌, ◌<◌, ◌≤◌, ◌+◌, ◌∙◌, ℕ, zero, suc, Bool, true, false, Option, None, Some, List, [], ◌∷◌, length, get_or, sym, ap, subst, refl, arith}
 use Rattle.std.specs.Prelude.{if◌then◌else◌, nat_lt, slice_set, slice_index_or}
 use Rattle.std.proofs.lemmas.Bool.Decides.{nat_tests}
 use Rattle.std.proofs.lemmas.List.{get_or-set_same}
@@ -18,7 +18,7 @@ use Rattle.mgn_register.specs.Plans.{plan_of}
 use Rattle.mgn_world.specs.Claims.{HasPlan, IsAmong, IsIn, IsReached, Rests, before_close, call_in, shown_now}
 use Rattle.mgn_world.specs.Stages.{Call, Commit, Stage, View, Idle, Held, Looked, Applied, Failed, Ended, Gathered}
 use Rattle.mgn_world.specs.World.{World, are_stale, commits, desk_at, in_force, is_apart, is_done, is_full, lengthened, lock_at, next, opening, placed, plan_units, planned, stage_at, stepped, unit_nets, units_of, with_stage}
-use Rattle.mgn_world.proofs.Commits.{before_step, has_plan, now_in_force, settled}
+use Rattle.mgn_world.proofs.Commits.{before_step, has_plan, never_apart, now_in_force, settled}
 use Rattle.mgn_world.proofs.Desks.{plan_held}
 use Rattle.mgn_world.proofs.Each.{good_opening, good_run}
 use Rattle.mgn_world.proofs.Effects.{outcome}
@@ -144,3 +144,24 @@ plan_of_stage w k l sees = sees.plan
 
 pub plan_is : (w : World) (p : ℕ) (k : Call) (l : View) → IsReached w → stage_at w p ≡ Applied k l → plan_of (set_at w.sets l.version) (before_close w.state) k.command ≡ l.plan
 plan_is w p k l r is = plan_of_stage w k l (session w p (Applied k l) (good_reached w r) is).1
+
+-- A commit
+
+stage_inside : (stages : List Stage) (p : ℕ) (k : Call) (l : View) → get_or stages p Idle ≡ Applied k l → p < length stages
+stage_inside [] p k l e = cc
+stage_inside (st ∷ stages) zero k l e = omega arith
+stage_inside (st ∷ stages) (suc p) k l e = let less = stage_inside stages p k l e in omega (arith, less)
+
+pub commit_placed : (w : World) (p : ℕ) (k : Call) (l : View) → IsReached w → stage_at w p ≡ Applied k l → is_full w ≡ false → are_stale w.state.version w.desks l.seen ≡ false → next w record { session = suc p; deed = Commit } ≡ placed w p k l (step w.sets w.state (Do k.command))
+commit_placed w p k l r is room fresh =
+    let less : p < length w.stages = stage_inside w.stages p k l is in
+    let there : nat_lt p (length w.stages) ≡ true = grind (arith, nat_tests) in
+    let fits = never_apart w p k l (good_reached w r) is fresh in
+    let stale : Bool = are_stale w.state.version w.desks l.seen in
+    let apart : Bool = is_apart w (plan_of (in_force w) w.state k.command) in
+    let now : World = placed w p k l (step w.sets w.state (Do k.command)) in
+    ap (λ (b : Bool). if b then commits w p (stage_at w p) else w) there
+    ∙ ap (commits w p) is
+    ∙ ap (λ (b : Bool). if b then with_stage w p (Failed k l false) else if stale then with_stage w p (Failed k l true) else if apart then with_stage w p (Failed k l false) else now) room
+    ∙ ap (λ (b : Bool). if b then with_stage w p (Failed k l true) else if apart then with_stage w p (Failed k l false) else now) fresh
+    ∙ ap (λ (b : Bool). if b then with_stage w p (Failed k l false) else now) fits

@@ -9,7 +9,7 @@ ghost use Rattle.mgn_machine.specs.Step.{step};
 ghost use Rattle.mgn_register.specs.Plans.{plan_of};
 ghost use Rattle.mgn_world.specs.Claims.{HasPlan, IsAmong, IsIn, IsReached, IsReplayed, KeepsSets, Rests, Switches, before_close, shown_now};
 ghost use Rattle.mgn_world.specs.Stages.{Applied, Call, Commit, Ended, Failed, Step, View};
-ghost use Rattle.mgn_world.specs.World.{World, are_stale, desk_at, in_force, is_apart, lock_at, next, opening, plan_units, run, stage_at, units_of};
+ghost use Rattle.mgn_world.specs.World.{World, are_stale, desk_at, in_force, is_apart, is_full, lock_at, next, opening, placed, plan_units, run, stage_at, units_of};
 
 /// A law, and no work: after every list of steps of any sessions, however they interleave, the history is legal and the
 /// state is its replay by the machine of one thread. So each reply, with its figures and totals, is that of the machine
@@ -44,6 +44,15 @@ pub fn never_apart()
     ensures { (w : World) (p : ℕ) (k : Call) (l : View)
         → IsReached w → stage_at w p ≡ Applied k l → are_stale w.state.version w.desks l.seen ≡ false
         → is_apart w (plan_of (in_force w) w.state k.command) ≡ false }
+{}
+
+/// A law, and no work: the commit of an applied call is one step of the machine, unless the history is full or another
+/// set came into force since the call looked.
+pub fn a_commit_is_one_step()
+    ensures { (w : World) (p : ℕ) (k : Call) (l : View)
+        → IsReached w → stage_at w p ≡ Applied k l → is_full w ≡ false
+        → are_stale w.state.version w.desks l.seen ≡ false
+        → next w record { session = suc p; deed = Commit } ≡ placed w p k l (step w.sets w.state (Do k.command)) }
 {}
 
 /// A law, and no work: a commit that is done leaves the desks of its plan with the nets of their units as they are then,
