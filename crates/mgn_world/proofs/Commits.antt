@@ -1,22 +1,20 @@
 -- Steps that go through the book.
-use Rattle.std.proofs.Common.{◌≡◌, ◌≢◌, ◌<◌, ◌≤◌, ◌+◌, ◌∙◌, ◌⊎◌, inl, inr, ⊎_elim, ℕ, zero, suc, Bool, true, false, All, Option, None, Some, List, [], ◌∷◌, ◌++◌, length, length-append, map, get_or, set, sym, ap, subst, refl, arith, Result, Ok, Err}
+use Rattle.std.proofs.Common.{◌≡◌, ◌≢◌, ◌<◌, ◌≤◌, ◌+◌, ◌∙◌, ◌⊎◌, inl, inr, ⊎_elim, ℕ, Bool, true, false, All, Option, None, Some, List, [], ◌∷◌, ◌++◌, length, length-append, map, sym, ap, subst, refl, arith, Result, Ok, Err}
 use Rattle.std.specs.Cmp.Lexicographic.{pointwise}
 use Rattle.std.specs.Ordering.{int_eq}
-use Rattle.std.specs.Prelude.{◌==◌, ◌&&◌, ◌||◌, not, if◌then◌else◌, nat_le, nat_lt, slice_index_or, slice_set, ℤ}
-use Rattle.std.proofs.lemmas.Bool.{cases_eq, eq-eqb}
+use Rattle.std.specs.Prelude.{◌&&◌, ◌||◌, not, if◌then◌else◌, nat_lt, slice_index_or, slice_set, ℤ}
+use Rattle.std.proofs.lemmas.Bool.{eq-eqb}
 use Rattle.std.proofs.lemmas.Bool.Decides.{Decides-int_eq, nat_tests}
-use Rattle.std.proofs.lemmas.List.{get_or-set_same, get_or-set_other, get_or_append_left, length-set}
+use Rattle.std.proofs.lemmas.List.{get_or-set_same, get_or-set_other, get_or_append_left}
 use Rattle.mgn_params.specs.Limits.{IsWithinLimits}
 use Rattle.mgn_params.specs.Shelves.{set_at}
 use Rattle.mgn_params.specs.Tables.{Tables, no_tables}
 use Rattle.mgn_desk.specs.Desks.{MarkedNets}
 use Rattle.mgn_desk.specs.Portfolios.{FourNets}
 use Rattle.mgn_machine.specs.declared.command.Command.{Command}
-use Rattle.mgn_machine.specs.declared.entry.Entry.{Entry}
 use Rattle.mgn_machine.specs.declared.reply.Refusal.{Refusal}
 use Rattle.mgn_machine.specs.declared.reply.Reply.{Reply}
 use Rattle.mgn_machine.specs.declared.request.Request.TheVariants.{Do, Switch}
-use Rattle.mgn_machine.specs.History.{calls, entry, recorded}
 use Rattle.mgn_machine.specs.NewSet.{covers, on_call, set_fits}
 use Rattle.mgn_machine.specs.Refusals.{IsKnown}
 use Rattle.mgn_machine.specs.State.{AccountState, State}
@@ -26,20 +24,19 @@ use Rattle.mgn_unit.proofs.Covered.{covers-known}
 use Rattle.mgn_register.specs.declared.plans.Plan.{Plan}
 use Rattle.mgn_register.specs.declared.plans.Plan.TheVariants.{Nothing, One, Two}
 use Rattle.mgn_register.specs.Plans.{plan_of}
-use Rattle.mgn_book.specs.BookViews.{sets_after}
 use Rattle.mgn_world.specs.Claims.{HasPlan, IsAmong, IsReplayed, Rests, before_close}
-use Rattle.mgn_world.specs.Stages.{Call, Gathering, Seen, Stage, View, Idle, Held, Looked, Applied, Failed, Ended, Gathered}
-use Rattle.mgn_world.specs.World.{World, are_fit, are_stale, desk_at, entered, finished, in_force, is_apart, is_done, is_fit, is_full, is_stale, lengthened, lock_at, placed, plan_units, planned, same_nets, seen_at, stage_at, stepped, unit_nets, units_of, with_stage}
-use Rattle.mgn_world.proofs.Standing.{DeskOf, Good, HeldDesk, IsHoused, IsPassed, Owns, Sees, StageOf}
-use Rattle.mgn_world.proofs.Desks.{held_planned, plan_held}
+use Rattle.mgn_world.specs.Stages.{Call, Gathering, Seen, Stage, View, Idle, Held, Applied, Failed, Ended, Gathered}
+use Rattle.mgn_world.specs.World.{World, are_fit, are_stale, desk_at, in_force, is_apart, is_done, is_fit, is_stale, lengthened, lock_at, placed, plan_units, planned, same_nets, seen_at, stage_at, stepped, unit_nets, units_of, with_stage}
+use Rattle.mgn_world.proofs.Standing.{DeskOf, Good, HeldDesk, Owns, Sees, StageOf}
+use Rattle.mgn_world.proofs.Desks.{plan_held}
 use Rattle.mgn_world.proofs.Effects.{Before, Outcome, outcome}
-use Rattle.mgn_world.proofs.Frames.{Change, good_after, holder, owns_kept, planned_same, rests_same, sees_kept, some_same, view_inside}
+use Rattle.mgn_world.proofs.Frames.{Change, good_after, owns_kept, rests_same}
 use Rattle.mgn_world.proofs.Locks.{lengthened_at, lengthened_long}
 use Rattle.mgn_world.proofs.Places.{test_passed}
-use Rattle.mgn_world.proofs.Replays.{last-set, room, run-done, run-switch}
-use Rattle.mgn_world.proofs.Simple.{desk_in, good_stage, held_desk, session, stage_in}
+use Rattle.mgn_world.proofs.Replays.{last-set, run-done, run-switch}
+use Rattle.mgn_world.proofs.Simple.{held_desk, session, stage_in}
 use Rattle.mgn_world.proofs.Stays.{plan_now, plan_open}
-use Rattle.mgn_world.proofs.Twins.{Keeps, keeps-less, keeps-same}
+use Rattle.mgn_world.proofs.Twins.{keeps-less, keeps-same}
 
 pub before_step : (w : World) → Good w → Before (in_force w) w.state
 before_step w good = record { limits = good.limits w.state.version (omega (arith, good.replayed.shown)); known = good.known; housed = good.housed }
@@ -83,9 +80,9 @@ good_commanded w p c stages good few mine same own held =
     (lengthened_long after.0.units w.locks (omega (arith, good.locks_long, out.units)))
     own
     (λ u h.
-      let e : lock_at w u ≡ Some p = ⊎_elim (λ (x : lock_at w u ≡ Some p). x) (λ (x : lock_at v u ≡ Some p). sym (lengthened_at after.0.units w.locks u) ∙ x) h in
-      subst (λ (x : Option MarkedNets × Option ℕ). DeskOf w.sets after.0.accounts stages u x.0 x.1)
-      (λ j. (sym (lengthened_at after.0.units w.desks u) j, sym (lengthened_at after.0.units w.locks u ∙ e) j)) (held u e))
+    let e : lock_at w u ≡ Some p = ⊎_elim (λ (x : lock_at w u ≡ Some p). x) (λ (x : lock_at v u ≡ Some p). sym (lengthened_at after.0.units w.locks u) ∙ x) h in
+    subst (λ (x : Option MarkedNets × Option ℕ). DeskOf w.sets after.0.accounts stages u x.0 x.1)
+    (λ j. (sym (lengthened_at after.0.units w.desks u) j, sym (lengthened_at after.0.units w.locks u ∙ e) j)) (held u e))
 
 own_after : (w : World) (p : ℕ) (c : Command) → Good w → Owns w.locks w.state p c → Owns (lengthened (step_under (in_force w) w.state c).0.units w.locks) (step_under (in_force w) w.state c).0 p c
 own_after w p c good own =
@@ -111,7 +108,7 @@ good_planless w p k good is nothing few =
     good_commanded w p c w.stages good few ok.0.all_of (λ q other. refl)
     (subst (StageOf w.sets after.0 (lengthened after.0.units w.locks) p) (sym is) (own_after w p c good ok.0, omega (arith, ok.1, keeps_version (in_force w) w.state c)))
     (λ u e. subst (HeldDesk w.sets after.0.accounts u (desk_at w u)) (sym is)
-      (rests_same w.sets w.state.accounts after.0.accounts u (desk_at w u) (λ t. out.same nothing t u) (held_desk w p u (Held k) good is e)))
+    (rests_same w.sets w.state.accounts after.0.accounts u (desk_at w u) (λ t. out.same nothing t u) (held_desk w p u (Held k) good is e)))
 
 -- Commit
 
@@ -186,7 +183,7 @@ now_in_force w p k l good is e =
     let ok = session w p (Applied k l) good is in
     let u = some_unit l.plan ok.1.some in
     let later : w.state.version ≤ l.version = fresh_seen l w.sets w.state.accounts w.state.version u.0 w.desks (plan_units l.plan) (set_at w.sets l.version) w.state.accounts (has_plan w p k l good is) u.1
-        (subst (λ (seen : List Seen). are_stale w.state.version w.desks seen ≡ false) ok.1.seen e) in
+    (subst (λ (seen : List Seen). are_stale w.state.version w.desks seen ≡ false) ok.1.seen e) in
     omega (arith, later, ok.1.version)
 
 pub never_apart : (w : World) (p : ℕ) (k : Call) (l : View) → Good w → stage_at w p ≡ Applied k l → are_stale w.state.version w.desks l.seen ≡ false → is_apart w (plan_of (in_force w) w.state k.command) ≡ false
@@ -195,8 +192,8 @@ never_apart w p k l good is e =
     let now = now_in_force w p k l good is e in
     ⊎_elim
     (λ (same : plan_of (in_force w) w.state k.command ≡ plan_of (in_force w) (before_close w.state) k.command).
-      let looked : plan_of (in_force w) w.state k.command ≡ l.plan = same ∙ ap (λ (n : ℕ). plan_of (set_at w.sets n) (before_close w.state) k.command) (sym now) ∙ ok.1.plan in
-      ap (is_apart w) looked ∙ ap not (fit_all w l.plan (plan_units l.plan) l refl now (has_plan w p k l good is)))
+    let looked : plan_of (in_force w) w.state k.command ≡ l.plan = same ∙ ap (λ (n : ℕ). plan_of (set_at w.sets n) (before_close w.state) k.command) (sym now) ∙ ok.1.plan in
+    ap (is_apart w) looked ∙ ap not (fit_all w l.plan (plan_units l.plan) l refl now (has_plan w p k l good is)))
     (λ (gone : plan_of (in_force w) w.state k.command ≡ Nothing). ap (is_apart w) gone)
     (plan_now (in_force w) w.state k.command)
 
@@ -208,11 +205,12 @@ settled w p u k l (Some m) good is now done h =
     let ok = session w p (Applied k l) good is in
     let out = outcome (in_force w) w.state k.command (before_step w good) in
     let looked : plan_of (in_force w) w.state k.command ≡ l.plan =
-        plan_open (in_force w) w.state k.command (out.open_day done) ∙ ap (λ (n : ℕ). plan_of (set_at w.sets n) (before_close w.state) k.command) (sym now) ∙ ok.1.plan in
-    let version : m.version ≡ w.state.version = h.0 ∙ now in
-    (omega (arith, version, good.replayed.shown),
-     h.1 ∙ (λ j. planned (sym looked j) (set_at w.sets (now j)) w.state.accounts u) ∙ sym (out.nets done u)
-     ∙ ap (λ (n : ℕ). unit_nets (set_at w.sets n) (step_under (in_force w) w.state k.command).0.accounts u) (sym version))
+    plan_open (in_force w) w.state k.command (out.open_day done) ∙ ap (λ (n : ℕ). plan_of (set_at w.sets n) (before_close w.state) k.command) (sym now) ∙ ok.1.plan in
+    let version : m.version ≡ w.state.version = h.0 ∙ now in (
+      omega (arith, version, good.replayed.shown),
+      h.1 ∙ (λ j. planned (sym looked j) (set_at w.sets (now j)) w.state.accounts u) ∙ sym (out.nets done u)
+          ∙ ap (λ (n : ℕ). unit_nets (set_at w.sets n) (step_under (in_force w) w.state k.command).0.accounts u) (sym version),
+    )
 
 -- a command with a plan, done or refused
 pub good_placed : (w : World) (p : ℕ) (k : Call) (l : View) → Good w → stage_at w p ≡ Applied k l → p < length w.stages → length w.history < 1000000 → are_stale w.state.version w.desks l.seen ≡ false → Good (placed w p k l (step w.sets w.state (Do k.command)))

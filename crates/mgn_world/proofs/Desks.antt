@@ -1,14 +1,14 @@
 -- The desks of a call: marked, moved by its plan, and moved back.
-use Rattle.std.proofs.Common.{◌≡◌, ◌≢◌, ◌<◌, ◌≤◌, ◌+◌, ◌∙◌, ◌⊎◌, inl, inr, ⊎_elim, ℕ, zero, suc, Bool, true, false, Option, None, Some, List, [], ◌∷◌, length, map, get_or, set, sym, ap, subst, refl, arith, ne_eqb}
-use Rattle.std.specs.Prelude.{◌==◌, ◌&&◌, if◌then◌else◌, nat_lt, slice_index_or, slice_set}
+use Rattle.std.proofs.Common.{◌≡◌, ◌≢◌, ◌<◌, ◌∙◌, inl, inr, ⊎_elim, ℕ, Bool, true, false, Option, None, Some, List, [], ◌∷◌, length, map, get_or, set, sym, ap, subst, refl, arith, ne_eqb}
+use Rattle.std.specs.Prelude.{◌==◌, if◌then◌else◌, nat_lt, slice_index_or, slice_set}
 use Rattle.std.proofs.lemmas.Bool.{cases_eq, eqb-true, eq-eqb}
 use Rattle.std.proofs.lemmas.List.{get_or-set_same, get_or-set_other, length-set, set-get_or}
 use Rattle.mgn_params.specs.Shelves.{set_at}
 use Rattle.mgn_params.specs.Tables.{Tables}
 use Rattle.mgn_desk.specs.Desks.{MarkedNets, Shown, moved_marked}
-use Rattle.mgn_desk.specs.Portfolios.{FourNets, opposite}
+use Rattle.mgn_desk.specs.Portfolios.{opposite}
 use Rattle.mgn_desk.proofs.MovedLemmas.{desk_back}
-use Rattle.mgn_machine.specs.State.{AccountState, State}
+use Rattle.mgn_machine.specs.State.{AccountState}
 use Rattle.mgn_register.specs.declared.plans.Plan.{Plan}
 use Rattle.mgn_register.specs.declared.plans.Plan.TheVariants.{Nothing, One, Two}
 use Rattle.mgn_register.specs.declared.plans.UnitChange.{UnitChange}
@@ -16,9 +16,9 @@ use Rattle.mgn_register.specs.Plans.{UnitNets, moved_nets, nets_by, nets_in, pla
 use Rattle.mgn_unit.specs.Rows.{row_of}
 use Rattle.mgn_pricing.specs.Desks.{four, moves_of}
 use Rattle.mgn_world.specs.Claims.{HasPlan, IsAmong, Rests}
-use Rattle.mgn_world.specs.Stages.{Call, Seen, Stage, View, Idle, Held, Looked, Applied, Failed, Ended, Gathered}
-use Rattle.mgn_world.specs.World.{World, applies, are_of, backs, desk_at, desks_with, desks_without, in_order, is_of, lock_at, mark_first, plan_units, planned, planned_desks, seen_at, stage_at, unit_nets, units_of, unplanned_desks, with_stage}
-use Rattle.mgn_world.proofs.Standing.{DeskOf, Good, HeldDesk, IsPassed, Owns, Sees, StageOf}
+use Rattle.mgn_world.specs.Stages.{Call, Seen, Stage, View, Idle, Held, Looked, Applied, Failed, Ended}
+use Rattle.mgn_world.specs.World.{World, are_of, desk_at, desks_with, desks_without, in_order, is_of, lock_at, mark_first, plan_units, planned_desks, seen_at, stage_at, unit_nets, unplanned_desks}
+use Rattle.mgn_world.proofs.Standing.{Good, HeldDesk, IsPassed, Owns, Sees, StageOf}
 use Rattle.mgn_world.proofs.Frames.{view_inside, view_units}
 use Rattle.mgn_world.proofs.Locks.{both_true, lock_inside}
 use Rattle.mgn_world.proofs.Simple.{good_desks, held_desk, session}
@@ -45,10 +45,10 @@ good_marked w p u k l good is there mine =
     subst (λ (stages : List Stage). Good (record w { desks = now; stages = stages })) (same_stage w p (Looked k l) is)
     (good_desks w p (Looked k l) now good there (length-set w.desks u marked) (session w p (Looked k l) good is)
     (λ x e. ⊎_elim
-      (λ (same : x ≡ u). subst (λ (i : ℕ). Rests w.sets w.state.accounts i (slice_index_or now i None)) (sym same)
-        (subst (Rests w.sets w.state.accounts u) (sym (get_or-set_same w.desks u marked None (desk_inside w p u good mine))) (view_inside w.sets w.state k l good.replayed.shown (session w p (Looked k l) good is).1, refl)))
-      (λ (other : x ≢ u). subst (Rests w.sets w.state.accounts x) (sym (get_or-set_other w.desks u x marked None other)) (held_desk w p x (Looked k l) good is e))
-      (cases_eq x u))
+    (λ (same : x ≡ u). subst (λ (i : ℕ). Rests w.sets w.state.accounts i (slice_index_or now i None)) (sym same)
+    (subst (Rests w.sets w.state.accounts u) (sym (get_or-set_same w.desks u marked None (desk_inside w p u good mine))) (view_inside w.sets w.state k l good.replayed.shown (session w p (Looked k l) good is).1, refl)))
+    (λ (other : x ≢ u). subst (Rests w.sets w.state.accounts x) (sym (get_or-set_other w.desks u x marked None other)) (held_desk w p x (Looked k l) good is e))
+    (cases_eq x u))
     (λ x n. get_or-set_other w.desks u x marked None (λ (e : x ≡ u). n (ap (lock_at w) e ∙ mine))))
   where
     marked : Option MarkedNets
@@ -93,7 +93,7 @@ unplanned_at (Two u v) x d = unmoved_at u x (unmoved_at v x d)
 set_by : (desks : List (Option MarkedNets)) (n x : ℕ) (f : Option MarkedNets → Option MarkedNets) → n < length desks → get_or (set desks n (f (get_or desks n None))) x None ≡ (if n == x then f (get_or desks x None) else get_or desks x None)
 set_by desks n x f inside = ⊎_elim
     (λ (e : n ≡ x). subst (λ (i : ℕ). get_or (set desks n (f (get_or desks n None))) i None ≡ (if n == i then f (get_or desks i None) else get_or desks i None)) e
-      (get_or-set_same desks n (f (get_or desks n None)) None inside ∙ sym (ap (λ (b : Bool). if b then f (get_or desks n None) else get_or desks n None) (eq-eqb n n refl))))
+    (get_or-set_same desks n (f (get_or desks n None)) None inside ∙ sym (ap (λ (b : Bool). if b then f (get_or desks n None) else get_or desks n None) (eq-eqb n n refl))))
     (λ (m : n ≢ x). get_or-set_other desks n x (f (get_or desks n None)) None (λ (e : x ≡ n). m (sym e)) ∙ sym (ap (λ (b : Bool). if b then f (get_or desks x None) else get_or desks x None) (ne_eqb n x m)))
     (cases_eq n x)
 
@@ -219,11 +219,11 @@ pub good_applied : (w : World) (p : ℕ) (k : Call) (l : View) → Good w → st
 good_applied w p k l good is there all_of =
     good_desks w p (Applied k l) (planned_desks l.plan w.desks) good there (planned_long l.plan w.desks) ok
     (λ u e.
-      let h = held_planned w p u k l ok.0 ok.1 e in
-      subst (HasPlan w.sets w.state.accounts l u) (sym (planned_desk l.plan w.desks u inside))
-      (planned_has w.sets w.state.accounts l u (desk_at w u)
-      (ready w.sets w.state.accounts l.version u (desk_at w u) (seen_of l.version w.desks (set_at w.sets l.version) w.state.accounts (plan_units l.plan) u (subst (λ (seen : List Seen). are_of l.version w.desks seen ≡ true) ok.1.seen all_of) h)
-      (held_desk w p u (Looked k l) good is e))))
+    let h = held_planned w p u k l ok.0 ok.1 e in
+    subst (HasPlan w.sets w.state.accounts l u) (sym (planned_desk l.plan w.desks u inside))
+    (planned_has w.sets w.state.accounts l u (desk_at w u)
+    (ready w.sets w.state.accounts l.version u (desk_at w u) (seen_of l.version w.desks (set_at w.sets l.version) w.state.accounts (plan_units l.plan) u (subst (λ (seen : List Seen). are_of l.version w.desks seen ≡ true) ok.1.seen all_of) h)
+    (held_desk w p u (Looked k l) good is e))))
     (λ u n. planned_desk l.plan w.desks u inside ∙ planned_other l.plan u (desk_at w u) (λ h. n (plan_held w p u k l ok.0 ok.1 h)))
   where
     ok : Owns w.locks w.state p k.command × Sees w.sets w.state k l
@@ -248,7 +248,7 @@ good_backed w p k l again good is there = by again is
     by : (b : Bool) → stage_at w p ≡ Failed k l b → Good (record w { desks = unplanned_desks l.plan w.desks; stages = slice_set w.stages p (if b then Held k else Ended k) })
     by b is = good_desks w p (if b then Held k else Ended k) (unplanned_desks l.plan w.desks) good there (unplanned_long l.plan w.desks) (after b is)
         (λ u e. rests b u (subst (Rests w.sets w.state.accounts u) (sym (unplanned_desk l.plan w.desks u inside))
-          (unplanned_rests w.sets w.state.accounts l u (desk_at w u) (view_inside w.sets w.state k l good.replayed.shown ok.1) (held_desk w p u (Failed k l b) good is e))))
+        (unplanned_rests w.sets w.state.accounts l u (desk_at w u) (view_inside w.sets w.state k l good.replayed.shown ok.1) (held_desk w p u (Failed k l b) good is e))))
         (λ u n. unplanned_desk l.plan w.desks u inside ∙ unplanned_other l.plan u (desk_at w u) (λ h. n (plan_held w p u k l ok.0 ok.1 h)))
       where
         ok : Owns w.locks w.state p k.command × Sees w.sets w.state k l × IsPassed b l.version w.state.version

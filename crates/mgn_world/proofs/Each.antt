@@ -1,11 +1,10 @@
 -- Each step keeps the world good.
-use Rattle.std.proofs.Common.{◌≡◌, ◌≢◌, ◌<◌, ◌+◌, ◌∙◌, ℕ, zero, suc, Bool, true, false, Option, None, Some, List, [], ◌∷◌, length, sym, ap, subst, refl, arith}
+use Rattle.std.proofs.Common.{◌≡◌, ◌<◌, ◌∙◌, ℕ, zero, suc, Bool, true, false, List, [], ◌∷◌, length, sym, ap, subst, refl, arith}
 use Rattle.std.specs.Prelude.{if◌then◌else◌, nat_lt, slice_set, ◌&&◌, slice_index_or}
 use Rattle.std.proofs.lemmas.Bool.Decides.{nat_tests}
 use Rattle.mgn_params.specs.Limits.{IsWithinLimits}
 use Rattle.mgn_params.specs.Shelves.{set_at}
 use Rattle.mgn_params.specs.Tables.{Tables}
-use Rattle.mgn_desk.specs.Desks.{MarkedNets}
 use Rattle.mgn_machine.specs.declared.command.Command.{Command}
 use Rattle.mgn_machine.specs.declared.request.Request.{Request}
 use Rattle.mgn_machine.specs.declared.request.Request.TheVariants.{Do, Switch}
@@ -13,11 +12,11 @@ use Rattle.mgn_machine.specs.Step.{step}
 use Rattle.mgn_register.specs.declared.plans.Plan.{Plan}
 use Rattle.mgn_register.specs.declared.plans.Plan.TheVariants.{Nothing, One, Two}
 use Rattle.mgn_register.specs.Plans.{plan_of}
-use Rattle.mgn_world.specs.Claims.{AreLimited, IsLimited, Rests}
+use Rattle.mgn_world.specs.Claims.{AreLimited, IsLimited}
 use Rattle.mgn_world.specs.Stages.{Call, Deed, Gathering, Stage, Step, View, Idle, Held, Looked, Applied, Failed, Ended, Gathered, Begin, Look, Mark, Apply, Commit, Back, End, Gather, Prepare}
-use Rattle.mgn_world.specs.World.{World, applies, are_covered, are_free, are_of, are_stale, backs, begin_on, begins, commits, does, does_as, ends, entered, finished, gathers, in_force, is_apart, is_full, look_on, looks, marks, next, no_nets, opening, placed, planned_desks, prepares, run, stage_at, stepped, taken, units_of, with_stage}
-use Rattle.mgn_world.proofs.Standing.{Good, HeldDesk, StageOf}
-use Rattle.mgn_world.proofs.Commits.{good_at_once, good_placed, good_planless, good_switch, never_apart, stale_passed}
+use Rattle.mgn_world.specs.World.{World, applies, are_covered, are_free, are_of, are_stale, backs, begin_on, begins, commits, does, does_as, ends, finished, gathers, in_force, is_apart, is_full, look_on, looks, marks, next, no_nets, opening, placed, planned_desks, prepares, run, stage_at, stepped, taken, units_of, with_stage}
+use Rattle.mgn_world.proofs.Standing.{Good, StageOf}
+use Rattle.mgn_world.proofs.Commits.{good_at_once, good_placed, good_planless, good_switch, stale_passed}
 use Rattle.mgn_world.proofs.Desks.{good_applied, good_backed, good_mark}
 use Rattle.mgn_world.proofs.Locks.{none_past}
 use Rattle.mgn_world.proofs.Replays.{replayed-opening, room}

@@ -1,5 +1,5 @@
 -- What a command does to the accounts and nets of margin units.
-use Rattle.std.proofs.Common.{◌≡◌, ◌≢◌, ◌<◌, ◌≤◌, ◌+◌, ◌∙◌, inl, inr, ⊎_elim, ℕ, Bool, true, false, All, Option, None, Some, List, [], ◌∷◌, ◌++◌, length, get_or, set, sym, ap, subst, refl, arith, Result, Ok, Err, eq-eqb, ne_eqb, IfSome}
+use Rattle.std.proofs.Common.{◌≡◌, ◌≢◌, ◌<◌, ◌≤◌, ◌+◌, ◌∙◌, inl, inr, ⊎_elim, ℕ, Bool, true, false, All, Option, None, Some, List, [], ◌∷◌, length, set, sym, ap, subst, refl, arith, Result, Ok, Err, eq-eqb, ne_eqb, IfSome}
 use Rattle.std.specs.Prelude.{◌==◌, if◌then◌else◌, int_lt, ℤ, pos, neg_ℤ, ◌+ℤ◌, slice_index_or}
 use Rattle.std.specs.Str.{bytes_eq}
 use Rattle.std.proofs.lemmas.Bool.{cases_eq, eqb-true}
@@ -28,7 +28,7 @@ use Rattle.mgn_machine.specs.declared.reply.Reply.{Reply}
 use Rattle.mgn_machine.specs.declared.reply.Reply.TheVariants.{Done, Refused}
 use Rattle.mgn_machine.specs.Holding.{entered, fill_of, fill_places, filled, hold_places, new_hold, release_places, released, with_hold, without_hold}
 use Rattle.mgn_machine.specs.Portfolios.{Portfolio, OnlyLots, WithBuys, WithSales, WithAll, account_net, unit_sum}
-use Rattle.mgn_machine.specs.Refusals.{◌>>=◌, IsKnown, bust_places, contract_of, draw_place, found, has_contract, home_of, if_room, open_home, origin_fits, place_of, post_place, refuse_if, trade_places}
+use Rattle.mgn_machine.specs.Refusals.{◌>>=◌, IsKnown, bust_places, contract_of, draw_place, has_contract, home_of, if_room, open_home, origin_fits, place_of, post_place, refuse_if, trade_places}
 use Rattle.mgn_machine.specs.Room.{unit_room}
 use Rattle.mgn_machine.specs.State.{AccountState, State, account_at, fresh, no_account, put, traded_lot, with_amount, with_bust, with_lot}
 use Rattle.mgn_machine.specs.Step.{answered, asked as figures_asked, drawn, ended, opened, originated, posted, stated, step_under, totalled, traded, undone, with_account, with_origin}
@@ -45,14 +45,14 @@ use Rattle.mgn_unit.proofs.TransferMoves.{moved-moves}
 use Rattle.mgn_register.specs.declared.plans.Plan.{Plan}
 use Rattle.mgn_register.specs.declared.plans.Plan.TheVariants.{Nothing, One, Two}
 use Rattle.mgn_register.specs.declared.plans.UnitChange.{UnitChange}
-use Rattle.mgn_register.specs.Plans.{UnitNets, both_plan, bust_plan, bust_plan_at, fill_plan, fill_plan_at, hold_plan, in_unit_of, move_plan, moved_nets, nets_by, nets_in, plan_of, planned_nets, release_plan, release_plan_at, trade_plan}
+use Rattle.mgn_register.specs.Plans.{UnitNets, bust_plan, bust_plan_at, fill_plan, fill_plan_at, hold_plan, in_unit_of, move_plan, moved_nets, nets_by, nets_in, plan_of, release_plan, release_plan_at, trade_plan}
 use Rattle.mgn_register.proofs.Kept.{contract-stands, found-Some, known-stands, stands-known}
 use Rattle.mgn_pricing.specs.Desks.{four}
 use Rattle.mgn_world.specs.Claims.{IsAmong}
 use Rattle.mgn_world.specs.World.{is_done, planned, unit_found, unit_nets, units_found, units_of}
 use Rattle.mgn_world.proofs.Standing.{IsHoused}
 use Rattle.mgn_world.proofs.Places.{Takes, bust_at, fill_at, first_done, hold_takes, move_at, release_at, test_passed, trade_at}
-use Rattle.mgn_world.proofs.Twins.{IsBare, Keeps, Twin, keeps-push, keeps-same, keeps-set, nets-by_sums, nets-kept, place-inside, twin-both}
+use Rattle.mgn_world.proofs.Twins.{IsBare, Keeps, keeps-push, keeps-same, keeps-set, nets-by_sums, nets-kept, place-inside, twin-both}
 
 -- what is known before a command
 pub record Before (set' : Tables) (s : State) : Type 0 where
@@ -133,9 +133,9 @@ nets-put : (set' : Tables) (accounts : List AccountState) (k u : ℕ) (b : Accou
     → nets_in (row_of set' (set accounts k b) u) ≡ nets_by (changed_at accounts k change) u (nets_in (row_of set' accounts u))
 nets-put set' accounts k u b contract change inside stands moves = ⊎_elim
     (λ (e : (account_at accounts k).unit ≡ u). ap nets_in (row-moved set' accounts k u b contract change stands record { inside = inside; was = e; now = moves.unit ∙ e } moves)
-      ∙ sym (nets_by-same (changed_at accounts k change) u (nets_in (row_of set' accounts u)) e))
+    ∙ sym (nets_by-same (changed_at accounts k change) u (nets_in (row_of set' accounts u)) e))
     (λ (n : (account_at accounts k).unit ≢ u). ap nets_in (row-apart set' accounts k u b inside n moves.unit)
-      ∙ sym (nets_by-other (changed_at accounts k change) u (nets_in (row_of set' accounts u)) n))
+    ∙ sym (nets_by-other (changed_at accounts k change) u (nets_in (row_of set' accounts u)) n))
     (cases_eq (account_at accounts k).unit u)
 
 -- what replaces an account
@@ -382,7 +382,7 @@ sum-within set' accounts g k u p c m there here apart one = ⊎_elim own other (
     own e =
         let given = sum-moved u f accounts g a (if bytes_eq m.contract c then neg_ℤ m.quantity else pos 0) there e e (lot-counts set' (account_at accounts g) p c m (neg_ℤ m.quantity)) in
         let taken = sum-moved u f first k b (if bytes_eq m.contract c then m.quantity else pos 0) inside (ap (λ (x : AccountState). x.unit) kept ∙ sym one ∙ e) (sym one ∙ e)
-            (lot-counts set' (account_at accounts k) p c m m.quantity ∙ ap (λ (x : AccountState). f x +ℤ (if bytes_eq m.contract c then m.quantity else pos 0)) (sym kept)) in
+        (lot-counts set' (account_at accounts k) p c m m.quantity ∙ ap (λ (x : AccountState). f x +ℤ (if bytes_eq m.contract c then m.quantity else pos 0)) (sym kept)) in
         omega (arith, ints, given, taken, shared (bytes_eq m.contract c) m.quantity)
 
     other : (account_at accounts g).unit ≢ u → unit_sum u f (set first k b) ≡ unit_sum u f accounts
@@ -479,7 +479,7 @@ move-outcome set' s m before = by (move_places set' s m) refl
         let now = with_move s g k m in
         in_rooms set' s us _ now (int_lt (unit_room set' now.accounts (account_at s.accounts g).unit) (pos 0)) (int_lt (unit_room set' now.accounts (account_at s.accounts k).unit) (pos 0)) before there.0.open_day
         (effect-move set' s us m g k i ((account_at s.accounts g).unit == (account_at s.accounts k).unit) before (place-inside s m.from g there.0.place) (place-inside s m.to k there.1.place) there.2 there.3
-          (λ j. units_found s (there.0.place j) (there.1.place j)) refl)
+        (λ j. units_found s (there.0.place j) (there.1.place j)) refl)
 
 -- Commands that change no portfolio.
 

@@ -1,5 +1,5 @@
 -- What a step of one session leaves alone.
-use Rattle.std.proofs.Common.{◌≡◌, ◌≢◌, ◌<◌, ◌≤◌, ◌+◌, ◌∙◌, ◌⊎◌, inl, inr, ⊎_elim, ℕ, suc, Bool, true, false, All, Option, None, Some, List, [], ◌∷◌, length, map, sym, ap, subst, refl, arith}
+use Rattle.std.proofs.Common.{◌≡◌, ◌≢◌, ◌<◌, ◌≤◌, ◌+◌, ◌∙◌, ◌⊎◌, inl, inr, ⊎_elim, ℕ, Bool, true, false, All, Option, None, Some, List, [], ◌∷◌, length, map, sym, ap, subst, refl, arith}
 use Rattle.std.specs.Prelude.{slice_index_or}
 use Rattle.std.proofs.lemmas.Bool.{cases_eq}
 use Rattle.mgn_params.specs.Limits.{IsWithinLimits}
@@ -14,7 +14,7 @@ use Rattle.mgn_register.specs.declared.plans.Plan.{Plan}
 use Rattle.mgn_register.specs.Plans.{UnitNets, plan_of, planned_nets}
 use Rattle.mgn_pricing.specs.Desks.{four}
 use Rattle.mgn_world.specs.Claims.{HasPlan, IsAmong, IsReplayed, Rests, before_close}
-use Rattle.mgn_world.specs.Stages.{Call, Seen, Stage, View, Idle, Held, Looked, Applied, Failed, Ended, Gathered}
+use Rattle.mgn_world.specs.Stages.{Call, Stage, View, Idle, Held, Looked, Applied, Failed, Ended, Gathered}
 use Rattle.mgn_world.specs.World.{World, desk_at, in_force, lock_at, plan_units, planned, seen_at, stage_at, unit_nets, units_of}
 use Rattle.mgn_world.proofs.Standing.{DeskOf, Good, HeldDesk, IsHoused, IsPassed, Owns, Sees, StageOf}
 use Rattle.mgn_world.proofs.Stays.{SameUnits, plan_stays, plan_units-are, units_before, units_stay}
@@ -52,9 +52,10 @@ planned_same plan t t' xs ys u e = ap (λ (n : FourNets). four (planned_nets pla
 
 pub rests_kept : (M : ℕ → Type 0) (sets now : List Tables) (xs ys : List AccountState) (u : ℕ) (d : Option MarkedNets) → length sets ≤ length now → ((i : ℕ) → i < length sets → set_at now i ≡ set_at sets i) → M u → Keeps M xs ys → Rests sets xs u d → Rests now ys u d
 rests_kept M sets now xs ys u None long same alone keeps rests = tt
-rests_kept M sets now xs ys u (Some m) long same alone keeps rests =
-    (omega (arith, rests.0, long),
-     rests.1 ∙ sym (nets-kept M (set_at sets m.version) u xs ys alone keeps) ∙ ap (λ (t : Tables). unit_nets t ys u) (sym (same m.version rests.0)))
+rests_kept M sets now xs ys u (Some m) long same alone keeps rests = (
+  omega (arith, rests.0, long),
+  rests.1 ∙ sym (nets-kept M (set_at sets m.version) u xs ys alone keeps) ∙ ap (λ (t : Tables). unit_nets t ys u) (sym (same m.version rests.0)),
+)
 
 -- where no net of the unit changed
 pub rests_same : (sets : List Tables) (xs ys : List AccountState) (u : ℕ) (d : Option MarkedNets) → ((t : Tables) → unit_nets t ys u ≡ unit_nets t xs u) → Rests sets xs u d → Rests sets ys u d
@@ -63,10 +64,11 @@ rests_same sets xs ys u (Some m) same rests = (rests.0, rests.1 ∙ sym (same (s
 
 pub plan_kept : (M : ℕ → Type 0) (sets now : List Tables) (xs ys : List AccountState) (l : View) (u : ℕ) (d : Option MarkedNets) → l.version < length sets → ((i : ℕ) → i < length sets → set_at now i ≡ set_at sets i) → M u → Keeps M xs ys → HasPlan sets xs l u d → HasPlan now ys l u d
 plan_kept M sets now xs ys l u None there same alone keeps has = has
-plan_kept M sets now xs ys l u (Some m) there same alone keeps has =
-    (has.0,
-     has.1 ∙ sym (planned_same l.plan (set_at sets l.version) (set_at now l.version) xs ys u
-      (ap (λ (t : Tables). unit_nets t ys u) (same l.version there) ∙ nets-kept M (set_at sets l.version) u xs ys alone keeps)))
+plan_kept M sets now xs ys l u (Some m) there same alone keeps has = (
+  has.0,
+  has.1 ∙ sym (planned_same l.plan (set_at sets l.version) (set_at now l.version) xs ys u
+      (ap (λ (t : Tables). unit_nets t ys u) (same l.version there) ∙ nets-kept M (set_at sets l.version) u xs ys alone keeps)),
+)
 
 pub view_inside : (sets : List Tables) (s : State) (k : Call) (l : View) → length sets ≡ s.version + 1 → Sees sets s k l → l.version < length sets
 view_inside sets s k l shown sees = omega (arith, shown, sees.version)

@@ -1,11 +1,11 @@
 -- Units that a session takes and gives back.
-use Rattle.std.proofs.Common.{◌≡◌, ◌≢◌, ◌<◌, ◌≤◌, ◌+◌, ◌-◌, ◌∙◌, ◌⊎◌, inl, inr, ⊎_elim, ℕ, zero, suc, Bool, true, false, Option, None, Some, List, [], ◌∷◌, ◌++◌, length, map, get_or, set, replicate, sym, ap, subst, refl, arith}
-use Rattle.std.specs.Prelude.{◌&&◌, ◌==◌, if◌then◌else◌, nat_lt}
+use Rattle.std.proofs.Common.{◌≡◌, ◌≢◌, ◌<◌, ◌≤◌, ◌-◌, ◌∙◌, ◌⊎◌, inl, inr, ⊎_elim, ℕ, zero, suc, Bool, true, false, Option, None, Some, List, [], ◌∷◌, ◌++◌, length, map, get_or, set, replicate, ap, refl, arith}
+use Rattle.std.specs.Prelude.{◌&&◌, if◌then◌else◌}
 use Rattle.std.proofs.lemmas.Bool.{cases_eq, eq-eqb, ne_eqb}
-use Rattle.std.proofs.lemmas.List.{get_or-set_same, get_or-set_other, length-append, length-map, length-replicate, length-set}
+use Rattle.std.proofs.lemmas.List.{get_or-set_same, get_or-set_other, length-append, length-replicate, length-set}
 use Rattle.mgn_world.specs.Claims.{IsAmong}
 use Rattle.mgn_world.specs.World.{are_free, freed, is_free, lengthened, taken}
-use Rattle.mgn_world.proofs.Frames.{holder, some_none, some_same}
+use Rattle.mgn_world.proofs.Frames.{some_same}
 
 -- it is there or not
 pub among_or : (u : ℕ) (us : List ℕ) → IsAmong u us ⊎ (IsAmong u us → ⊥)

@@ -1,10 +1,9 @@
 -- What is true of every world that is reached.
-use Rattle.std.proofs.Common.{◌≡◌, ◌≢◌, ◌<◌, ◌≤◌, ◌+◌, ◌∙◌, ℕ, zero, suc, Bool, true, false, Option, None, Some, List, [], ◌∷◌, length, get_or, sym, ap, subst, refl, arith}
-use Rattle.std.specs.Prelude.{if◌then◌else◌, nat_lt, slice_set, slice_index_or}
+use Rattle.std.proofs.Common.{◌≡◌, ◌<◌, ◌≤◌, ◌+◌, ◌∙◌, ℕ, zero, suc, Bool, true, false, Option, None, Some, List, [], ◌∷◌, length, get_or, sym, ap, subst, refl, arith}
+use Rattle.std.specs.Prelude.{if◌then◌else◌, nat_lt}
 use Rattle.std.proofs.lemmas.Bool.Decides.{nat_tests}
 use Rattle.std.proofs.lemmas.List.{get_or-set_same}
 use Rattle.mgn_params.specs.Shelves.{set_at}
-use Rattle.mgn_params.specs.Tables.{Tables}
 use Rattle.mgn_desk.specs.Desks.{MarkedNets}
 use Rattle.mgn_machine.specs.declared.command.Command.{Command}
 use Rattle.mgn_machine.specs.declared.reply.Refusal.{Refusal}
@@ -17,7 +16,7 @@ use Rattle.mgn_machine.proofs.Versions.{keeps_version}
 use Rattle.mgn_register.specs.Plans.{plan_of}
 use Rattle.mgn_world.specs.Claims.{HasPlan, IsAmong, IsIn, IsReached, Rests, before_close, call_in, shown_now}
 use Rattle.mgn_world.specs.Stages.{Call, Commit, Stage, View, Idle, Held, Looked, Applied, Failed, Ended, Gathered}
-use Rattle.mgn_world.specs.World.{World, are_stale, commits, desk_at, in_force, is_apart, is_done, is_full, lengthened, lock_at, next, opening, placed, plan_units, planned, stage_at, stepped, unit_nets, units_of, with_stage}
+use Rattle.mgn_world.specs.World.{World, are_stale, commits, desk_at, in_force, is_apart, is_done, is_full, lock_at, next, opening, placed, plan_units, stage_at, stepped, unit_nets, units_of, with_stage}
 use Rattle.mgn_world.proofs.Commits.{before_step, has_plan, never_apart, now_in_force, settled}
 use Rattle.mgn_world.proofs.Desks.{plan_held}
 use Rattle.mgn_world.proofs.Each.{good_opening, good_run}

@@ -1,32 +1,24 @@
 -- Steps that change the stage of one session, its desks or its locks, and leave the book alone.
-use Rattle.std.proofs.Common.{◌≡◌, ◌≢◌, ◌<◌, ◌≤◌, ◌+◌, ◌∙◌, ◌⊎◌, inl, inr, ⊎_elim, ℕ, zero, suc, Bool, true, false, All, Option, None, Some, List, [], ◌∷◌, length, map, get_or, set, sym, ap, subst, refl, arith, Result, Ok, Err}
-use Rattle.std.specs.Prelude.{◌==◌, ◌&&◌, if◌then◌else◌, slice_index_or, slice_set}
-use Rattle.std.proofs.lemmas.Bool.{cases_eq, eqb-true}
-use Rattle.std.proofs.lemmas.List.{get_or-set_same, get_or-set_other, length-map, length-set}
+use Rattle.std.proofs.Common.{◌≡◌, ◌≢◌, ◌<◌, ◌∙◌, inl, ⊎_elim, ℕ, true, Option, None, Some, List, [], ◌∷◌, length, sym, subst, refl, arith, Result, Ok, Err}
+use Rattle.std.specs.Prelude.{slice_index_or, slice_set}
+use Rattle.std.proofs.lemmas.List.{get_or-set_same, get_or-set_other, length-map}
 use Rattle.std.proofs.lemmas.List.Elements.{All-get_or}
-use Rattle.mgn_params.specs.Limits.{IsWithinLimits}
-use Rattle.mgn_params.specs.Shelves.{set_at}
 use Rattle.mgn_params.specs.Tables.{Tables}
-use Rattle.mgn_desk.specs.Desks.{MarkedNets, moved_marked}
-use Rattle.mgn_desk.specs.Portfolios.{opposite}
-use Rattle.mgn_desk.proofs.MovedLemmas.{desk_back}
+use Rattle.mgn_desk.specs.Desks.{MarkedNets}
 use Rattle.mgn_machine.specs.declared.command.Command.{Command}
 use Rattle.mgn_machine.specs.declared.command.Command.TheVariants as asked
 use Rattle.mgn_machine.specs.declared.reply.Refusal.{Refusal}
 use Rattle.mgn_machine.specs.Refusals.{place_of}
 use Rattle.mgn_machine.specs.State.{AccountState, State, account_at, no_account}
 use Rattle.mgn_register.specs.declared.plans.Plan.{Plan}
-use Rattle.mgn_register.specs.declared.plans.Plan.TheVariants.{Nothing, One, Two}
-use Rattle.mgn_register.specs.declared.plans.UnitChange.{UnitChange}
-use Rattle.mgn_register.specs.Plans.{UnitNets, nets_by, nets_in, plan_of, planned_nets}
-use Rattle.mgn_unit.specs.Rows.{row_of}
-use Rattle.mgn_pricing.specs.Desks.{four, moves_of}
-use Rattle.mgn_world.specs.Claims.{HasPlan, IsAmong, Rests, before_close}
-use Rattle.mgn_world.specs.Stages.{Call, Seen, Stage, View, Idle, Held, Looked, Applied, Failed, Ended, Gathered}
-use Rattle.mgn_world.specs.World.{World, are_free, are_of, desk_at, desks_with, desks_without, finished, freed, in_force, in_order, is_of, lock_at, looked_at, mark_first, plan_units, planned, planned_desks, seen_at, stage_at, taken, unit_found, unit_nets, units_found, units_of, unplanned_desks, with_stage}
-use Rattle.mgn_world.proofs.Standing.{DeskOf, Good, HeldDesk, IsHoused, IsPassed, Owns, Sees, StageOf}
-use Rattle.mgn_world.proofs.Frames.{Change, good_after, holder, some_none, some_same, view_inside, view_units}
-use Rattle.mgn_world.proofs.Locks.{among_or, both_true, free_at, freed_at, freed_mine, freed_other, lock_inside, taken_long, taken_mine, taken_other}
+use Rattle.mgn_register.specs.declared.plans.Plan.TheVariants.{Nothing}
+use Rattle.mgn_register.specs.Plans.{plan_of}
+use Rattle.mgn_world.specs.Claims.{IsAmong, Rests, before_close}
+use Rattle.mgn_world.specs.Stages.{Call, Stage, Idle, Held}
+use Rattle.mgn_world.specs.World.{World, are_free, desk_at, finished, freed, in_force, lock_at, looked_at, stage_at, taken, unit_found, units_found, units_of, with_stage}
+use Rattle.mgn_world.proofs.Standing.{DeskOf, Good, HeldDesk, IsHoused, Owns, StageOf}
+use Rattle.mgn_world.proofs.Frames.{good_after, holder, some_none, some_same}
+use Rattle.mgn_world.proofs.Locks.{among_or, free_at, freed_at, freed_mine, freed_other, taken_long, taken_mine, taken_other}
 use Rattle.mgn_world.proofs.Stays.{plan_now}
 use Rattle.mgn_world.proofs.Twins.{keeps-same, place-inside}
 
@@ -64,7 +56,7 @@ good_desks w p st desks good there long ok mine rest =
     good.replayed good.limits good.known good.housed (long ∙ good.desks_long) good.locks_long
     (stage_in w.stages p st w.sets w.state w.locks there ok)
     (λ u h. let e : lock_at w u ≡ Some p = ⊎_elim (λ (x : lock_at w u ≡ Some p). x) (λ (x : lock_at w u ≡ Some p). x) h in
-      desk_in w.stages p st w.sets w.state.accounts u (slice_index_or desks u None) (lock_at w u) there e (mine u e))
+    desk_in w.stages p st w.sets w.state.accounts u (slice_index_or desks u None) (lock_at w u) there e (mine u e))
 
 -- A step of its stage alone.
 pub good_stage : (w : World) (p : ℕ) (old st : Stage) → Good w → stage_at w p ≡ old → p < length w.stages → StageOf w.sets w.state w.locks p st
@@ -122,11 +114,11 @@ good_taken w p c good idle there some free =
     good.replayed good.limits good.known good.housed good.desks_long (taken_long p us w.locks ∙ good.locks_long)
     (stage_in w.stages p (Held (call_of w c)) w.sets w.state v.locks there (own, omega arith))
     (λ u h. ⊎_elim (λ (e : lock_at w u ≡ Some p). absurd (held_desk w p u Idle good idle e))
-      (λ (e : lock_at v u ≡ Some p).
-        let mine = own.no_other u e in
-        desk_in w.stages p (Held (call_of w c)) w.sets w.state.accounts u (desk_at w u) (lock_at v u) there e
-        (subst (DeskOf w.sets w.state.accounts w.stages u (desk_at w u)) (free_at w.locks us u free mine) (good.desks u)))
-      h)
+    (λ (e : lock_at v u ≡ Some p).
+    let mine = own.no_other u e in
+    desk_in w.stages p (Held (call_of w c)) w.sets w.state.accounts u (desk_at w u) (lock_at v u) there e
+    (subst (DeskOf w.sets w.state.accounts w.stages u (desk_at w u)) (free_at w.locks us u free mine) (good.desks u)))
+    h)
   where
     us : List ℕ
     us = units_of w.state c
@@ -161,9 +153,9 @@ good_finished w p st good is there on =
     good.replayed good.limits good.known good.housed good.desks_long (length-map w.locks (freed p) ∙ good.locks_long)
     (stage_in w.stages p Idle w.sets w.state v.locks there tt)
     (λ u h. ⊎_elim (λ (e : lock_at w u ≡ Some p). given_back u e)
-      (λ (e : lock_at v u ≡ Some p). ⊎_elim (λ (mine : lock_at w u ≡ Some p). given_back u mine)
-        (λ (n : lock_at w u ≢ Some p). absurd (n (sym (freed_at p w.locks u ∙ freed_other p (lock_at w u) n) ∙ e))) (holder (lock_at w u) p))
-      h)
+    (λ (e : lock_at v u ≡ Some p). ⊎_elim (λ (mine : lock_at w u ≡ Some p). given_back u mine)
+    (λ (n : lock_at w u ≢ Some p). absurd (n (sym (freed_at p w.locks u ∙ freed_other p (lock_at w u) n) ∙ e))) (holder (lock_at w u) p))
+    h)
   where
     v : World
     v = finished w p
@@ -175,14 +167,16 @@ good_finished w p st good is there on =
 pub good_looked : (w : World) (p : ℕ) (k : Call) (plan : Plan) → Good w → stage_at w p ≡ Held k → p < length w.stages → plan_of (in_force w) w.state k.command ≡ plan → plan ≢ Nothing → Good (with_stage w p (looked_at w k plan))
 good_looked w p k plan good is there found some =
     let ok = session w p (Held k) good is in
-    good_stage w p (Held k) (looked_at w k plan) good is there
-    (ok.0, record {
-      version = omega arith;
-      plan = ⊎_elim (λ (e : plan_of (in_force w) w.state k.command ≡ plan_of (in_force w) (before_close w.state) k.command). sym e ∙ found)
-          (λ (e : plan_of (in_force w) w.state k.command ≡ Nothing). absurd (some (sym found ∙ e)))
-          (plan_now (in_force w) w.state k.command);
-      some = some;
-      seen = refl;
-      looks = omega (arith, ok.1);
-    })
+    good_stage w p (Held k) (looked_at w k plan) good is there (
+      ok.0,
+      record {
+        version = omega arith;
+        plan = ⊎_elim (λ (e : plan_of (in_force w) w.state k.command ≡ plan_of (in_force w) (before_close w.state) k.command). sym e ∙ found)
+            (λ (e : plan_of (in_force w) w.state k.command ≡ Nothing). absurd (some (sym found ∙ e)))
+            (plan_now (in_force w) w.state k.command);
+        some = some;
+        seen = refl;
+        looks = omega (arith, ok.1);
+      },
+    )
     (λ u d h. h)

@@ -1,7 +1,6 @@
 -- Units and plans of commands, and how they stay while the accounts' units are left alone.
-use Rattle.std.proofs.Common.{◌≡◌, ◌≢◌, ◌<◌, ◌∙◌, ◌⊎◌, inl, inr, ⊎_elim, ℕ, Bool, true, false, List, [], ◌∷◌, length, sym, ap, subst, refl, arith, Result, Ok, Err}
+use Rattle.std.proofs.Common.{◌≡◌, ◌≢◌, ◌∙◌, ◌⊎◌, inl, inr, ⊎_elim, ℕ, Bool, true, false, List, [], ◌∷◌, sym, ap, subst, refl, Result, Ok, Err}
 use Rattle.std.specs.Prelude.{◌==◌, ◌^◌, if◌then◌else◌, not, nat_lt, int_lt, pos, ◌+ℤ◌, unsigned_abs, neg_ℤ, ℤ}
-use Rattle.std.proofs.lemmas.Bool.{cases_eq}
 use Rattle.mgn_params.specs.Tables.{Tables}
 use Rattle.mgn_lots.specs.declared.lot.Lot.{Lot}
 use Rattle.mgn_lots.specs.Lots.{has_number, is_busted, is_full, is_moved, lot_at, place_of_lot}
@@ -18,18 +17,16 @@ use Rattle.mgn_machine.specs.declared.reply.Refusal.TheVariants.{Closed, NoOrder
 use Rattle.mgn_machine.specs.Holding.{fill_places, hold_places, premium_fits_at, release_places}
 use Rattle.mgn_machine.specs.Portfolios.{account_size, unit_sum}
 use Rattle.mgn_machine.specs.Refusals.{◌>>=◌, bust_places, contract_of, found, is_over, place_of, refuse_if, trade_places}
-use Rattle.mgn_machine.specs.State.{AccountState, State, account_at}
+use Rattle.mgn_machine.specs.State.{State, account_at}
 use Rattle.mgn_machine.specs.Transfers.{move_places, parties, quantity_in_unit}
 use Rattle.mgn_unit.specs.Changes.{bust_change, fill_change, hold_change, lot_change, moved_change, release_change}
-use Rattle.mgn_register.specs.declared.plans.Plan.{Plan}
 use Rattle.mgn_register.specs.declared.plans.Plan.TheVariants.{Nothing, One, Two}
 use Rattle.mgn_register.specs.declared.plans.UnitChange.{UnitChange}
-use Rattle.mgn_register.specs.Plans.{both_plan, bust_plan, bust_plan_at, fill_plan, fill_plan_at, hold_plan, in_unit_of, move_plan, plan_of, release_plan, release_plan_at, trade_plan}
-use Rattle.mgn_register.proofs.Following.{both-none, both-two}
+use Rattle.mgn_register.specs.Plans.{both_plan, bust_plan, bust_plan_at, fill_plan, fill_plan_at, hold_plan, move_plan, plan_of, release_plan, release_plan_at, trade_plan}
 use Rattle.mgn_world.specs.Claims.{IsAmong, before_close}
 use Rattle.mgn_world.specs.World.{in_order, plan_units, unit_found, units_found, units_of}
-use Rattle.mgn_world.proofs.Places.{Takes, bust_at, fill_at, hold_takes, move_at, parties_at, release_at, trade_at}
-use Rattle.mgn_world.proofs.Twins.{Keeps, Twin, account-kept, place-kept, size-counts, sum-kept}
+use Rattle.mgn_world.proofs.Places.{bust_at, fill_at, hold_takes, move_at, parties_at, release_at, trade_at}
+use Rattle.mgn_world.proofs.Twins.{Keeps, account-kept, place-kept, size-counts, sum-kept}
 
 -- Chains of refusals that read the same.
 
@@ -98,51 +95,51 @@ trade_stays : (set' : Tables) (s t : State) (x : Trade) → t.closed ≡ s.close
 unfolding trade_places
 trade_stays set' s t x closed on =
     test_same _ _ _ _ _ closed (chain_same _ _ _ _ on.place (λ k here.
-      let a = on.alike k here in
-      test_same _ _ _ _ _ (ap (λ (lots : List Lot). has_number lots x.lot) a.lots) (chain_rest (contract_of set' x.contract) _ _ (λ i there.
-        test_rest _ _ _ _ (test_same _ _ _ _ _ (ap is_full a.lots) (test_same _ _ _ _ _ (over_same s t k x.contract x.quantity a) refl))))))
+    let a = on.alike k here in
+    test_same _ _ _ _ _ (ap (λ (lots : List Lot). has_number lots x.lot) a.lots) (chain_rest (contract_of set' x.contract) _ _ (λ i there.
+    test_rest _ _ _ _ (test_same _ _ _ _ _ (ap is_full a.lots) (test_same _ _ _ _ _ (over_same s t k x.contract x.quantity a) refl))))))
 
 bust_stays : (s t : State) (name : List ℕ) (lot : ℕ) → t.closed ≡ s.closed → Stays s t name → bust_places t name lot ≡ bust_places s name lot
 unfolding bust_places
 bust_stays s t name lot closed on =
     test_same _ _ _ _ _ closed (chain_same _ _ _ _ on.place (λ k here.
-      let a = on.alike k here in
-      chain_same _ _ _ _ (ap (λ (lots : List Lot). found (place_of_lot lots lot) NoTrade) a.lots) (λ i there.
-        test_same _ _ _ _ _ (ap (λ (lots : List Lot). is_busted (lot_at lots i).mark) a.lots) (test_same _ _ _ _ _ (ap (λ (lots : List Lot). is_moved (lot_at lots i).mark) a.lots) refl))))
+    let a = on.alike k here in
+    chain_same _ _ _ _ (ap (λ (lots : List Lot). found (place_of_lot lots lot) NoTrade) a.lots) (λ i there.
+    test_same _ _ _ _ _ (ap (λ (lots : List Lot). is_busted (lot_at lots i).mark) a.lots) (test_same _ _ _ _ _ (ap (λ (lots : List Lot). is_moved (lot_at lots i).mark) a.lots) refl))))
 
 hold_stays : (set' : Tables) (s t : State) (h : Hold) → t.closed ≡ s.closed → Stays s t h.account → hold_places set' t h ≡ hold_places set' s h
 unfolding hold_places
 hold_stays set' s t h closed on =
     test_same _ _ _ _ _ closed (chain_same _ _ _ _ on.place (λ k here.
-      let a = on.alike k here in
-      test_same _ _ _ _ _ (ap (λ (holds : List Held). has_order holds h.order) a.holds) (chain_rest (contract_of set' h.contract) _ _ (λ i there.
-        test_rest _ _ _ _ (test_same _ _ _ _ _ (ap holds_full a.holds) (test_same _ _ _ _ _ (over_same s t k h.contract h.quantity a) refl))))))
+    let a = on.alike k here in
+    test_same _ _ _ _ _ (ap (λ (holds : List Held). has_order holds h.order) a.holds) (chain_rest (contract_of set' h.contract) _ _ (λ i there.
+    test_rest _ _ _ _ (test_same _ _ _ _ _ (ap holds_full a.holds) (test_same _ _ _ _ _ (over_same s t k h.contract h.quantity a) refl))))))
 
 fill_stays : (set' : Tables) (s t : State) (f : Fill) → t.closed ≡ s.closed → Stays s t f.account → fill_places set' t f ≡ fill_places set' s f
 unfolding fill_places
 fill_stays set' s t f closed on =
     test_same _ _ _ _ _ closed (chain_same _ _ _ _ on.place (λ k here.
-      let a = on.alike k here in
-      test_same _ _ _ _ _ (ap (λ (lots : List Lot). has_number lots f.lot) a.lots) (chain_same _ _ _ _ (ap (λ (holds : List Held). found (place_of_order holds f.order) NoOrder) a.holds) (λ j there.
-        test_same _ _ _ _ _ (ap (λ (holds : List Held). not (meets_limit (hold_at holds j) f.premium)) a.holds)
-        (test_same _ _ _ _ _ (ap (λ (holds : List Held). not (premium_fits_at set' (contract_of set' (hold_at holds j).contract) f.premium)) a.holds)
-        (test_same _ _ _ _ _ (ap (λ (holds : List Held). not (covers (hold_at holds j) f.quantity)) a.holds)
-        (test_same _ _ _ _ _ (ap is_full a.lots) refl)))))))
+    let a = on.alike k here in
+    test_same _ _ _ _ _ (ap (λ (lots : List Lot). has_number lots f.lot) a.lots) (chain_same _ _ _ _ (ap (λ (holds : List Held). found (place_of_order holds f.order) NoOrder) a.holds) (λ j there.
+    test_same _ _ _ _ _ (ap (λ (holds : List Held). not (meets_limit (hold_at holds j) f.premium)) a.holds)
+    (test_same _ _ _ _ _ (ap (λ (holds : List Held). not (premium_fits_at set' (contract_of set' (hold_at holds j).contract) f.premium)) a.holds)
+    (test_same _ _ _ _ _ (ap (λ (holds : List Held). not (covers (hold_at holds j) f.quantity)) a.holds)
+    (test_same _ _ _ _ _ (ap is_full a.lots) refl)))))))
 
 release_stays : (s t : State) (name : List ℕ) (order : ℕ) → t.closed ≡ s.closed → Stays s t name → release_places t name order ≡ release_places s name order
 unfolding release_places
 release_stays s t name order closed on =
     test_same _ _ _ _ _ closed (chain_same _ _ _ _ on.place (λ k here.
-      let a = on.alike k here in
-      chain_same _ _ _ _ (ap (λ (holds : List Held). found (place_of_order holds order) NoOrder) a.holds) (λ j there. refl)))
+    let a = on.alike k here in
+    chain_same _ _ _ _ (ap (λ (holds : List Held). found (place_of_order holds order) NoOrder) a.holds) (λ j there. refl)))
 
 parties_stay : (s t : State) (m : Transfer) → t.closed ≡ s.closed → Stays s t m.from → Stays s t m.to → parties t m ≡ parties s m
 unfolding parties
 parties_stay s t m closed from to =
     test_same _ _ _ _ _ closed (chain_same _ _ _ _ from.place (λ g here. chain_same _ _ _ _ to.place (λ k there.
-      let a = from.alike g here in
-      let b = to.alike k there in
-      test_same _ _ _ _ _ (ap (λ (lots : List Lot). has_number lots m.lot) a.lots) (test_same _ _ _ _ _ (ap (λ (lots : List Lot). has_number lots m.lot) b.lots) refl))))
+    let a = from.alike g here in
+    let b = to.alike k there in
+    test_same _ _ _ _ _ (ap (λ (lots : List Lot). has_number lots m.lot) a.lots) (test_same _ _ _ _ _ (ap (λ (lots : List Lot). has_number lots m.lot) b.lots) refl))))
 
 in_unit_same : (s t : State) (g k : ℕ) (q : ℤ) → Alike s t g → Alike s t k → quantity_in_unit t g k q ≡ quantity_in_unit s g k q
 in_unit_same s t g k q a b = λ j. if a.unit j == b.unit j then q +ℤ q else q
@@ -151,14 +148,14 @@ move_stays : (set' : Tables) (s t : State) (m : Transfer) → t.closed ≡ s.clo
 unfolding move_places
 move_stays set' s t m closed from to =
     chain_same _ _ _ _ (parties_stay s t m closed from to) (λ at here. chain_rest (contract_of set' m.contract) _ _ (λ i there.
-      let both = parties_at s m at here in
-      let a = from.alike at.0 both.0.place in
-      let b = to.alike at.1 both.1.place in
-      let q = in_unit_same s t at.0 at.1 m.quantity a b in
-      test_same _ _ _ _ _ (λ j. not (a.origin j == b.origin j))
-      (test_same _ _ _ _ _ (ap is_full a.lots) (test_same _ _ _ _ _ (ap is_full b.lots)
-      (test_same _ _ _ _ _ (ap (is_over t at.0 m.contract) q ∙ over_same s t at.0 m.contract (quantity_in_unit s at.0 at.1 m.quantity) a)
-      (test_same _ _ _ _ _ (ap (is_over t at.1 m.contract) q ∙ over_same s t at.1 m.contract (quantity_in_unit s at.0 at.1 m.quantity) b) refl))))))
+    let both = parties_at s m at here in
+    let a = from.alike at.0 both.0.place in
+    let b = to.alike at.1 both.1.place in
+    let q = in_unit_same s t at.0 at.1 m.quantity a b in
+    test_same _ _ _ _ _ (λ j. not (a.origin j == b.origin j))
+    (test_same _ _ _ _ _ (ap is_full a.lots) (test_same _ _ _ _ _ (ap is_full b.lots)
+    (test_same _ _ _ _ _ (ap (is_over t at.0 m.contract) q ∙ over_same s t at.0 m.contract (quantity_in_unit s at.0 at.1 m.quantity) a)
+    (test_same _ _ _ _ _ (ap (is_over t at.1 m.contract) q ∙ over_same s t at.1 m.contract (quantity_in_unit s at.0 at.1 m.quantity) b) refl))))))
 
 -- Plans.
 
@@ -281,9 +278,10 @@ stays_one M s t name keeps some alone =
 
 stays_both : (M : ℕ → Type 0) (s t : State) (from to : List ℕ) → Keeps M s.accounts t.accounts → units_found s (place_of s from) (place_of s to) ≢ [] → ((u : ℕ) → IsAmong u (units_found s (place_of s from) (place_of s to)) → M u) → Stays s t from × Stays s t to
 stays_both M s t from to keeps some alone =
-    let g = both_found s (place_of s from) (place_of s to) some in
-    (stays M s t from g.0 keeps g.1.1.0 (alone _ (subst (IsAmong (account_at s.accounts g.0).unit) (sym g.1.1.1.1) (inl refl))),
-     stays M s t to g.1.0 keeps g.1.1.1.0 (alone _ (subst (IsAmong (account_at s.accounts g.1.0).unit) (sym g.1.1.1.1) (inr (inl refl)))))
+    let g = both_found s (place_of s from) (place_of s to) some in (
+      stays M s t from g.0 keeps g.1.1.0 (alone _ (subst (IsAmong (account_at s.accounts g.0).unit) (sym g.1.1.1.1) (inl refl))),
+      stays M s t to g.1.0 keeps g.1.1.1.0 (alone _ (subst (IsAmong (account_at s.accounts g.1.0).unit) (sym g.1.1.1.1) (inr (inl refl)))),
+    )
 
 -- what a command changes stays, while its units are left alone
 pub plan_stays : (M : ℕ → Type 0) (set' : Tables) (s t : State) (c : Command) → t.closed ≡ s.closed → Keeps M s.accounts t.accounts → units_of s c ≢ [] → ((u : ℕ) → IsAmong u (units_of s c) → M u) → plan_of set' t c ≡ plan_of set' s c

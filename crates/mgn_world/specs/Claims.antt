@@ -10,8 +10,7 @@ use Rattle.mgn_machine.specs.State.{AccountState, State}
 use Rattle.mgn_world.specs.Stages.{Call, Deed, Gather, Stage, Step, View, Idle, Held, Looked, Applied, Failed, Ended, Gathered}
 use Rattle.mgn_world.specs.World.{World, desk_at, in_force, opening, planned, run, stage_at, unit_nets}
 
--- the history is legal, the state is its replay by the machine of one thread, the version in force is that of the last
--- set, and there are at most 1,000,000 entries
+-- the history is legal and replays to the state, the last set is in force, and there are at most 1,000,000 entries
 pub record IsRun (sets : List Tables) (state : State) (history : List Entry) : Type 0 where
   pub legal : Legal sets history
   pub replayed : state ≡ replay sets history
@@ -46,8 +45,7 @@ IsAmong u (v ∷ vs) = (u ≡ v) ⊎ IsAmong u vs
 -- a desk is empty, or has the nets of the unit under the set of its own version
 abbrev pub Rests : List Tables → List AccountState → ℕ → Option MarkedNets → Type 0
 Rests sets accounts u None = Unit {0}
-Rests sets accounts u (Some m) =
-    (m.version < length sets) × (m.nets ≡ unit_nets (set_at sets m.version) accounts u)
+Rests sets accounts u (Some m) = (m.version < length sets) × (m.nets ≡ unit_nets (set_at sets m.version) accounts u)
 
 -- a desk is of the looked version, and has the unit's nets changed by exactly the plan
 abbrev pub HasPlan : List Tables → List AccountState → View → ℕ → Option MarkedNets → Type 0
@@ -77,8 +75,7 @@ shown_now w u = record { version = w.state.version; nets = unit_nets (in_force w
 abbrev pub before_close : State → State
 before_close s = record s { closed = false }
 
--- between two worlds a set came into force for all units at once: it is the last one now, and of the state nothing but
--- its version changed, nor any desk
+-- a set came into force for all units at once: of the state nothing but its version changed, nor any desk
 pub record Switches (w v : World) : Type 0 where
   pub set : Tables
   pub sets : v.sets ≡ w.sets ++ set ∷ []
