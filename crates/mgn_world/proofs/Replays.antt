@@ -83,7 +83,7 @@ choose : (b : Bool) (x y : World) → IsReplayed x → IsReplayed y → IsReplay
 choose true x y p q = p
 choose false x y p q = q
 
-room : (n : ℕ) → nat_le 1000000 n ≡ false → n < 1000000
+pub room : (n : ℕ) → nat_le 1000000 n ≡ false → n < 1000000
 room n e = grind (arith, nat_tests)
 
 entered-by : (w : World) (p : ℕ) (request : Request) (full : Bool) → is_full w ≡ full → (length w.history < 1000000 → IsReplayed (stepped w p request (step w.sets w.state request))) → IsReplayed w → IsReplayed (if full then w else stepped w p request (step w.sets w.state request))
@@ -100,12 +100,7 @@ begin_on-run w p c (u ∷ us) is = choose _ _ _ is is
 
 begins-run : (w : World) (p : ℕ) (c : Command) (st : Stage) → IsReplayed w → IsReplayed (begins w p c st)
 begins-run w p c Idle is = begin_on-run w p c _ is
-begins-run w p c (Held k) is = is
-begins-run w p c (Looked k l) is = is
-begins-run w p c (Applied k l) is = is
-begins-run w p c (Failed k l again) is = is
-begins-run w p c (Ended k) is = is
-begins-run w p c (Gathered g) is = is
+begins-run w p c st is = is
 
 look_on-run : (w : World) (p : ℕ) (k : Call) (plan : Plan) → IsReplayed w → IsReplayed (look_on w p k plan)
 look_on-run w p k Nothing is = replayed-entered w p (Do k.command) is
@@ -114,12 +109,7 @@ look_on-run w p k (Two u v) is = is
 
 looks-run : (w : World) (p : ℕ) (st : Stage) → IsReplayed w → IsReplayed (looks w p st)
 looks-run w p (Held k) is = look_on-run w p k _ is
-looks-run w p Idle is = is
-looks-run w p (Looked k l) is = is
-looks-run w p (Applied k l) is = is
-looks-run w p (Failed k l again) is = is
-looks-run w p (Ended k) is = is
-looks-run w p (Gathered g) is = is
+looks-run w p st is = is
 
 mark_first-run : (w : World) (version : ℕ) (seen : List Seen) → IsReplayed w → IsReplayed (mark_first w version seen)
 mark_first-run w version [] is = is
@@ -127,21 +117,11 @@ mark_first-run w version (x ∷ xs) is = choose (is_of version (desk_at w x.unit
 
 marks-run : (w : World) (st : Stage) → IsReplayed w → IsReplayed (marks w st)
 marks-run w (Looked k l) is = mark_first-run w l.version l.seen is
-marks-run w Idle is = is
-marks-run w (Held k) is = is
-marks-run w (Applied k l) is = is
-marks-run w (Failed k l again) is = is
-marks-run w (Ended k) is = is
-marks-run w (Gathered g) is = is
+marks-run w st is = is
 
 applies-run : (w : World) (p : ℕ) (st : Stage) → IsReplayed w → IsReplayed (applies w p st)
 applies-run w p (Looked k l) is = choose (are_of l.version w.desks l.seen) _ _ is is
-applies-run w p Idle is = is
-applies-run w p (Held k) is = is
-applies-run w p (Applied k l) is = is
-applies-run w p (Failed k l again) is = is
-applies-run w p (Ended k) is = is
-applies-run w p (Gathered g) is = is
+applies-run w p st is = is
 
 commit_by-run : (w : World) (p : ℕ) (k : Call) (l : View) (full stale apart : Bool) → is_full w ≡ full → IsReplayed w
     → IsReplayed (if full then with_stage w p (Failed k l false) else if stale then with_stage w p (Failed k l true) else if apart then with_stage w p (Failed k l false) else placed w p k l (step w.sets w.state (Do k.command)))
@@ -153,47 +133,23 @@ commit_by-run w p k l false false false e is = run-done w.sets w.state w.history
 commits-run : (w : World) (p : ℕ) (st : Stage) → IsReplayed w → IsReplayed (commits w p st)
 commits-run w p (Applied k l) is = commit_by-run w p k l (is_full w) (are_stale w.state.version w.desks l.seen) (is_apart w (plan_of (in_force w) w.state k.command)) refl is
 commits-run w p (Gathered g) is = replayed-entered w p (Switch g.set) is
-commits-run w p Idle is = is
-commits-run w p (Held k) is = is
-commits-run w p (Looked k l) is = is
-commits-run w p (Failed k l again) is = is
-commits-run w p (Ended k) is = is
+commits-run w p st is = is
 
 backs-run : (w : World) (p : ℕ) (st : Stage) → IsReplayed w → IsReplayed (backs w p st)
 backs-run w p (Failed k l again) is = is
-backs-run w p Idle is = is
-backs-run w p (Held k) is = is
-backs-run w p (Looked k l) is = is
-backs-run w p (Applied k l) is = is
-backs-run w p (Ended k) is = is
-backs-run w p (Gathered g) is = is
+backs-run w p st is = is
 
 ends-run : (w : World) (p : ℕ) (st : Stage) → IsReplayed w → IsReplayed (ends w p st)
 ends-run w p (Ended k) is = is
-ends-run w p Idle is = is
-ends-run w p (Held k) is = is
-ends-run w p (Looked k l) is = is
-ends-run w p (Applied k l) is = is
-ends-run w p (Failed k l again) is = is
-ends-run w p (Gathered g) is = is
+ends-run w p st is = is
 
 gathers-run : (w : World) (p : ℕ) (set : Tables) (st : Stage) → IsReplayed w → IsReplayed (gathers w p set st)
 gathers-run w p set Idle is = is
-gathers-run w p set (Held k) is = is
-gathers-run w p set (Looked k l) is = is
-gathers-run w p set (Applied k l) is = is
-gathers-run w p set (Failed k l again) is = is
-gathers-run w p set (Ended k) is = is
-gathers-run w p set (Gathered g) is = is
+gathers-run w p set st is = is
 
 prepares-run : (w : World) (p u : ℕ) (st : Stage) → IsReplayed w → IsReplayed (prepares w p u st)
 prepares-run w p u (Gathered g) is = choose _ _ _ is is
-prepares-run w p u Idle is = is
-prepares-run w p u (Held k) is = is
-prepares-run w p u (Looked k l) is = is
-prepares-run w p u (Applied k l) is = is
-prepares-run w p u (Failed k l again) is = is
-prepares-run w p u (Ended k) is = is
+prepares-run w p u st is = is
 
 does-run : (w : World) (p : ℕ) (d : Deed) → IsReplayed w → IsReplayed (does w p d)
 does-run w p (Begin c) is = begins-run w p c _ is

@@ -20,8 +20,30 @@ use Rattle.mgn_machine.specs.Portfolios.{Portfolio, OnlyLots, WithBuys, WithSale
 use Rattle.mgn_machine.specs.Refusals.{account_names, found, place_of}
 use Rattle.mgn_machine.specs.State.{AccountState, State, account_at, no_account}
 use Rattle.mgn_unit.specs.Rows.{portfolio_of}
-use Rattle.mgn_world.specs.Twins.{AreBare, IsBare, Keeps, Twin}
 use Rattle.mgn_world.specs.World.{unit_nets}
+
+-- an account is what it was: its name, origin and unit, and, where its unit is one of those left alone, its lots and
+-- holds
+pub record Twin (M : ℕ → Type 0) (a b : AccountState) : Type 0 where
+  pub name : b.name ≡ a.name
+  pub origin : b.origin ≡ a.origin
+  pub unit : b.unit ≡ a.unit
+  pub lots : M a.unit → b.lots ≡ a.lots
+  pub holds : M a.unit → b.holds ≡ a.holds
+
+pub record IsBare (a : AccountState) : Type 0 where
+  pub lots : a.lots ≡ []
+  pub holds : a.holds ≡ []
+
+abbrev pub AreBare : List AccountState → Type 0
+AreBare [] = Unit {0}
+AreBare (a ∷ xs) = IsBare a × AreBare xs
+
+-- each account is what it was, and those that were opened have nothing
+abbrev pub Keeps : (ℕ → Type 0) → List AccountState → List AccountState → Type 0
+Keeps M [] ys = AreBare ys
+Keeps M (a ∷ xs) [] = ⊥
+Keeps M (a ∷ xs) (b ∷ ys) = Twin M a b × Keeps M xs ys
 
 pub twin-same : (M : ℕ → Type 0) (a : AccountState) → Twin M a a
 twin-same M a = record { name = refl; origin = refl; unit = refl; lots = λ m. refl; holds = λ m. refl }
@@ -46,6 +68,15 @@ twin-less M N a b less twin = record {
   unit = twin.unit;
   lots = λ n. twin.lots (less a.unit n);
   holds = λ n. twin.holds (less a.unit n);
+}
+
+pub twin-both : (M : ℕ → Type 0) (a b c : AccountState) → Twin M a b → Twin M b c → Twin M a c
+twin-both M a b c first second = record {
+  name = second.name ∙ first.name;
+  origin = second.origin ∙ first.origin;
+  unit = second.unit ∙ first.unit;
+  lots = λ m. second.lots (subst M (sym first.unit) m) ∙ first.lots m;
+  holds = λ m. second.holds (subst M (sym first.unit) m) ∙ first.holds m;
 }
 
 -- of fewer units

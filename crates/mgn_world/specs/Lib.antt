@@ -1,4 +1,3 @@
 pub mod Stages
 pub mod World
 pub mod Claims
-pub mod Twins
