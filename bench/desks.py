@@ -1,11 +1,11 @@
 #!/usr/bin/env python3
 """Times what commands cost in `spand script` by the size of the set, and how much memory a unit's desk takes.
 
-A command's time is that of a session with many of them, less that of the same session without, by their number. What it costs
-is to stay the same: with 4,096 contracts, or 256 commodities, at most 1.3 times as much as with one.
+A command's time is the processor's for a session with many of them, less that for the same session without, by their number.
+It is to stay the same: with 4,096 contracts, or 256 commodities, at most 1.3 times as much as with one.
 
 Usage: bench/desks.py [PROGRAM]; the program that `rt run` or `rt ci` leaves by default. Sessions run in turn, five times
-from a file to a file, and of each the fastest run counts.
+from a file to a file, and of each the run with the least counts.
 """
 import os
 import pathlib
@@ -13,15 +13,14 @@ import random
 import subprocess
 import sys
 import tempfile
-import time
 
 HERE = pathlib.Path(__file__).resolve().parent
 MONTHS = 12
-COUNT = 200_000
+COUNT = 60_000
 UNITS = 512
 MOVES = [0, 0, -1, -1, 1, 1, -2, -2, 2, 2, -3, -3, 3, 3, -2.1, 2.1]
 # (commodities, contracts)
-SETS = [(1, 1), (1, 256), (1, 4096), (256, 256), (256, 4096)]
+SETS = [(1, 1), (1, 256), (16, 16), (16, 4096), (256, 256), (256, 4096)]
 
 
 def set_file(commodities, contracts):
@@ -37,7 +36,7 @@ def set_file(commodities, contracts):
 
 
 def trades(pick, contracts):
-    return [f"TRADE A {n + 1} F{pick.randrange(contracts)} {pick.choice([-2, -1, 1, 2])} 0" for n in range(60_000)]
+    return [f"TRADE A {n + 1} F{pick.randrange(contracts)} {pick.choice([-2, -1, 1, 2])} 0" for n in range(COUNT)]
 
 
 def holds(pick, contracts):
@@ -50,7 +49,7 @@ def holds(pick, contracts):
 
 def fills(pick, contracts):
     lines = []
-    for n in range(30_000):
+    for n in range(COUNT // 2):
         side = pick.choice([-1, 1])
         lines.append(f"HOLD A {n + 1} F{pick.randrange(contracts)} {side} 0")
         lines.append(f"FILL A {n + 1} {n + 1} {side} 0")
@@ -62,20 +61,18 @@ OPENED = ["ORIGIN CUST GROSS", "OPEN A CUST", "POST A CASH 900000000000000"]
 
 
 def run(command, work, lines):
-    """Returns the seconds of a session, and the most memory that it held, in KiB."""
+    """Returns the processor seconds of a session, and the most memory that it held, in KiB."""
     (work / "input").write_text("\n".join(lines) + "\n")
     with open(work / "input", "rb") as given, open(work / "output", "wb") as taken:
-        begin = time.perf_counter()
         ran = subprocess.Popen(command, stdin=given, stdout=taken)
         _, status, used = os.wait4(ran.pid, 0)
-        seconds = time.perf_counter() - begin
     ran.returncode = os.waitstatus_to_exitcode(status)
     if ran.returncode:
         sys.exit(f"status {ran.returncode}")
     refused = [line for line in (work / "output").read_text().splitlines() if line.startswith("ERR")]
     if refused:
         sys.exit(f"{len(refused)} replies like {refused[0]}")
-    return seconds, used.ru_maxrss
+    return used.ru_utime + used.ru_stime, used.ru_maxrss
 
 
 def main():
