@@ -10,9 +10,7 @@ use Rattle.mgn_desk.specs.declared.moves.Moves.{Moves}
 use Rattle.mgn_desk.specs.Desks.{AreNetsOf, CanMoveMarked, IsMarkedBy, MarkedNets, marked_nets, moved_marked}
 use Rattle.mgn_desk.specs.Kept.{IsPortfolio, Kept}
 use Rattle.mgn_desk.specs.Moved.{more_of}
-use Rattle.mgn_desk.specs.declared.portfolios.Portfolios.{Portfolios}
-use Rattle.mgn_desk.specs.declared.portfolios.Portfolios.TheVariants.{One, Four}
-use Rattle.mgn_desk.specs.Portfolios.{AreFourNets, AreNets, ArePortfolios, CanMove, FourNets, moved_by, nets_of, opposite}
+use Rattle.mgn_desk.specs.Portfolios.{AreFourNets, AreNets, CanMove, FourNets, moved_by, nets_of, opposite}
 
 -- a desk whose nets stay within their limits
 pub can_move_marked : (m : Moves) (marked : Option Marked) (n : FourNets) → AreNetsOf marked n → CanMove m n → CanMoveMarked m marked
@@ -23,19 +21,15 @@ can_move_marked m (Some x) n are can = subst (λ (k : FourNets). CanMove m k) ar
 nets_are : (t : Tables) (p : Kept) → IsPortfolio t p → AreNets t p.nets
 nets_are t p is = record { one_each = is.ready.parts.totals.one_each; small = is.ready.parts.totals.small }
 
-portfolios_nets : (t : Tables) (p : Portfolios) → ArePortfolios t p → AreFourNets t (nets_of p)
-portfolios_nets t (One p) is = let own = nets_are t p is in record { lots = own; buys = own; sales = own; all = own }
-portfolios_nets t (Four p) is = record {
-  lots = nets_are t p.lots is.lots;
-  buys = nets_are t p.buys is.buys;
-  sales = nets_are t p.sales is.sales;
-  all = nets_are t p.all is.all;
-}
-
 pub marked_nets_are : (t : Tables) (marked : Option Marked) (n : FourNets) → IsMarkedBy t marked → AreNetsOf marked n → AreFourNets t n
 marked_nets_are t None n is are = absurd is
 marked_nets_are t (Some m) n is are =
-    subst (λ (k : FourNets). AreFourNets t k) (sym are) (portfolios_nets t m.portfolios is)
+    subst (λ (k : FourNets). AreFourNets t k) (sym are) (record {
+      lots = nets_are t m.portfolios.lots is.lots;
+      buys = nets_are t m.portfolios.buys is.buys;
+      sales = nets_are t m.portfolios.sales is.sales;
+      all = nets_are t m.portfolios.all is.all;
+    })
 
 -- after moves the opposite ones stay within the limits
 can_back : (t : Tables) (nets : List ℤ) (i : ℕ) (q : ℤ) → AreNets t nets → i < length t.contracts → IsNet (value_at (more_of nets i q) i +ℤ neg_ℤ q)

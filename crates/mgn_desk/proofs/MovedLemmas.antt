@@ -5,12 +5,9 @@ use Rattle.std.proofs.lemmas.Int.{ints}
 use Rattle.std.proofs.lemmas.List.{set-get_or}
 use Rattle.mgn_span.specs.Scan.{value_at}
 use Rattle.mgn_desk.specs.declared.moves.Moves.{Moves}
-use Rattle.mgn_desk.specs.declared.desk.Marked.{Marked}
-use Rattle.mgn_desk.specs.declared.portfolios.Portfolios.{Portfolios}
-use Rattle.mgn_desk.specs.declared.portfolios.Portfolios.TheVariants.{One, Four}
-use Rattle.mgn_desk.specs.Desks.{arrays_at, CanFollowMarked, MarkedNets, moved_desk, moved_marked, Shown}
+use Rattle.mgn_desk.specs.Desks.{MarkedNets, moved_desk, moved_marked, Shown}
 use Rattle.mgn_desk.specs.Moved.{counted, more_of}
-use Rattle.mgn_desk.specs.Portfolios.{all_of, AreAlike, arrays_by, arrays_of, CanFollow, FourNets, moved_by, opposite}
+use Rattle.mgn_desk.specs.Portfolios.{arrays_of, FourNets, moved_by, opposite}
 
 -- nothing more
 pub more_of_none : (nets : List ℤ) (i : ℕ) → nets ≡ more_of nets i (pos 0)
@@ -44,29 +41,8 @@ desk_back m d =
 same_size : (q : ℤ) → unsigned_abs (neg_ℤ q) ≡ unsigned_abs q
 same_size q = omega (arith, ints)
 
-arrays_of_opposite : (m : Moves) → arrays_of (opposite m) ≡ arrays_of m
+pub arrays_of_opposite : (m : Moves) → arrays_of (opposite m) ≡ arrays_of m
 arrays_of_opposite m = rw (same_size m.lots, same_size m.buys, same_size m.sales, same_size m.all) refl
-
-arrays_by_opposite : (m : Moves) (p : Portfolios) → arrays_by (opposite m) p ≡ arrays_by m p
-arrays_by_opposite m (One p) = rw (same_size m.lots) refl
-arrays_by_opposite m (Four p) = arrays_of_opposite m
-
-pub arrays_at_opposite : (m : Moves) (marked : Option Marked) → arrays_at (opposite m) marked ≡ arrays_at m marked
-arrays_at_opposite m None = refl
-arrays_at_opposite m (Some x) = arrays_by_opposite m x.portfolios
-
--- and can be followed where they can
-follow_back : (m : Moves) (p : Portfolios) → CanFollow m p → CanFollow (opposite m) p
-follow_back m (One p) alike = record { buys = ap neg_ℤ alike.buys; sales = ap neg_ℤ alike.sales; all = ap neg_ℤ alike.all }
-follow_back m (Four p) can = tt
-
-pub can_follow_back : (m : Moves) (marked : Option Marked) → CanFollowMarked m marked → CanFollowMarked (opposite m) marked
-can_follow_back m None can = tt
-can_follow_back m (Some x) can = follow_back m x.portfolios can
-
--- Portfolios that are kept once, whose moves are alike.
-pub moved_alike : (m : Moves) (nets moved : List ℤ) → AreAlike m → moved ≡ more_of nets m.contract m.lots → all_of moved ≡ moved_by m (all_of nets)
-moved_alike m nets moved alike is = rw (is, alike.buys, alike.sales, alike.all) refl
 
 -- counts add up
 zero_plus : (n : ℕ) → 0 + n ≡ n

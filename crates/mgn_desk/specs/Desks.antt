@@ -4,7 +4,7 @@ use Rattle.mgn_params.specs.Tables.{Tables}
 use Rattle.mgn_desk.specs.declared.desk.Marked.{Marked}
 use Rattle.mgn_desk.specs.declared.moves.Moves.{Moves}
 use Rattle.mgn_desk.specs.declared.moves.Requirements.{Requirements}
-use Rattle.mgn_desk.specs.Portfolios.{ArePortfolios, CanFollow, CanMove, FourNets, arrays_by, moved_by, nets_of, requirements_of}
+use Rattle.mgn_desk.specs.Portfolios.{ArePortfolios, CanMove, FourNets, moved_by, nets_of, requirements_of}
 
 pub record DeskRows : Type 0 where
   pub unit : ℕ
@@ -60,16 +60,6 @@ AreNetsOf (Some m) nets = nets ≡ nets_of m.portfolios
 abbrev pub CanMoveMarked : Moves → Option Marked → Type 0
 CanMoveMarked moves None = Unit {0}
 CanMoveMarked moves (Some m) = CanMove moves (nets_of m.portfolios)
-
--- its portfolios can follow moves as they are kept
-abbrev pub CanFollowMarked : Moves → Option Marked → Type 0
-CanFollowMarked moves None = Unit {0}
-CanFollowMarked moves (Some m) = CanFollow moves m.portfolios
-
--- how many risk arrays moves read
-abbrev pub arrays_at : Moves → Option Marked → ℕ
-arrays_at moves None = 0
-arrays_at moves (Some m) = arrays_by moves m.portfolios
 
 -- what its portfolios require
 abbrev pub Requires : Tables → Option Marked → Requirements → Type 0

@@ -7,9 +7,7 @@ use Rattle.mgn_span.specs.Scan.{value_at}
 use Rattle.mgn_desk.specs.declared.moves.Moves.{Moves}
 use Rattle.mgn_desk.specs.declared.moves.Requirements.{Requirements}
 use Rattle.mgn_desk.specs.declared.moves.UnitNets.{UnitNets}
-use Rattle.mgn_desk.specs.declared.portfolios.FourPortfolios.{FourPortfolios}
 use Rattle.mgn_desk.specs.declared.portfolios.Portfolios.{Portfolios}
-use Rattle.mgn_desk.specs.declared.portfolios.Portfolios.TheVariants.{One, Four}
 use Rattle.mgn_desk.specs.Kept.{IsPortfolio}
 use Rattle.mgn_desk.specs.Moved.{arrays_of_quantity, more_of}
 
@@ -23,16 +21,8 @@ pub record FourNets : Type 0 where
 abbrev pub four_of : UnitNets → FourNets
 four_of nets = record { lots = nets.lots.now; buys = nets.buys.now; sales = nets.sales.now; all = nets.all.now }
 
--- the same nets four times
-abbrev pub all_of : List ℤ → FourNets
-all_of nets = record { lots = nets; buys = nets; sales = nets; all = nets }
-
-abbrev pub nets_of_four : FourPortfolios → FourNets
-nets_of_four p = record { lots = p.lots.nets; buys = p.buys.nets; sales = p.sales.nets; all = p.all.nets }
-
 abbrev pub nets_of : Portfolios → FourNets
-nets_of (One p) = all_of p.nets
-nets_of (Four p) = nets_of_four p
+nets_of p = record { lots = p.lots.nets; buys = p.buys.nets; sales = p.sales.nets; all = p.all.nets }
 
 -- one net for each contract, within its limit
 pub record AreNets (set : Tables) (nets : List ℤ) : Type 0 where
@@ -46,15 +36,11 @@ pub record AreFourNets (set : Tables) (n : FourNets) : Type 0 where
   pub all : AreNets set n.all
 
 -- each is kept under this set
-pub record AreFour (set : Tables) (p : FourPortfolios) : Type 0 where
+pub record ArePortfolios (set : Tables) (p : Portfolios) : Type 0 where
   pub lots : IsPortfolio set p.lots
   pub buys : IsPortfolio set p.buys
   pub sales : IsPortfolio set p.sales
   pub all : IsPortfolio set p.all
-
-abbrev pub ArePortfolios : Tables → Portfolios → Type 0
-ArePortfolios set (One p) = IsPortfolio set p
-ArePortfolios set (Four p) = AreFour set p
 
 -- the nets after moves
 abbrev pub moved_by : Moves → FourNets → FourNets
@@ -72,17 +58,6 @@ pub record CanMove (m : Moves) (n : FourNets) : Type 0 where
   pub sales : IsNet (value_at n.sales m.contract +ℤ m.sales)
   pub all : IsNet (value_at n.all m.contract +ℤ m.all)
 
--- all portfolios move alike
-pub record AreAlike (m : Moves) : Type 0 where
-  pub buys : m.buys ≡ m.lots
-  pub sales : m.sales ≡ m.lots
-  pub all : m.all ≡ m.lots
-
--- portfolios that are kept once can follow only moves that are alike
-abbrev pub CanFollow : Moves → Portfolios → Type 0
-CanFollow m (One p) = AreAlike m
-CanFollow m (Four p) = Unit {0}
-
 -- the opposite moves
 abbrev pub opposite : Moves → Moves
 opposite m = record {
@@ -93,14 +68,10 @@ opposite m = record {
   all = neg_ℤ m.all;
 }
 
--- how many risk arrays they read: one for each portfolio that they change, and one where the portfolios are kept once
+-- how many risk arrays they read: one for each portfolio that they change
 abbrev pub arrays_of : Moves → ℕ
 arrays_of m =
     arrays_of_quantity m.lots + arrays_of_quantity m.buys + arrays_of_quantity m.sales + arrays_of_quantity m.all
-
-abbrev pub arrays_by : Moves → Portfolios → ℕ
-arrays_by m (One p) = arrays_of_quantity m.lots
-arrays_by m (Four p) = arrays_of m
 
 -- at most 10^30 each
 pub record AreSmall (r : Requirements) : Type 0 where
@@ -108,10 +79,6 @@ pub record AreSmall (r : Requirements) : Type 0 where
   pub buys : unsigned_abs r.buys ≤ 10 ^ 30
   pub sales : unsigned_abs r.sales ≤ 10 ^ 30
   pub all : unsigned_abs r.all ≤ 10 ^ 30
-
--- the same requirement four times
-abbrev pub each_of : ℤ → Requirements
-each_of cents = record { lots = cents; buys = cents; sales = cents; all = cents }
 
 -- what each requires
 abbrev pub requirements_of : Tables → FourNets → Requirements

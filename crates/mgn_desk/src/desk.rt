@@ -1,4 +1,4 @@
-ghost use Rattle.std.specs.Prelude.{◌≡◌, ◌<◌, length, None, OnErr, OnOk, true};
+ghost use Rattle.std.specs.Prelude.{◌≡◌, ◌<◌, length, None, OnErr, OnOk};
 ghost use Rattle.mgn_params.specs.Tables.{Tables};
 ghost use Rattle.mgn_desk.specs.Moved.{counted};
 
@@ -16,11 +16,11 @@ pub(crate) struct Marked {
 }
 
 /// The desk of a margin unit: the nets of its four portfolios under the set of a version, with what they require, or
-/// nothing. As long as no order was held the nets of the four are the same, and they are kept once.
+/// nothing.
 ///
 /// Contracts see the unit and, where the desk is marked, the version and the four portfolios; `shown` is what of it
 /// callers go by. `IsMarkedBy` says that all that is kept is that of the nets under a set: `mark` gives it, and `apply`
-/// and `take_back`, which ask for it, keep it. Nothing but `mark` and `part` takes memory.
+/// and `take_back`, which ask for it, keep it. Nothing but `mark` takes memory.
 #[derive(Drop)]
 pub struct Desk {
     unit: usize,
@@ -38,9 +38,8 @@ impl Model for Desk {
 }
 
 impl Desk {
-    ghost use Rattle.mgn_desk.specs.Desks.{AreNetsOf, CanFollowMarked, CanMoveMarked, IsMarkedBy, Requires, Shown, arrays_at, marked_with, moved_desk, shown, version_of};
-    ghost use Rattle.mgn_desk.specs.Portfolios.{AreFourNets, AreSmall, four_of, opposite};
-    ghost use Rattle.mgn_desk.specs.declared.moves.Moves.{Moves as UnitMoves};
+    ghost use Rattle.mgn_desk.specs.Desks.{AreNetsOf, CanMoveMarked, IsMarkedBy, Requires, Shown, marked_with, moved_desk, shown, version_of};
+    ghost use Rattle.mgn_desk.specs.Portfolios.{AreFourNets, AreSmall, arrays_of, four_of, opposite};
 
     /// A desk of a unit that is not marked. Takes no memory.
     pub fn empty(unit: usize) -> Desk
@@ -91,43 +90,15 @@ impl Desk {
         Ok(())
     }
 
-    /// Whether the desk can follow moves as it is: portfolios that are kept once follow only moves that are alike.
-    pub fn can_follow(&self, moves: &Moves) -> bool
-        ensures { result ≡ true → CanFollowMarked moves.now self.now.marked }
-    {
-        match &self.marked {
-            Some(marked) => marked.portfolios.can_follow(moves),
-            None => true,
-        }
-    }
-
-    /// Keeps each portfolio for itself from now on, so that the desk can follow any moves. The set is the one that the
-    /// desk was marked under. The only error is that memory was refused; the desk then is as it was. Where the portfolios
-    /// were kept once, the cost is that of three marks.
-    pub fn part(&mut self, alloc: Global, set: &ParamSet) -> Result<(), AllocError>
-        requires { IsMarkedBy set.now self.old.marked }
-        ensures same { OnOk result (shown self.new ≡ shown self.old) }
-        ensures of_set { OnOk result (IsMarkedBy set.now self.new.marked) }
-        ensures room { OnOk result ((m : UnitMoves) → CanFollowMarked m self.new.marked) }
-        ensures refused { OnErr result (self.new ≡ self.old) }
-    {
-        match &mut self.marked {
-            Some(marked) => marked.portfolios.part(alloc, set),
-            None => unreachable!(),
-        }
-    }
-
     /// Moves the nets of one contract. The set is the one that the desk was marked under, and the nets stay within
-    /// their limits. One risk array is read for each portfolio that is moved, and one for all of them where they are kept
-    /// once; the others are not touched.
+    /// their limits. One risk array is read for each portfolio that is moved; the others are not touched.
     pub fn apply(&mut self, set: &ParamSet, moves: &Moves, work: &mut Work)
         requires of_set { IsMarkedBy set.now self.old.marked }
         requires contract { moves.now.contract < length set.now.contracts }
         requires nets { CanMoveMarked moves.now self.old.marked }
-        requires room { CanFollowMarked moves.now self.old.marked }
         ensures moved { shown self.new ≡ moved_desk moves.now (shown self.old) }
         ensures of_set { IsMarkedBy set.now self.new.marked }
-        ensures counted { work.new ≡ counted work.old (arrays_at moves.now self.old.marked) }
+        ensures counted { work.new ≡ counted work.old (arrays_of moves.now) }
     {
         if let Some(marked) = &mut self.marked {
             marked.portfolios.apply(set, moves, work);
@@ -139,11 +110,10 @@ impl Desk {
         requires of_set { IsMarkedBy set.now self.old.marked }
         requires contract { moves.now.contract < length set.now.contracts }
         requires nets { CanMoveMarked (opposite moves.now) self.old.marked }
-        requires room { CanFollowMarked moves.now self.old.marked }
         ensures moved { shown self.new ≡ moved_desk (opposite moves.now) (shown self.old) }
         ensures before { (before : Shown) → shown self.old ≡ moved_desk moves.now before → shown self.new ≡ before }
         ensures of_set { IsMarkedBy set.now self.new.marked }
-        ensures counted { work.new ≡ counted work.old (arrays_at moves.now self.old.marked) }
+        ensures counted { work.new ≡ counted work.old (arrays_of moves.now) }
     {
         self.apply(set, &moves.opposite(), work);
     }

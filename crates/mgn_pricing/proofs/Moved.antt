@@ -15,7 +15,7 @@ use Rattle.mgn_unit.specs.declared.row.Priced.{Priced}
 use Rattle.mgn_unit.specs.declared.row.Row.{Row}
 use Rattle.mgn_unit.specs.Rows.{IsChange, IsRoomy, IsRow, Prices, more_at}
 use Rattle.mgn_register.specs.Plans.{UnitNets, moved_nets, nets_in}
-use Rattle.mgn_pricing.specs.Desks.{IsReady, Rests, four, moves_of, required_by}
+use Rattle.mgn_pricing.specs.Desks.{IsReady, four, moves_of, required_by}
 
 -- a net that moves stays within its limit
 net-moved : (nets : List ℤ) (i : ℕ) (quantity : ℤ) → i < length nets → All IsNet (more_at nets i quantity) → IsNet (value_at nets i +ℤ quantity)
@@ -102,24 +102,6 @@ ready-shown set' version unit nets now of_set is = by now.marked of_set (ap (λ 
     by : (m : Option Marked) → IsMarkedBy set' m → marked_nets m ≡ Some record { version = version; nets = four nets } → IsReady set' version nets m
     by None of same = of
     by (Some m) of same = record { under = ap (version_or 0) same; of_set = of; shows = ap (nets_or (four nets)) same }
-
--- a desk that shows the same is as ready
-pub ready-same : (set' : Tables) (version : ℕ) (nets : UnitNets) (before after : DeskRows) → IsReady set' version nets before.marked → shown after ≡ shown before → IsMarkedBy set' after.marked → IsReady set' version nets after.marked
-ready-same set' version nets before after ready same of_set = by before.marked after.marked ready (ap (λ (s : Shown). s.marked) same) of_set
-  where
-    by : (b a : Option Marked) → IsReady set' version nets b → marked_nets a ≡ marked_nets b → IsMarkedBy set' a → IsReady set' version nets a
-    by None a is shows of = absurd is
-    by (Some b) None is shows of = of
-    by (Some b) (Some a) is shows of = record {
-      under = ap (version_or 0) shows ∙ is.under;
-      of_set = of;
-      shows = ap (nets_or (nets_of b.portfolios)) shows ∙ is.shows;
-    }
-
--- and rests
-pub rests : (set' : Tables) (version : ℕ) (nets : UnitNets) (now : Option Marked) → IsReady set' version nets now → Rests set' version nets now
-rests set' version nets None ready = tt
-rests set' version nets (Some m) ready = (omega (arith, ready.under), λ same. ready)
 
 -- an empty desk more
 pub marked-pushed : (desks : List DeskRows) (x d : DeskRows) (k : ℕ) → x.marked ≡ None → d.marked ≡ None → (get_or (desks ++ x ∷ []) k d).marked ≡ (get_or desks k d).marked

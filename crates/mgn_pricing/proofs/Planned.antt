@@ -1,5 +1,5 @@
 -- Desks that move as a plan says, and back.
-use Rattle.std.proofs.Common.{◌≡◌, ◌≢◌, ◌≤◌, ◌∙◌, ⊎_elim, ℕ, Bool, true, false, List, length, Option, sym, ap, subst, refl, arith, eq-eqb, ne_eqb, true≢false}
+use Rattle.std.proofs.Common.{◌≡◌, ◌≢◌, ◌≤◌, ◌∙◌, ⊎_elim, ℕ, Bool, true, false, List, length, Option, Some, None, sym, ap, subst, refl, arith, eq-eqb, ne_eqb, true≢false}
 use Rattle.std.proofs.lemmas.Bool.{cases_eq}
 use Rattle.std.proofs.lemmas.Bool.Decides.{Decides-eqb}
 use Rattle.std.specs.Prelude.{◌||◌, ◌==◌}
@@ -11,8 +11,12 @@ use Rattle.mgn_register.specs.declared.plans.Plan.TheVariants.{Nothing, One, Two
 use Rattle.mgn_register.specs.declared.plans.UnitChange.{UnitChange}
 use Rattle.mgn_register.specs.Plans.{UnitNets, moved_nets, nets_by, nets_in, planned_nets}
 use Rattle.mgn_register.specs.TransferRows.{row_at}
-use Rattle.mgn_pricing.proofs.Moved.{rests}
-use Rattle.mgn_pricing.specs.Desks.{AreDesks, IsMovedBy, KeepsOthers, KeepsUnplanned, Rests, marked_at}
+use Rattle.mgn_pricing.specs.Desks.{AreDesks, IsMovedBy, IsReady, KeepsOthers, KeepsUnplanned, Rests, marked_at}
+
+-- a desk that is ready rests
+pub rests : (set' : Tables) (version : ℕ) (nets : UnitNets) (now : Option Marked) → IsReady set' version nets now → Rests set' version nets now
+rests set' version nets None ready = tt
+rests set' version nets (Some m) ready = (omega (arith, ready.under), λ same. ready)
 
 by-same : (u : UnitChange) (k : ℕ) (nets : UnitNets) → u.unit ≡ k → nets_by u k nets ≡ moved_nets u.change nets
 by-same u k nets same = rw (eq-eqb u.unit k same) refl

@@ -1,5 +1,5 @@
 ghost use Rattle.std.specs.Prelude.{◌≡◌, ◌<◌, ◌≤◌, ◌+◌, [], ℕ, IfOk, OnErr, OnOk, None, length, true};
-ghost use Rattle.mgn_desk.specs.Desks.{CanFollowMarked, CanMoveMarked, IsMarkedBy, Requires, shown};
+ghost use Rattle.mgn_desk.specs.Desks.{CanMoveMarked, IsMarkedBy, Requires};
 ghost use Rattle.mgn_desk.specs.Portfolios.{AreSmall};
 ghost use Rattle.mgn_params.specs.Tables.{Tables};
 ghost use Rattle.mgn_unit.specs.Rows.{IsChange, IsRoomy, IsRow, Prices};
@@ -57,7 +57,7 @@ pub(crate) fn is_of(desk: &Desk, version: Version) -> bool
 
 // Marks a desk with the nets of a row, unless it is marked under the version already. Where memory is refused nothing has
 // changed.
-fn mark(
+fn ready(
     desk: &mut Desk,
     alloc: Global,
     version: Version,
@@ -67,6 +67,7 @@ fn mark(
     requires row { IsRow set.now row.now }
     requires rests { Rests set.now version (nets_in row.now) desk.old.marked }
     ensures ready { OnOk result (IsReady set.now version (nets_in row.now) desk.new.marked) }
+    ensures refused { OnErr result (desk.new ≡ desk.old) }
 {
     if is_of(desk, version) {
         return Ok(());
@@ -78,43 +79,6 @@ fn mark(
         all: row.all.nets.as_slice(),
     };
     desk.mark(alloc, version, set, &nets)
-}
-
-// Has a marked desk keep its portfolios such that they can follow moves.
-fn make_room(
-    desk: &mut Desk,
-    alloc: Global,
-    set: &ParamSet,
-    moves: &Moves,
-) -> Result<(), AllocError>
-    requires { IsMarkedBy set.now desk.old.marked }
-    ensures same { OnOk result (shown desk.new ≡ shown desk.old) }
-    ensures of_set { OnOk result (IsMarkedBy set.now desk.new.marked) }
-    ensures room { OnOk result (CanFollowMarked moves.now desk.new.marked) }
-{
-    if desk.can_follow(moves) {
-        return Ok(());
-    }
-    desk.part(alloc, set)?;
-    Ok(())
-}
-
-// Has a desk that rests be marked with the nets of a row, and be able to follow a change.
-fn ready(
-    desk: &mut Desk,
-    alloc: Global,
-    version: Version,
-    set: &ParamSet,
-    row: &Row,
-    change: &Change,
-) -> Result<(), AllocError>
-    requires row { IsRow set.now row.now }
-    requires rests { Rests set.now version (nets_in row.now) desk.old.marked }
-    ensures ready { OnOk result (IsReady set.now version (nets_in row.now) desk.new.marked) }
-    ensures room { OnOk result (CanFollowMarked (moves_of change.now) desk.new.marked) }
-{
-    mark(desk, alloc, version, set, row)?;
-    make_room(desk, alloc, set, &moves_of(change))
 }
 
 // What a marked desk requires.
@@ -139,7 +103,6 @@ fn foresee(desk: &mut Desk, version: Version, set: &ParamSet, row: &Row, change:
     requires change { IsChange set.now change.now }
     requires roomy { IsRoomy change.now row.now }
     requires ready { IsReady set.now version (nets_in row.now) desk.old.marked }
-    requires room { CanFollowMarked (moves_of change.now) desk.old.marked }
     ensures priced { Prices set.now change.now row.now result }
     ensures ready { IsReady set.now version (moved_nets change.now (nets_in row.now)) desk.new.marked }
 {
@@ -147,20 +110,14 @@ fn foresee(desk: &mut Desk, version: Version, set: &ParamSet, row: &Row, change:
     priced(desk)
 }
 
-// Moves a desk back that was moved by a change which came to nothing. A desk that cannot follow the change, which has not
-// followed it either, is emptied.
+// Moves a desk back that was moved by a change which came to nothing.
 fn take_back(desk: &mut Desk, version: Version, set: &ParamSet, row: &Row, change: &Change)
     requires row { IsRow set.now row.now }
     requires change { IsChange set.now change.now }
     requires ready { IsReady set.now version (moved_nets change.now (nets_in row.now)) desk.old.marked }
-    ensures { Rests set.now version (nets_in row.now) desk.new.marked }
+    ensures ready { IsReady set.now version (nets_in row.now) desk.new.marked }
 {
-    let moves = moves_of(change);
-    if !desk.can_follow(&moves) {
-        *desk = Desk::empty(desk.unit());
-        return;
-    }
-    desk.take_back(set, &moves, &mut Work::new());
+    desk.take_back(set, &moves_of(change), &mut Work::new());
 }
 
 // The same, where a desk that is empty or of an older version has nothing to take back.
@@ -211,7 +168,7 @@ impl Desks {
     }
 
     // What a unit requires after a change of its row: its desk, which is marked where it has to be, moves as the change
-    // says.
+    // says. Where memory for the mark is refused all desks stay as they were.
     fn foresee_one(
         &mut self,
         alloc: Global,
@@ -227,13 +184,14 @@ impl Desks {
         ensures ready { OnOk result (IsReady set.now version
             (moved_nets change.now.change (nets_in (row_at set.now rows.now change.now.unit)))
             (marked_at self.new change.now.unit)) }
+        ensures refused { OnErr result (marked_at self.new change.now.unit ≡ marked_at self.old change.now.unit) }
         ensures others { KeepsOthers change.now.unit self.old self.new }
         ensures few { length self.old ≤ length rows.now → length self.new ≤ length rows.now }
     {
         self.grow(rows.len())?;
         let row = &rows[change.unit];
         let desk = &mut self.desks[change.unit];
-        ready(desk, alloc, version, set, row, &change.change)?;
+        ready(desk, alloc, version, set, row)?;
         Ok(foresee(desk, version, set, row, &change.change))
     }
 

@@ -1,6 +1,6 @@
 use Rattle.std.proofs.Common.{ap, ◌∙◌, sym, subst}
 use Rattle.mgn_desk.specs.declared.moves.Moves.{Moves}
-use Rattle.mgn_desk.specs.Desks.{CanFollowMarked, CanMoveMarked, moved_desk, shown}
+use Rattle.mgn_desk.specs.Desks.{CanMoveMarked, moved_desk, shown}
 use Rattle.mgn_pricing.proofs.Moved.{can_move, priced-by}
 use Rattle.mgn_pricing.proofs.desks.foresee.Goals as goal
 
@@ -15,7 +15,3 @@ returns-clause-priced c =
     let after = c.apply.new.self in
     let moved = c.apply.ensures.moved ∙ ap (λ (m : Moves). moved_desk m (shown before)) c.moves_of.ensures in
     priced-by c.args.set.now c.args.version c.args.row.now c.args.change.now before after c.priced.result c.requires.ready moved (c.priced.ensures.requirements c.args.set.now c.apply.ensures.of_set) c.priced.ensures.small
-
-pub apply-requires-clause-room : goal.apply-requires-clause-room
-apply-requires-clause-room c =
-    subst (λ (m : Moves). CanFollowMarked m c.args.desk.now.marked) (sym c.moves_of.ensures) c.requires.room

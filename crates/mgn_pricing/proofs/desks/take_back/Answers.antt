@@ -4,17 +4,17 @@ use Rattle.mgn_desk.specs.Desks.{CanMoveMarked, Shown, marked_with, moved_desk}
 use Rattle.mgn_desk.specs.Portfolios.{opposite}
 use Rattle.mgn_register.specs.Plans.{nets_in}
 use Rattle.mgn_pricing.specs.Desks.{four}
-use Rattle.mgn_pricing.proofs.Moved.{can_move_back, moved-shown, ready-shown, rests}
+use Rattle.mgn_pricing.proofs.Moved.{can_move_back, moved-shown, ready-shown}
 use Rattle.mgn_pricing.proofs.desks.take_back.Goals as goal
 
 pub take_back-requires-clause-nets : goal.take_back-requires-clause-nets
 take_back-requires-clause-nets c =
-    subst (λ (m : Moves). CanMoveMarked (opposite m) c.args.desk.now.marked) (sym c.moves_of-moves.ensures)
+    subst (λ (m : Moves). CanMoveMarked (opposite m) c.args.desk.now.marked) (sym c.moves_of.ensures)
     (can_move_back c.args.set.now c.args.version c.args.row.now c.args.change.now c.args.desk.now.marked c.requires.row c.requires.change c.requires.ready)
 
 pub returns : goal.returns
 returns c =
     let old = c.args.desk.now in
     let before : Shown = marked_with old.unit c.args.version (four (nets_in c.args.row.now)) in
-    let moved = moved-shown c.args.set.now c.args.version c.args.row.now c.args.change.now old c.requires.ready ∙ ap (λ (m : Moves). moved_desk m before) (sym c.moves_of-moves.ensures) in
-    rests c.args.set.now c.args.version (nets_in c.args.row.now) c.take_back.new.self.marked (ready-shown c.args.set.now c.args.version old.unit (nets_in c.args.row.now) c.take_back.new.self c.take_back.ensures.of_set (c.take_back.ensures.before before moved))
+    let moved = moved-shown c.args.set.now c.args.version c.args.row.now c.args.change.now old c.requires.ready ∙ ap (λ (m : Moves). moved_desk m before) (sym c.moves_of.ensures) in
+    record { ready = ready-shown c.args.set.now c.args.version old.unit (nets_in c.args.row.now) c.take_back.new.self c.take_back.ensures.of_set (c.take_back.ensures.before before moved) }

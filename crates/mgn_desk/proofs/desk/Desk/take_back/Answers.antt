@@ -2,7 +2,7 @@ use Rattle.std.proofs.Common.{◌∙◌, ap}
 use Rattle.mgn_desk.specs.Desks.{moved_desk}
 use Rattle.mgn_desk.specs.Moved.{counted}
 use Rattle.mgn_desk.specs.Portfolios.{opposite}
-use Rattle.mgn_desk.proofs.MovedLemmas.{arrays_at_opposite, can_follow_back, desk_back}
+use Rattle.mgn_desk.proofs.MovedLemmas.{arrays_of_opposite, desk_back}
 use Rattle.mgn_desk.proofs.desk.Desk.take_back.Goals as goal
 
 pub returns-clause-before : goal.returns-clause-before
@@ -14,8 +14,4 @@ returns-clause-before c =
 pub returns-clause-counted : goal.returns-clause-counted
 returns-clause-counted c =
     let read = rw c.opposite.ensures at c.apply.ensures.counted in
-    read ∙ ap (counted c.args.work.now) (arrays_at_opposite c.args.moves.now c.args.self.now.marked)
-
-pub apply-requires-clause-room : goal.apply-requires-clause-room
-apply-requires-clause-room c =
-    rw c.opposite.ensures (can_follow_back c.args.moves.now c.args.self.now.marked c.requires.room)
+    read ∙ ap (counted c.args.work.now) (arrays_of_opposite c.args.moves.now)
