@@ -18,7 +18,7 @@ use mgn_desk::Desk;
 use mgn_num::Quantity;
 use mgn_params::{ParamSet, Version};
 use mgn_register::{Known, Plan, UnitChange};
-use mgn_unit::{Change, Priced, Row};
+use mgn_unit::{Change, Gain, PortfolioRow, Priced, Row};
 
 // Whether a desk is marked under a version before this one.
 fn is_older(desk: &Desk, version: Version) -> bool
@@ -67,6 +67,15 @@ fn are_moved(nets: &[Quantity], row: &[Quantity], contract: usize, quantity: Qua
     nets[contract + 1..] == row[contract + 1..]
 }
 
+// Whether nets are those of a portfolio's row after a gain in one contract.
+fn have_gained(nets: &[Quantity], row: &PortfolioRow, contract: usize, gain: &Gain) -> bool
+    requires contract { contract < length row.now.nets }
+    requires small { IsQuantity (value_at row.now.nets contract +ℤ gain.now.quantity) }
+    ensures { result ≡ same_nets nets.now (more_at row.now.nets contract gain.now.quantity) }
+{
+    are_moved(nets, row.nets.as_slice(), contract, gain.quantity)
+}
+
 // Whether a desk is marked under a version with the nets of a row after a change.
 fn fits(desk: &Desk, version: Version, set: &ParamSet, row: &Row, change: &Change) -> bool
     requires row { IsRow set.now row.now }
@@ -79,28 +88,11 @@ fn fits(desk: &Desk, version: Version, set: &ParamSet, row: &Row, change: &Chang
         return false;
     }
     let nets = desk.nets();
-    let contract = change.contract;
-    are_moved(
-        nets.lots,
-        row.lots.nets.as_slice(),
-        contract,
-        change.lots.quantity,
-    ) && are_moved(
-        nets.buys,
-        row.buys.nets.as_slice(),
-        contract,
-        change.buys.quantity,
-    ) && are_moved(
-        nets.sales,
-        row.sales.nets.as_slice(),
-        contract,
-        change.sales.quantity,
-    ) && are_moved(
-        nets.all,
-        row.all.nets.as_slice(),
-        contract,
-        change.all.quantity,
-    )
+    let i = change.contract;
+    have_gained(nets.lots, &row.lots, i, &change.lots)
+        && have_gained(nets.buys, &row.buys, i, &change.buys)
+        && have_gained(nets.sales, &row.sales, i, &change.sales)
+        && have_gained(nets.all, &row.all, i, &change.all)
 }
 
 // What a unit requires after a change of its row, by its desk; none where no desk fits.
