@@ -10,6 +10,7 @@ use mgn_setfile::read_set;
 use mgn_wire::{LineReply, reply_text, statement_text};
 use std::alloc::Global;
 use std::marker::Model;
+use std::process::Abort;
 use std::test::Fail;
 use worked_sets::fut;
 
@@ -62,6 +63,25 @@ impl Shelved {
         }
     }
 
+    // Writes the reply that the history has at a place, if there is such an entry.
+    fn recall(&self, place: u64, out: &mut Vec<u8>) -> bool {
+        match self.book.reply(place) {
+            Ok(Some(reply)) => {
+                let place = Some(place);
+                reply_text(&LineReply::Answered(Answer { place, reply }), out).is_ok()
+            }
+            Ok(None) | Err(_) => false,
+        }
+    }
+
+    fn session(&self, place: u64) -> Option<u8> {
+        Some(self.book.session(place)?.number())
+    }
+
+    fn unit_of(&self, account: &AccountName) -> Option<usize> {
+        self.book.unit_of(account)
+    }
+
     fn calls(&self, session: SessionNo) -> u64 {
         self.book.calls(session)
     }
@@ -109,6 +129,22 @@ const STATEMENT: &str = "S A1 CUST GROSS FUT 0\n\
     L 1 AAA1 2 0 T\n\
     C CASH 0\n";
 
+// The history tells each reply and its session again, and of no place but those of the entries.
+fn check_history(rt: &impl Abort, desk: &Shelved) {
+    for place in 1..6 {
+        let mut out = Vec::new(desk.alloc);
+        assert!(rt; desk.recall(place, &mut out));
+        let text = REPLIES[place as usize - 1];
+        assert!(rt; out.as_slice() == text.as_bytes(), "for {text}");
+        assert_eq!(rt; desk.session(place), Some(if place < 3 { 1 } else { 16 }));
+    }
+    for place in [0, 6] {
+        let mut out = Vec::new(desk.alloc);
+        assert!(rt; !desk.recall(place, &mut out));
+        assert_eq!(rt; desk.session(place), None);
+    }
+}
+
 #[test]
 fn a_day_of_two_sessions(rt: HostRuntime) -> Result<(), Fail> {
     let commands = commands()?;
@@ -131,6 +167,9 @@ fn a_day_of_two_sessions(rt: HostRuntime) -> Result<(), Fail> {
     assert!(rt; desk.state(&AccountName::read(b"A1")?, &mut told));
     assert!(rt; told.as_slice() == STATEMENT.as_bytes());
     assert!(rt; !desk.state(&AccountName::read(b"A2")?, &mut told));
+    check_history(&rt, &desk);
+    assert_eq!(rt; desk.unit_of(&AccountName::read(b"A1")?), Some(0));
+    assert_eq!(rt; desk.unit_of(&AccountName::read(b"A2")?), None);
     assert_eq!(rt; desk.len(), 5);
     Ok(())
 }
