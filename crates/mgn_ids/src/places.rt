@@ -51,9 +51,7 @@ impl<K: Copy + Eq + Hash> Places<K> {
         ensures ok { OnOk result (self.new ≡ self.old ++ key ∷ []) }
         ensures err { OnErr result (self.new ≡ self.old) }
     {
-        match self.keys.insert(key) {
-            Ok(_) => Ok(()),
-            Err(_) => Err(AllocError),
-        }
+        self.keys.insert(key)?;
+        Ok(())
     }
 }

@@ -129,7 +129,7 @@ impl Rows {
         self.months_of[month.commodity] += 1;
         match self.months.insert(key) {
             Ok(_) => Ok(()),
-            Err(_) => Err(AllocError),
+            Err(_) => unreachable!(),
         }
     }
 
