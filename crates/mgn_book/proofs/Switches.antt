@@ -1,12 +1,6 @@
 -- One switch: the state with its rows, and the shelf, after it.
-use Rattle.std.proofs.Common.{All, IfOk, IfSome, OnOk, Result, Ok, Err, length-append, ◌≡◌, ◌+◌, ◌-◌, ◌<◌, ◌≤◌, ◌∙◌, ℕ, zero, suc, Bool, true, false, List, [], ◌∷◌, ◌++◌, length, get_or, sym, ap, arith, refl, subst, filter, cond, ⊎_elim}
-use Rattle.std.specs.Prelude.{◌&&◌, ℤ}
-use Rattle.std.specs.List.{list_all}
-use Rattle.std.proofs.lemmas.List.Sums.{length-filter}
-use Rattle.std.proofs.lemmas.Bool.{cases_lt}
-use Rattle.std.proofs.lemmas.List.{get_or_append_left, get_or-append_right}
-use Rattle.mgn_coll.specs.Posted.{is_priced_by}
-use Rattle.mgn_params.specs.Limits.{IsWithinLimits}
+use Rattle.std.proofs.Common.{All, IfOk, IfSome, OnOk, Result, Ok, Err, length-append, ◌≡◌, ◌+◌, ◌-◌, ◌<◌, ◌∙◌, ℕ, true, List, [], ◌∷◌, ◌++◌, length, get_or, sym, ap, arith, refl, subst, filter}
+use Rattle.std.proofs.lemmas.List.{get_or-append_right}
 use Rattle.mgn_params.specs.Shelves.{set_at}
 use Rattle.mgn_params.specs.Tables.{Tables, no_tables}
 use Rattle.mgn_machine.specs.declared.origin.Origin.{Origin}
@@ -18,10 +12,8 @@ use Rattle.mgn_machine.specs.NewSet.{covers, on_call, set_fits}
 use Rattle.mgn_machine.specs.Step.{switched}
 use Rattle.mgn_machine.specs.State.{AccountState}
 use Rattle.mgn_unit.specs.declared.row.Row.{Row}
-use Rattle.mgn_unit.specs.NewSets.{AreWorths, is_covered, row_on_call, row_under, unit_gain}
-use Rattle.mgn_unit.specs.Rows.{IsRow, row_of, row_with_worth}
-use Rattle.mgn_unit.proofs.Carried.{on_call-by_rows, row-under, worths-under}
-use Rattle.mgn_unit.proofs.Covered.{AreRowsOf, covers-by_rows, covers-known}
+use Rattle.mgn_unit.specs.NewSets.{row_on_call}
+use Rattle.mgn_unit.proofs.Covered.{covers-known}
 use Rattle.mgn_register.specs.BookStates.{BookState, IsKept, IsUnitRow, book_state}
 use Rattle.mgn_book.specs.Switches.{IsSwitched}
 use Rattle.mgn_register.proofs.Switches.{on_call-counted}
