@@ -12,10 +12,10 @@ ghost use Rattle.mgn_desk.specs.Risks.{IsRisk};
 
 use crate::risk_sum::RiskSum;
 use crate::rows::filled;
-use mgn_inter::{InterCredits, Reworked};
+use mgn_inter::{InterCredits, Reworked, spread_at};
 use mgn_num::{Cents, Quantity, TenThousandths};
 use mgn_option::OptionSums;
-use mgn_params::{CreditSpread, Leg, ParamSet, Work};
+use mgn_params::{Leg, ParamSet, Work};
 use mgn_scan::ScanTotals;
 use mgn_tiers::TierStages;
 use std::alloc::{AllocError, Global};
@@ -61,14 +61,6 @@ fn scaled(quantity: Quantity, delta: &i64) -> TenThousandths
     ensures { result ≡ quantity *ℤ delta.now }
 {
     TenThousandths::product(quantity, *delta)
-}
-
-// The spread between commodities at a place.
-fn spread_at(spreads: &[CreditSpread], i: usize) -> &CreditSpread
-    requires { i < length spreads.now }
-    ensures { result.now ≡ credit_spread_at spreads.now i }
-{
-    &spreads[i]
 }
 
 impl Portfolio {

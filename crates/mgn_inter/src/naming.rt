@@ -10,8 +10,8 @@ use crate::rows::filled;
 use mgn_params::{CreditSpread, Leg, ParamSet};
 use std::alloc::{AllocError, Global};
 
-/// The spread at a place.
-pub(crate) fn spread_at(spreads: &[CreditSpread], i: usize) -> &CreditSpread
+/// The spread at a place among those of a set.
+pub fn spread_at(spreads: &[CreditSpread], i: usize) -> &CreditSpread
     requires { i < length spreads.now }
     ensures { result.now ≡ credit_spread_at spreads.now i }
 {

@@ -4,6 +4,7 @@ ghost use Rattle.mgn_span.specs.Stages.{charges_of, left_by, IsStage};
 ghost use Rattle.mgn_tiers.specs.Runs.{IsSpot};
 ghost use Rattle.mgn_tiers.specs.Sizes.{IsStart};
 
+use crate::kept::KeptStage;
 use crate::spot::charge_by;
 use crate::stages::form_stage;
 use mgn_params::SpotCharge;
@@ -18,7 +19,7 @@ pub(crate) struct StageRun {
     left: [u64; 16],
     charged: u128,
     formed: usize,
-    stages: Vec<Stage>,
+    stages: Vec<KeptStage>,
     spot: Option<SpotCharge>,
 }
 
@@ -55,7 +56,7 @@ impl StageRun {
         requires few { length self.old.stages < 64 }
         ensures { OnOk result (self.new ≡ record self.old { stages = self.old.stages ++ stage.now ∷ [] }) }
     {
-        self.stages.push(*stage)?;
+        self.stages.push(KeptStage::new(stage))?;
         Ok(())
     }
 
@@ -72,7 +73,7 @@ impl StageRun {
         requires { self.old.formed < length self.old.stages }
         ensures { self.new ≡ record self.old { formed = self.old.formed + 1 } }
     {
-        let stage = self.stages[self.formed];
+        let stage = self.stages[self.formed].stage();
         self.charged += form_stage(&mut self.left, &stage);
         self.formed += 1;
     }

@@ -19,6 +19,6 @@ overflow_add-self c =
 pub invariant_of-self : goal.invariant_of-self
 invariant_of-self c =
     let inside : c.self.inside.formed < length c.self.inside.stages.items = subst (λ (r : Run). r.formed < length r.stages) (sym c.self.view_is) c.requires in
-    let stage : c.index.result.now ≡ stage_at c.self.inside.stages.items c.self.inside.formed = get_or_read c.self.inside.stages.items c.self.inside.formed c.index.result.now inside c.index.ensures no_stage in
+    let stage : c.stage-stage.result ≡ stage_at c.self.inside.stages.items c.self.inside.formed = c.stage-stage.ensures.same ∙ get_or_read c.self.inside.stages.items c.self.inside.formed c.index.result.now inside c.index.ensures no_stage in
     let left = c.self.inside.left in
     run_formed (run_of c.self.inside) left c.self.inside.charged c.form_stage.new.left c.form_stage.result c.self.invariant inside (c.form_stage.ensures.left ∙ ap (λ (s : Stage). left_after left s) stage) (c.form_stage.ensures.charge ∙ ap (λ (s : Stage). charge_of left s) stage)
