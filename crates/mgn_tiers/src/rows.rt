@@ -113,11 +113,10 @@ fn set_spots(runs: &mut [StageRun], spots: &[SpotCharge])
 
 // Forms all stages.
 fn form_all(runs: &mut [StageRun])
-    requires { (g : ℕ) → g < length runs.old → (run_at runs.old g).formed ≡ 0 }
     ensures { (g : ℕ) → g < length runs.old → run_at runs.new g ≡ record (run_at runs.old g) { formed = length (run_at runs.old g).stages } }
 {
     for g in 0..runs.len() {
-        runs[g].form_rest();
+        runs[g].form_all();
     }
 }
 
@@ -132,6 +131,18 @@ fn fill_runs(runs: &mut [StageRun], set: &ParamSet) -> Result<(), AllocError>
     set_spots(runs, set.spots());
     form_all(runs);
     Ok(())
+}
+
+// Takes over the stages of other runs, commodity by commodity.
+pub(crate) fn copy_runs(runs: &mut [StageRun], others: &[StageRun])
+    requires one_each { length runs.old ≡ length others.now }
+    requires stages { (g : ℕ) → g < length runs.old →
+        length (run_at runs.old g).stages ≡ length (run_at others.now g).stages }
+    ensures { runs.new ≡ others.now }
+{
+    for g in 0..runs.len() {
+        runs[g].copy_from(&others[g]);
+    }
 }
 
 // The stages of each commodity of a set, formed where no month has a delta.
