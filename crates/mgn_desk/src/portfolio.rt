@@ -273,6 +273,20 @@ impl Portfolio {
         }
     }
 
+    /// Takes over another portfolio under the same set. Takes no memory.
+    pub(crate) fn copy_from(&mut self, other: &Portfolio)
+        requires { (set : Tables) × IsPortfolio set self.old × IsPortfolio set other.now }
+        ensures { self.new ≡ other.now }
+    {
+        self.nets.copy_from_slice(&other.nets);
+        self.totals.copy_from(&other.totals);
+        self.sums.copy_from(&other.sums);
+        self.tiers.copy_from(&other.tiers);
+        self.credits.copy_from(&other.credits);
+        self.charges.copy_from_slice(&other.charges);
+        self.risks.copy_from(&other.risks);
+    }
+
     /// The net of a contract, above 0 bought and below 0 sold.
     pub fn net(&self, contract: usize) -> Quantity
         requires { contract < length self.now.nets }

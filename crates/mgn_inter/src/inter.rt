@@ -190,6 +190,19 @@ impl InterCredits {
         self.rework_reached(set, g)
     }
 
+    /// Takes over what is kept for the same set under other numbers. Takes no memory.
+    pub fn copy_from(&mut self, others: &InterCredits)
+        requires { (set : Tables) × AreCreditsOf set self.old × AreCreditsOf set others.now }
+        ensures { self.new ≡ others.now }
+    {
+        self.deltas.copy_from_slice(&others.deltas);
+        self.risks.copy_from_slice(&others.risks);
+        self.rests.copy_from_slice(&others.rests);
+        self.credits.copy_from_slice(&others.credits);
+        self.kept.copy_from_slice(&others.kept);
+        self.naming.copy_from_slice(&others.naming);
+    }
+
     /// What the intercommodity spreads credit to the commodity at a place, in cents.
     pub fn credit(&self, g: usize) -> Cents
         requires { (set : Tables) × AreCreditsOf set self.now × (g < length set.commodities) }
