@@ -6,7 +6,7 @@ ghost use Rattle.mgn_params.specs.Tables.{Tables, credit_spread_at, legs_of};
 ghost use Rattle.mgn_span.specs.Positions.{IsNet, positions};
 ghost use Rattle.mgn_span.specs.Requirement.{requirement};
 ghost use Rattle.mgn_span.specs.Scan.{price_risk2, scenario_total, value_at};
-ghost use Rattle.mgn_desk.specs.Kept.{AreParts, charge_of, IsPortfolio, IsReady, kept_risk, KeepsParts, KeepsRest, with_risks};
+ghost use Rattle.mgn_desk.specs.Kept.{AreParts, charge_of, IsPortfolio, IsReady, kept_risk, KeepsParts, KeepsRest, with_charges, with_credits, with_risks};
 ghost use Rattle.mgn_desk.specs.Moved.{arrays_of_quantity, counted, more_of};
 ghost use Rattle.mgn_desk.specs.Risks.{IsRisk};
 
@@ -145,6 +145,39 @@ impl Portfolio {
             .plus(self.tiers.spot(g))
     }
 
+    // Writes what the commodity at a place risks before credits.
+    fn write_charge(&mut self, set: &ParamSet, g: usize)
+        requires parts { AreParts set.now self.old }
+        requires commodity { g < length set.now.commodities }
+        requires charges { length self.old.charges ≡ length set.now.commodities }
+        ensures written { self.new ≡ with_charges self.old (slice_set self.old.charges g
+            (charge_of set.now (positions set.now.contracts self.old.nets) g)) }
+        ensures small { IsRisk (charge_of set.now (positions set.now.contracts self.old.nets) g) }
+    {
+        let charge = self.charge(g);
+        self.charges[g] = charge;
+    }
+
+    // Brings the credits after the parts.
+    fn refresh_credits(&mut self, set: &ParamSet, g: usize) -> Reworked
+        requires parts { AreParts set.now self.old }
+        requires commodity { g < length set.now.commodities }
+        requires credits { AreCreditsOf set.now self.old.credits }
+        ensures written { self.new ≡ with_credits self.old self.new.credits }
+        ensures credits { AreCreditsOf set.now self.new.credits }
+        ensures net_deltas { self.new.credits.deltas ≡ slice_set self.old.credits.deltas g
+            (net_delta set.now.months (positions set.now.contracts self.old.nets) g) }
+        ensures price_risks { self.new.credits.risks ≡ slice_set self.old.credits.risks g
+            (unsigned_abs (price_risk2 (scenario_total g (positions set.now.contracts self.old.nets)))) }
+        ensures places { All (λ i. i < length set.now.credits) result }
+        ensures others { (k : ℕ) → named k set.now.credits result ≡ false →
+            slice_index self.new.credits.credits k ≡ slice_index self.old.credits.credits k }
+    {
+        let net_delta = self.tiers.net_delta(g);
+        let price_risk2 = self.totals.price_risk2(g);
+        self.credits.refresh(set, g, net_delta, price_risk2)
+    }
+
     // Brings what the commodity at a place risks before credits, and the credits, after the parts.
     fn refresh(&mut self, set: &ParamSet, g: usize) -> Reworked
         requires parts { AreParts set.now self.old }
@@ -164,11 +197,8 @@ impl Portfolio {
         ensures others { (k : ℕ) → named k set.now.credits result ≡ false →
             slice_index self.new.credits.credits k ≡ slice_index self.old.credits.credits k }
     {
-        let charge = self.charge(g);
-        let net_delta = self.tiers.net_delta(g);
-        let price_risk2 = self.totals.price_risk2(g);
-        self.charges[g] = charge;
-        self.credits.refresh(set, g, net_delta, price_risk2)
+        self.write_charge(set, g);
+        self.refresh_credits(set, g)
     }
 
     // The risk of the commodity at a place, by what is kept.
