@@ -1,8 +1,9 @@
-ghost use Rattle.std.specs.Prelude.{◌≡◌, ◌≢◌, ◌+◌, ◌-◌, ◌*◌, ◌<◌, ◌≤◌, ◌^◌, ℕ, List, [], ◌∷◌, ◌++◌, length, replicate, slice_index, slice_set, None, Some, IfSome, OnOk};
+ghost use Rattle.std.specs.Prelude.{◌≡◌, ◌≢◌, ◌+◌, ◌-◌, ◌*◌, ◌<◌, ◌≤◌, ◌^◌, ℕ, List, [], ◌∷◌, ◌++◌, length, replicate, slice_index, slice_set, None, Some, IfOk, IfSome, OnOk};
 ghost use Rattle.mgn_span.specs.Spot.{spot_charge_from};
 ghost use Rattle.mgn_span.specs.Stages.{charges_of, left_by, IsStage};
 ghost use Rattle.mgn_tiers.specs.Runs.{IsSpot};
 ghost use Rattle.mgn_tiers.specs.Sizes.{IsStart};
+ghost use Rattle.mgn_tiers.specs.Tiers.{no_run};
 
 use crate::kept::KeptStage;
 use crate::spot::charge_by;
@@ -65,18 +66,18 @@ fn spot_charge_of(starts: &[u64; 16], left: &[u64; 16], spot: &Option<SpotCharge
 }
 
 impl StageRun {
-    // No stages, and legs that start with nothing. Takes no memory.
-    pub fn new(alloc: Global) -> StageRun
-        ensures { result ≡ record { starts = replicate 16 0; stages = []; formed = 0; spot = None } }
+    // No stages, with room for some, and legs that start with nothing.
+    pub fn new(alloc: Global, stages: usize) -> Result<StageRun, AllocError>
+        ensures { IfOk result (λ run. run ≡ no_run) }
     {
-        StageRun {
+        Ok(StageRun {
             starts: [0; 16],
             charged: 0,
             spot_charged: 0,
             formed: 0,
-            stages: Vec::new(alloc),
+            stages: Vec::with_capacity(alloc, stages)?,
             spot: None,
-        }
+        })
     }
 
     // Adds a stage behind the others, which is not formed.
