@@ -109,7 +109,10 @@ impl Portfolio {
     {
         let mut work = Work::new();
         for i in 0..nets.len() {
-            self.follow(set, i, net_at(nets, i), &mut work);
+            let net = net_at(nets, i);
+            if net.size() != 0 {
+                self.change(set, i, net, &mut work);
+            }
         }
     }
 
