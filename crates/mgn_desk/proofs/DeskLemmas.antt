@@ -1,6 +1,6 @@
 -- What callers of a desk go by.
-use Rattle.std.proofs.Common.{◌≡◌, ℕ, ◌<◌, List, [], length, pos, ℤ, ap, sym, subst, arith, refl, Option, Some, None, get_or-set_same}
-use Rattle.std.specs.Prelude.{◌+ℤ◌, neg_ℤ}
+use Rattle.std.proofs.Common.{◌≡◌, Bool, true, false, ℕ, ◌<◌, List, [], length, pos, ℤ, ap, sym, subst, arith, refl, Option, Some, None, get_or-set_same}
+use Rattle.std.specs.Prelude.{◌+ℤ◌, neg_ℤ, if◌then◌else◌}
 use Rattle.std.proofs.lemmas.Int.{ints}
 use Rattle.mgn_params.specs.Tables.{Tables}
 use Rattle.mgn_span.specs.Positions.{IsNet}
@@ -10,7 +10,8 @@ use Rattle.mgn_desk.specs.declared.moves.Moves.{Moves}
 use Rattle.mgn_desk.specs.Desks.{AreNetsOf, CanMoveMarked, IsMarkedBy, MarkedNets, marked_nets, moved_marked}
 use Rattle.mgn_desk.specs.Kept.{IsPortfolio, Kept}
 use Rattle.mgn_desk.specs.Moved.{more_of}
-use Rattle.mgn_desk.specs.Portfolios.{AreFourNets, AreNets, CanMove, FourNets, moved_by, nets_of, opposite}
+use Rattle.mgn_desk.specs.declared.branch.Branch.{Branch}
+use Rattle.mgn_desk.specs.Portfolios.{AreFourNets, AreNets, CanMove, FourNets, branch_of, moved_by, nets_of, opposite}
 
 -- a desk whose nets stay within their limits
 pub can_move_marked : (m : Moves) (marked : Option Marked) (n : FourNets) → AreNetsOf marked n → CanMove m n → CanMoveMarked m marked
@@ -21,14 +22,19 @@ can_move_marked m (Some x) n are can = subst (λ (k : FourNets). CanMove m k) ar
 nets_are : (t : Tables) (p : Kept) → IsPortfolio t p → AreNets t p.nets
 nets_are t p is = record { one_each = is.ready.parts.totals.one_each; small = is.ready.parts.totals.small }
 
+-- and so is what is kept of a branch
+branch_is : (t : Tables) (lots : Kept) (b : Branch) → IsPortfolio t lots → IsPortfolio t b.own → IsPortfolio t (branch_of lots b)
+branch_is t lots b is own =
+    elim b.apart as (λ (v : Bool). IsPortfolio t (if v then b.own else lots)) [ true ↦ own | false ↦ is ]
+
 pub marked_nets_are : (t : Tables) (marked : Option Marked) (n : FourNets) → IsMarkedBy t marked → AreNetsOf marked n → AreFourNets t n
 marked_nets_are t None n is are = absurd is
 marked_nets_are t (Some m) n is are =
     subst (λ (k : FourNets). AreFourNets t k) (sym are) (record {
       lots = nets_are t m.portfolios.lots is.lots;
-      buys = nets_are t m.portfolios.buys is.buys;
-      sales = nets_are t m.portfolios.sales is.sales;
-      all = nets_are t m.portfolios.all is.all;
+      buys = nets_are t (branch_of m.portfolios.lots m.portfolios.buys) (branch_is t m.portfolios.lots m.portfolios.buys is.lots is.buys);
+      sales = nets_are t (branch_of m.portfolios.lots m.portfolios.sales) (branch_is t m.portfolios.lots m.portfolios.sales is.lots is.sales);
+      all = nets_are t (branch_of m.portfolios.lots m.portfolios.all) (branch_is t m.portfolios.lots m.portfolios.all is.lots is.all);
     })
 
 -- after moves the opposite ones stay within the limits

@@ -94,6 +94,13 @@ pub record KeepsParts (old new : Kept) : Type 0 where
   pub tiers : new.tiers ≡ old.tiers
   pub risks : new.risks ≡ old.risks
 
+-- the same with other charges, with other credits
+abbrev pub with_charges : Kept → List ℤ → Kept
+with_charges p charges = record p { charges = charges }
+
+abbrev pub with_credits : Kept → Credited → Kept
+with_credits p credits = record p { credits = credits }
+
 -- the same with other risks
 abbrev pub with_risks : Kept → List ℤ → Kept
 with_risks p risks = record p { risks = risks }

@@ -1,5 +1,5 @@
 -- The four portfolios of a margin unit under one set.
-use Rattle.std.specs.Prelude.{ℕ, ◌≡◌, ◌≤◌, ◌+◌, ◌^◌, ℤ, neg_ℤ, ◌+ℤ◌, unsigned_abs, List, length, All}
+use Rattle.std.specs.Prelude.{ℕ, ◌≡◌, ◌≤◌, ◌+◌, ◌^◌, if◌then◌else◌, false, ℤ, neg_ℤ, ◌+ℤ◌, unsigned_abs, List, length, All}
 use Rattle.mgn_params.specs.Tables.{Tables}
 use Rattle.mgn_span.specs.Positions.{IsNet}
 use Rattle.mgn_span.specs.Requirement.{requirement}
@@ -7,8 +7,9 @@ use Rattle.mgn_span.specs.Scan.{value_at}
 use Rattle.mgn_desk.specs.declared.moves.Moves.{Moves}
 use Rattle.mgn_desk.specs.declared.moves.Requirements.{Requirements}
 use Rattle.mgn_desk.specs.declared.moves.UnitNets.{UnitNets}
+use Rattle.mgn_desk.specs.declared.branch.Branch.{Branch}
 use Rattle.mgn_desk.specs.declared.portfolios.Portfolios.{Portfolios}
-use Rattle.mgn_desk.specs.Kept.{IsPortfolio}
+use Rattle.mgn_desk.specs.Kept.{IsPortfolio, Kept}
 use Rattle.mgn_desk.specs.Moved.{arrays_of_quantity, more_of}
 
 -- the nets of each: the lots; with the held buys; with the held sales; with all holds
@@ -21,8 +22,17 @@ pub record FourNets : Type 0 where
 abbrev pub four_of : UnitNets → FourNets
 four_of nets = record { lots = nets.lots.now; buys = nets.buys.now; sales = nets.sales.now; all = nets.all.now }
 
+-- what is kept of a branch: its own where it is apart, else that of the lots
+abbrev pub branch_of : Kept → Branch → Kept
+branch_of lots b = if b.apart then b.own else lots
+
 abbrev pub nets_of : Portfolios → FourNets
-nets_of p = record { lots = p.lots.nets; buys = p.buys.nets; sales = p.sales.nets; all = p.all.nets }
+nets_of p = record {
+  lots = p.lots.nets;
+  buys = (branch_of p.lots p.buys).nets;
+  sales = (branch_of p.lots p.sales).nets;
+  all = (branch_of p.lots p.all).nets;
+}
 
 -- one net for each contract, within its limit
 pub record AreNets (set : Tables) (nets : List ℤ) : Type 0 where
@@ -38,9 +48,15 @@ pub record AreFourNets (set : Tables) (n : FourNets) : Type 0 where
 -- each is kept under this set
 pub record ArePortfolios (set : Tables) (p : Portfolios) : Type 0 where
   pub lots : IsPortfolio set p.lots
-  pub buys : IsPortfolio set p.buys
-  pub sales : IsPortfolio set p.sales
-  pub all : IsPortfolio set p.all
+  pub buys : IsPortfolio set p.buys.own
+  pub sales : IsPortfolio set p.sales.own
+  pub all : IsPortfolio set p.all.own
+
+-- those that are not apart move as the lots
+pub record AreParted (m : Moves) (p : Portfolios) : Type 0 where
+  pub buys : p.buys.apart ≡ false → m.buys ≡ m.lots
+  pub sales : p.sales.apart ≡ false → m.sales ≡ m.lots
+  pub all : p.all.apart ≡ false → m.all ≡ m.lots
 
 -- the nets after moves
 abbrev pub moved_by : Moves → FourNets → FourNets

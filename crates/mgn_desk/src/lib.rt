@@ -1,6 +1,7 @@
 //! The requirements of the four portfolios of a margin unit, kept while its nets change.
 #![tactic(auto)]
 
+mod branch;
 mod desk;
 mod moves;
 mod portfolio;

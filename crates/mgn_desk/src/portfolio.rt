@@ -6,16 +6,16 @@ ghost use Rattle.mgn_params.specs.Tables.{Tables, credit_spread_at, legs_of};
 ghost use Rattle.mgn_span.specs.Positions.{IsNet, positions};
 ghost use Rattle.mgn_span.specs.Requirement.{requirement};
 ghost use Rattle.mgn_span.specs.Scan.{price_risk2, scenario_total, value_at};
-ghost use Rattle.mgn_desk.specs.Kept.{AreParts, charge_of, IsPortfolio, IsReady, kept_risk, KeepsParts, KeepsRest, with_risks};
+ghost use Rattle.mgn_desk.specs.Kept.{AreParts, charge_of, IsPortfolio, IsReady, kept_risk, KeepsParts, KeepsRest, with_charges, with_credits, with_risks};
 ghost use Rattle.mgn_desk.specs.Moved.{arrays_of_quantity, counted, more_of};
 ghost use Rattle.mgn_desk.specs.Risks.{IsRisk};
 
 use crate::risk_sum::RiskSum;
 use crate::rows::filled;
-use mgn_inter::{InterCredits, Reworked};
+use mgn_inter::{InterCredits, Reworked, spread_at};
 use mgn_num::{Cents, Quantity, TenThousandths};
 use mgn_option::OptionSums;
-use mgn_params::{CreditSpread, Leg, ParamSet, Work};
+use mgn_params::{Leg, ParamSet, Work};
 use mgn_scan::ScanTotals;
 use mgn_tiers::TierStages;
 use std::alloc::{AllocError, Global};
@@ -61,14 +61,6 @@ fn scaled(quantity: Quantity, delta: &i64) -> TenThousandths
     ensures { result ≡ quantity *ℤ delta.now }
 {
     TenThousandths::product(quantity, *delta)
-}
-
-// The spread between commodities at a place.
-fn spread_at(spreads: &[CreditSpread], i: usize) -> &CreditSpread
-    requires { i < length spreads.now }
-    ensures { result.now ≡ credit_spread_at spreads.now i }
-{
-    &spreads[i]
 }
 
 impl Portfolio {
@@ -117,7 +109,10 @@ impl Portfolio {
     {
         let mut work = Work::new();
         for i in 0..nets.len() {
-            self.follow(set, i, net_at(nets, i), &mut work);
+            let net = net_at(nets, i);
+            if net.size() != 0 {
+                self.change(set, i, net, &mut work);
+            }
         }
     }
 
@@ -153,6 +148,39 @@ impl Portfolio {
             .plus(self.tiers.spot(g))
     }
 
+    // Writes what the commodity at a place risks before credits.
+    fn write_charge(&mut self, set: &ParamSet, g: usize)
+        requires parts { AreParts set.now self.old }
+        requires commodity { g < length set.now.commodities }
+        requires charges { length self.old.charges ≡ length set.now.commodities }
+        ensures written { self.new ≡ with_charges self.old (slice_set self.old.charges g
+            (charge_of set.now (positions set.now.contracts self.old.nets) g)) }
+        ensures small { IsRisk (charge_of set.now (positions set.now.contracts self.old.nets) g) }
+    {
+        let charge = self.charge(g);
+        self.charges[g] = charge;
+    }
+
+    // Brings the credits after the parts.
+    fn refresh_credits(&mut self, set: &ParamSet, g: usize) -> Reworked
+        requires parts { AreParts set.now self.old }
+        requires commodity { g < length set.now.commodities }
+        requires credits { AreCreditsOf set.now self.old.credits }
+        ensures written { self.new ≡ with_credits self.old self.new.credits }
+        ensures credits { AreCreditsOf set.now self.new.credits }
+        ensures net_deltas { self.new.credits.deltas ≡ slice_set self.old.credits.deltas g
+            (net_delta set.now.months (positions set.now.contracts self.old.nets) g) }
+        ensures price_risks { self.new.credits.risks ≡ slice_set self.old.credits.risks g
+            (unsigned_abs (price_risk2 (scenario_total g (positions set.now.contracts self.old.nets)))) }
+        ensures places { All (λ i. i < length set.now.credits) result }
+        ensures others { (k : ℕ) → named k set.now.credits result ≡ false →
+            slice_index self.new.credits.credits k ≡ slice_index self.old.credits.credits k }
+    {
+        let net_delta = self.tiers.net_delta(g);
+        let price_risk2 = self.totals.price_risk2(g);
+        self.credits.refresh(set, g, net_delta, price_risk2)
+    }
+
     // Brings what the commodity at a place risks before credits, and the credits, after the parts.
     fn refresh(&mut self, set: &ParamSet, g: usize) -> Reworked
         requires parts { AreParts set.now self.old }
@@ -172,11 +200,8 @@ impl Portfolio {
         ensures others { (k : ℕ) → named k set.now.credits result ≡ false →
             slice_index self.new.credits.credits k ≡ slice_index self.old.credits.credits k }
     {
-        let charge = self.charge(g);
-        let net_delta = self.tiers.net_delta(g);
-        let price_risk2 = self.totals.price_risk2(g);
-        self.charges[g] = charge;
-        self.credits.refresh(set, g, net_delta, price_risk2)
+        self.write_charge(set, g);
+        self.refresh_credits(set, g)
     }
 
     // The risk of the commodity at a place, by what is kept.
@@ -279,6 +304,20 @@ impl Portfolio {
         if quantity.size() != 0 {
             self.change(set, i, quantity, work);
         }
+    }
+
+    /// Takes over another portfolio under the same set. Takes no memory.
+    pub(crate) fn copy_from(&mut self, other: &Portfolio)
+        requires { (set : Tables) × IsPortfolio set self.old × IsPortfolio set other.now }
+        ensures { self.new ≡ other.now }
+    {
+        self.nets.copy_from_slice(&other.nets);
+        self.totals.copy_from(&other.totals);
+        self.sums.copy_from(&other.sums);
+        self.tiers.copy_from(&other.tiers);
+        self.credits.copy_from(&other.credits);
+        self.charges.copy_from_slice(&other.charges);
+        self.risks.copy_from(&other.risks);
     }
 
     /// The net of a contract, above 0 bought and below 0 sold.

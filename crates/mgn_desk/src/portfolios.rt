@@ -1,9 +1,11 @@
-ghost use Rattle.std.specs.Prelude.{◌≡◌, ◌<◌, length, IfOk};
+ghost use Rattle.std.specs.Prelude.{◌≡◌, ◌<◌, length, false, IfOk};
 ghost use Rattle.mgn_params.specs.Tables.{Tables};
 ghost use Rattle.mgn_desk.specs.Moved.{counted};
 
+use crate::branch::Branch;
 use crate::moves::{Moves, Requirements, UnitNets};
 use crate::portfolio::Portfolio;
+use mgn_num::Quantity;
 use mgn_params::{ParamSet, Work};
 use std::alloc::{AllocError, Global};
 
@@ -11,13 +13,13 @@ use std::alloc::{AllocError, Global};
 #[derive(Drop)]
 pub(crate) struct Portfolios {
     pub lots: Portfolio,
-    pub buys: Portfolio,
-    pub sales: Portfolio,
-    pub all: Portfolio,
+    pub buys: Branch,
+    pub sales: Branch,
+    pub all: Branch,
 }
 
 impl Portfolios {
-    ghost use Rattle.mgn_desk.specs.Portfolios.{AreFourNets, ArePortfolios, AreSmall, CanMove, arrays_of, four_of, moved_by, nets_of, requirements_of};
+    ghost use Rattle.mgn_desk.specs.Portfolios.{AreFourNets, AreParted, ArePortfolios, AreSmall, CanMove, arrays_of, four_of, moved_by, nets_of, requirements_of};
 
     // These nets. The only error is that memory was refused.
     pub fn of_nets(
@@ -31,10 +33,38 @@ impl Portfolios {
     {
         Ok(Portfolios {
             lots: Portfolio::of_nets(alloc, set, nets.lots)?,
-            buys: Portfolio::of_nets(alloc, set, nets.buys)?,
-            sales: Portfolio::of_nets(alloc, set, nets.sales)?,
-            all: Portfolio::of_nets(alloc, set, nets.all)?,
+            buys: Branch::of_nets(alloc, set, nets.lots, nets.buys)?,
+            sales: Branch::of_nets(alloc, set, nets.lots, nets.sales)?,
+            all: Branch::of_nets(alloc, set, nets.lots, nets.all)?,
         })
+    }
+
+    // Keeps those apart that are to move by something else than the lots.
+    fn part(&mut self, moves: &Moves)
+        requires { (set : Tables) × ArePortfolios set self.old }
+        ensures portfolios { (set : Tables) → ArePortfolios set self.old → ArePortfolios set self.new }
+        ensures nets { nets_of self.new ≡ nets_of self.old }
+        ensures parted { AreParted moves.now self.new }
+    {
+        self.buys.part(&self.lots, differ(moves.buys, moves.lots));
+        self.sales.part(&self.lots, differ(moves.sales, moves.lots));
+        self.all.part(&self.lots, differ(moves.all, moves.lots));
+    }
+
+    // Moves the nets of one contract, once those are kept apart that move by something else than the lots.
+    fn follow(&mut self, set: &ParamSet, moves: &Moves, work: &mut Work)
+        requires portfolios { ArePortfolios set.now self.old }
+        requires contract { moves.now.contract < length set.now.contracts }
+        requires nets { CanMove moves.now (nets_of self.old) }
+        requires parted { AreParted moves.now self.old }
+        ensures portfolios { ArePortfolios set.now self.new }
+        ensures nets { nets_of self.new ≡ moved_by moves.now (nets_of self.old) }
+        ensures counted { work.new ≡ counted work.old (arrays_of moves.now) }
+    {
+        self.lots.follow(set, moves.contract, moves.lots, work);
+        self.buys.follow(set, moves.contract, moves.buys, work);
+        self.sales.follow(set, moves.contract, moves.sales, work);
+        self.all.follow(set, moves.contract, moves.all, work);
     }
 
     // Moves the nets of one contract. A portfolio that is not moved costs nothing.
@@ -46,10 +76,8 @@ impl Portfolios {
         ensures nets { nets_of self.new ≡ moved_by moves.now (nets_of self.old) }
         ensures counted { work.new ≡ counted work.old (arrays_of moves.now) }
     {
-        self.lots.follow(set, moves.contract, moves.lots, work);
-        self.buys.follow(set, moves.contract, moves.buys, work);
-        self.sales.follow(set, moves.contract, moves.sales, work);
-        self.all.follow(set, moves.contract, moves.all, work);
+        self.part(moves);
+        self.follow(set, moves, work);
     }
 
     pub fn nets(&self) -> UnitNets<'_>
@@ -57,9 +85,9 @@ impl Portfolios {
     {
         UnitNets {
             lots: self.lots.nets(),
-            buys: self.buys.nets(),
-            sales: self.sales.nets(),
-            all: self.all.nets(),
+            buys: self.buys.kept(&self.lots).nets(),
+            sales: self.sales.kept(&self.lots).nets(),
+            all: self.all.kept(&self.lots).nets(),
         }
     }
 
@@ -70,9 +98,15 @@ impl Portfolios {
     {
         Requirements {
             lots: self.lots.requirement(),
-            buys: self.buys.requirement(),
-            sales: self.sales.requirement(),
-            all: self.all.requirement(),
+            buys: self.buys.kept(&self.lots).requirement(),
+            sales: self.sales.kept(&self.lots).requirement(),
+            all: self.all.kept(&self.lots).requirement(),
         }
     }
+}
+
+fn differ(a: Quantity, b: Quantity) -> bool
+    ensures { result ≡ false → a ≡ b }
+{
+    a.contracts() != b.contracts()
 }

@@ -60,6 +60,15 @@ impl RiskSum {
         self.risks[g] = risk;
     }
 
+    /// Takes over other risks of as many commodities. Takes no memory.
+    pub fn copy_from(&mut self, others: &RiskSum)
+        requires { length self.old ≡ length others.now }
+        ensures { self.new ≡ others.now }
+    {
+        self.risks.copy_from_slice(&others.risks);
+        self.sum = others.sum;
+    }
+
     /// The sum of the risks.
     pub fn sum(&self) -> Cents
         ensures sum { result ≡ signed_sum_below (value_at self.now) (length self.now) }

@@ -212,7 +212,7 @@ legs_creditable deltas rests risks n s numbers are count limits h k d inside =
       small = small;
       risk = numbers.small_risks leg.commodity;
       product = amount_product amount (unsigned_abs (value_at rests leg.commodity)) leg.ratio limit.ratio (omega (arith, near, small)) least;
-      use_small = omega (arith, near, small, left);
+      use_small = omega (arith, near, left);
     }
 
 -- a leg is credited at most 10^33
@@ -225,9 +225,19 @@ quotient_small p d most h small =
 
 pub leg_credit_small : (deltas : List ℤ) (risks : List ℕ) (rate amount : ℕ) (leg : Leg) → rate ≤ 10000 → IsCreditable deltas risks amount leg → leg_credit deltas risks rate amount leg ≤ 10 ^ 33
 leg_credit_small deltas risks rate amount leg low is =
-    let first = mul-le-mul is.use_small low in
+    let used_small : used amount leg.ratio ≤ 256 * 10 ^ 12 = omega (arith, is.use_small, is.small) in
+    let first = mul-le-mul used_small low in
     let second = mul-le-mul first is.risk in
     quotient_small (used amount leg.ratio * rate * slice_index risks leg.commodity) (unsigned_abs (value_at deltas leg.commodity)) (10 ^ 33) is.some (omega (arith, second))
+
+-- and no more than half of twice its price risk, so that 64 bits hold it
+pub leg_credit_tight : (deltas : List ℤ) (risks : List ℕ) (rate amount : ℕ) (leg : Leg) → rate ≤ 10000 → IsCreditable deltas risks amount leg → leg_credit deltas risks rate amount leg ≤ 55 * 10 ^ 16
+leg_credit_tight deltas risks rate amount leg low is =
+    let d = unsigned_abs (value_at deltas leg.commodity) in
+    let first = mul-le-mul is.use_small low in
+    let second = mul-le-mul first is.risk in
+    let below = div_below (used amount leg.ratio * rate * slice_index risks leg.commodity) (20000 * d) (55 * 10 ^ 16 + 1) (omega (arith, is.some)) (omega (arith, second, is.some)) in
+    omega (arith, below)
 
 -- and each commodity by one spread at most 4 * 10^33
 outcome_small : (deltas : List ℤ) (risks : List ℕ) (rests : List ℤ) (credits : List ℕ) (s : CreditSpread) (n : ℕ) (b : Bool) (g : ℕ) → AreNumbers deltas risks → AreRests deltas rests → n ≡ length deltas → IsCreditSpread n s → b ≡ forms rests (legs_of s) → slice_index (outcome deltas risks (rests, credits) s (spread_amount rests (legs_of s)) b).1 g ≤ slice_index credits g + 4 * 10 ^ 33

@@ -1,6 +1,6 @@
 -- One spread after the other while the numbers of one commodity change: those that are passed over, and those that are
 -- formed again.
-use Rattle.std.proofs.Common.{◌≡◌, ◌≢◌, ℕ, zero, suc, ◌+◌, ◌*◌, ◌<◌, ◌≤◌, ◌^◌, Bool, true, false, List, length, take, get_or, slice_index, slice_set, replicate, pos, ℤ, ap, ◌∙◌, sym, arith, refl, add-one, ⊎_elim, All, length-set, length-take, get_or-set_same, get_or-set_other, eq-eqb, ne_eqb, take_all}
+use Rattle.std.proofs.Common.{◌≡◌, ◌≢◌, ℕ, zero, suc, ◌+◌, ◌*◌, ◌<◌, ◌≤◌, ◌^◌, Bool, true, false, List, length, take, get_or, slice_index, slice_set, replicate, pos, ℤ, ap, ◌∙◌, sym, arith, refl, add-one, ⊎_elim, All, length-set, length-take, get_or-set_same, get_or-set_other, eq-eqb, ne_eqb, take_all, subst}
 use Rattle.std.specs.Prelude.{◌==◌, ◌||◌, if◌then◌else◌}
 use Rattle.std.specs.Int.{bit_at}
 use Rattle.std.proofs.lemmas.Bool.{cases_Bool, cases_eq, cases_lt, or_parts, true≢false}
@@ -334,6 +334,16 @@ turn_skipped set g was c zero h misses at = at
 turn_skipped set g was c (suc n) h misses at =
     let before = turn_skipped set g was c n (omega arith) (λ i low. misses i (omega arith)) at in
     rw (← add-one) (turn_passed set g was (slice_set (replicate 256 false) g true) n c before (omega arith) (unreached_first g (legs_of (credit_spread_at set.credits n)) (misses n (omega arith))))
+
+-- what the change does not reach is passed over
+pub turn_jumped : (set : Tables) (g : ℕ) (was : Credited) (moved : List Bool) (c : Credited) (i n : ℕ) → i + n ≤ length set.credits → ((k : ℕ) → i ≤ k → k < i + n → reached moved g (legs_of (credit_spread_at set.credits k)) ≡ false) → IsAtTurn set g was moved i c → IsAtTurn set g was moved (i + n) c
+turn_jumped set g was moved c i zero h out at =
+    let same : i ≡ i + 0 = omega arith in
+    subst (λ (m : ℕ). IsAtTurn set g was moved m c) same at
+turn_jumped set g was moved c i (suc n) h out at =
+    let before = turn_jumped set g was moved c i n (omega arith) (λ k from low. out k from (omega arith)) at in
+    let next : i + n + 1 ≡ i + suc n = omega arith in
+    subst (λ (m : ℕ). IsAtTurn set g was moved m c) next (turn_passed set g was moved (i + n) c before (omega arith) (out (i + n) (omega arith) (omega arith)))
 
 -- After the last spread everything is kept for the new numbers.
 pub turn_last : (set : Tables) (g : ℕ) (was : Credited) (moved : List Bool) (c : Credited) → IsWithinLimits set → IsAtTurn set g was moved (length set.credits) c → AreCreditsOf set c

@@ -13,7 +13,7 @@ pub record AreCreditsOf (set : Tables) (c : Credited) : Type 0 where
   pub numbers : AreNumbers c.deltas c.risks
   pub one_rest_each : length c.rests ≡ length c.deltas
   pub credits : c.credits ≡ credits_of c.deltas c.risks set.credits
-  pub one_kept_each : length set.credits ≤ length c.kept
+  pub one_kept_each : length c.kept ≡ length set.credits
   pub kept : (i : ℕ) → i < length set.credits → IsKept c.deltas c.risks (rests_at c.deltas c.risks set.credits i) (credit_spread_at set.credits i) (kept_at c.kept i)
   pub one_naming_each : length c.naming ≡ length c.deltas
   pub naming : (g : ℕ) → Misses set.credits (slice_index c.naming g) g
@@ -35,7 +35,7 @@ pub record IsAtTurn (set : Tables) (g : ℕ) (was : Credited) (moved : List Bool
   pub rests : (k : ℕ) → value_at (rests_at c.deltas c.risks set.credits i) k ≡ (if moved_at moved k then value_at c.rests k else value_at (rests_at was.deltas was.risks set.credits i) k)
   pub one_credit_each : length c.credits ≡ length c.deltas
   pub credits : (k : ℕ) → slice_index c.credits k ≡ shares set.credits c.kept k (length set.credits)
-  pub one_kept_each : length set.credits ≤ length c.kept
+  pub one_kept_each : length c.kept ≡ length set.credits
   pub done : (j : ℕ) → j < i → IsKept c.deltas c.risks (rests_at c.deltas c.risks set.credits j) (credit_spread_at set.credits j) (kept_at c.kept j)
   pub left : (j : ℕ) → i ≤ j → j < length set.credits → IsKept was.deltas was.risks (rests_at was.deltas was.risks set.credits j) (credit_spread_at set.credits j) (kept_at c.kept j)
   pub one_naming_each : length c.naming ≡ length c.deltas

@@ -68,7 +68,7 @@ pub record IsCreditable (deltas : List ℤ) (risks : List ℕ) (amount : ℕ) (l
   pub small : unsigned_abs (value_at deltas leg.commodity) ≤ 256 * 10 ^ 12
   pub risk : IsRisk (slice_index risks leg.commodity)
   pub product : amount * leg.ratio ≤ 256 * 10 ^ 16
-  pub use_small : used amount leg.ratio ≤ 256 * 10 ^ 12
+  pub use_small : used amount leg.ratio ≤ unsigned_abs (value_at deltas leg.commodity)
 
 -- no leg's rest is farther from 0 than its net delta
 abbrev pub AreNear : List ℤ → List ℤ → List Leg → Type 0

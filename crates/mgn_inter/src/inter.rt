@@ -7,7 +7,7 @@ ghost use Rattle.mgn_params.specs.Tables.{Tables, credit_spread_at, legs_of};
 ghost use Rattle.mgn_span.specs.Sizes.{IsDelta};
 
 use crate::kept::Kept;
-use crate::naming::{await_moved, first_place, has_place, naming_spreads, spread_at};
+use crate::naming::{await_moved, first_place, naming_spreads, next_place, spread_at};
 use crate::rest::Rest;
 use crate::reworked::Reworked;
 use crate::rows::{bring_rests, filled, form_spread, is_reached, mark_moved, move_credits};
@@ -150,10 +150,10 @@ impl InterCredits {
         let mut reworked = Reworked::none();
         let mut waiting = self.naming[g];
         let count = set.credits().len();
-        for i in first_place(waiting).min(count)..count {
-            if has_place(waiting, i) {
-                self.turn(set, g, i, &mut waiting, &mut moved, &mut reworked);
-            }
+        let mut i = first_place(waiting).min(count);
+        while i < count {
+            self.turn(set, g, i, &mut waiting, &mut moved, &mut reworked);
+            i = next_place(waiting, i).min(count);
         }
         reworked
     }
@@ -188,6 +188,19 @@ impl InterCredits {
             return Reworked::none();
         }
         self.rework_reached(set, g)
+    }
+
+    /// Takes over what is kept for the same set under other numbers. Takes no memory.
+    pub fn copy_from(&mut self, others: &InterCredits)
+        requires { (set : Tables) × AreCreditsOf set self.old × AreCreditsOf set others.now }
+        ensures { self.new ≡ others.now }
+    {
+        self.deltas.copy_from_slice(&others.deltas);
+        self.risks.copy_from_slice(&others.risks);
+        self.rests.copy_from_slice(&others.rests);
+        self.credits.copy_from_slice(&others.credits);
+        self.kept.copy_from_slice(&others.kept);
+        self.naming.copy_from_slice(&others.naming);
     }
 
     /// What the intercommodity spreads credit to the commodity at a place, in cents.

@@ -6,7 +6,7 @@ use crate::rest::Rest;
 pub(crate) struct Kept {
     pub rests: [Rest; 4],
     pub after: [Rest; 4],
-    pub credits: [u128; 4],
+    pub credits: [u64; 4],
 }
 
 impl Kept {

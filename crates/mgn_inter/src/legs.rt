@@ -109,19 +109,20 @@ pub(crate) fn use_rests(rests: &mut [Rest], amount: &u64, legs: &[Leg])
 }
 
 // A leg's credit: the part of its commodity's doubled price risk that its use is of the net delta, at half the rate.
-fn credit_of_leg(deltas: &[Rest], risks: &[u64], rate: &u64, amount: &u64, leg: &Leg) -> u128
+#[tactic(auto, using(crate::proofs::SpreadLemmas::leg_credit_tight))]
+fn credit_of_leg(deltas: &[Rest], risks: &[u64], rate: &u64, amount: &u64, leg: &Leg) -> u64
     requires leg { IsCreditable deltas.now risks.now amount.now leg.now }
     requires rate { rate.now ≤ 10000 }
     ensures credit { result ≡ leg_credit deltas.now risks.now rate.now amount.now leg.now }
-    ensures small { result ≤ 10 ^ 33 }
+    ensures small { result ≤ 55 * 10 ^ 16 }
 {
     let delta = rest_at(deltas, leg.commodity).size();
     let part = used_of(amount, leg) * *rate;
     let risk = risks[leg.commodity];
     if part < SHORT_PART && risk < SHORT_RISK {
-        return u128::from(part * risk / (20000 * delta));
+        return part * risk / (20000 * delta);
     }
-    u128::from(part) * u128::from(risk) / (20000 * u128::from(delta))
+    (u128::from(part) * u128::from(risk) / (20000 * u128::from(delta))) as u64
 }
 
 /// What each leg of a formed spread is credited.
@@ -131,7 +132,7 @@ pub(crate) fn credits_of_legs(
     rate: &u64,
     amount: &u64,
     legs: &[Leg],
-) -> [u128; 4]
+) -> [u64; 4]
     requires legs { All (IsCreditable deltas.now risks.now amount.now) legs.now }
     requires few { length legs.now ≤ 4 }
     requires rate { rate.now ≤ 10000 }

@@ -10,4 +10,5 @@ mod reworked;
 mod rows;
 
 pub use inter::InterCredits;
+pub use naming::spread_at;
 pub use reworked::Reworked;

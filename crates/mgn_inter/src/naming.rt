@@ -10,20 +10,12 @@ use crate::rows::filled;
 use mgn_params::{CreditSpread, Leg, ParamSet};
 use std::alloc::{AllocError, Global};
 
-/// The spread at a place.
-pub(crate) fn spread_at(spreads: &[CreditSpread], i: usize) -> &CreditSpread
+/// The spread at a place among those of a set.
+pub fn spread_at(spreads: &[CreditSpread], i: usize) -> &CreditSpread
     requires { i < length spreads.now }
     ensures { result.now ≡ credit_spread_at spreads.now i }
 {
     &spreads[i]
-}
-
-/// Whether a place is among some places.
-pub(crate) fn has_place(places: u64, place: usize) -> bool
-    requires { place < 64 }
-    ensures { result ≡ (bit_at places place == 1) }
-{
-    (places >> place) & 1 == 1
 }
 
 // Some places with one more.
@@ -37,9 +29,19 @@ fn with_place(places: u64, place: usize) -> u64
 
 /// The first of some places, 64 where there is none.
 pub(crate) fn first_place(places: u64) -> usize
-    ensures { (i : ℕ) → i < result → bit_at places i ≡ 0 }
+    ensures passed { (i : ℕ) → i < result → bit_at places i ≡ 0 }
+    ensures few { result ≤ 64 }
 {
     places.trailing_zeros() as usize
+}
+
+/// The first of some places behind one, a number past all of them where there is none.
+pub(crate) fn next_place(places: u64, place: usize) -> usize
+    requires { place < 64 }
+    ensures behind { place < result }
+    ensures passed { (i : ℕ) → place < i → i < result → bit_at places i ≡ 0 }
+{
+    place + 1 + first_place(places >> place >> 1)
 }
 
 // Puts a spread among those of each commodity that a leg names.

@@ -106,7 +106,7 @@ pub(crate) fn form_spread(
 }
 
 /// Takes the legs' old credits off, and adds the new ones.
-pub(crate) fn move_credits(credits: &mut [u128], legs: &[Leg], old: &[u128; 4], new: &[u128; 4])
+pub(crate) fn move_credits(credits: &mut [u128], legs: &[Leg], old: &[u64; 4], new: &[u64; 4])
     requires few { length legs.now ≤ 4 }
     requires legs { All (λ leg. leg.commodity < length credits.old) legs.now }
     requires old { (g : ℕ) → share_of g legs.now old.now ≤ slice_index credits.old g }
@@ -118,7 +118,7 @@ pub(crate) fn move_credits(credits: &mut [u128], legs: &[Leg], old: &[u128; 4], 
 {
     for k in 0..legs.len() {
         let commodity = legs[k].commodity;
-        credits[commodity] = credits[commodity] - old[k] + new[k];
+        credits[commodity] = credits[commodity] - u128::from(old[k]) + u128::from(new[k]);
     }
 }
 

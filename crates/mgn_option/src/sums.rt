@@ -93,6 +93,15 @@ impl OptionSums {
         self.value = self.value.plus(share_of_value(contract, quantity));
     }
 
+    /// Takes over other sums for as many commodities. Takes no memory.
+    pub fn copy_from(&mut self, others: &OptionSums)
+        requires { length self.old.minimums ≡ length others.now.minimums }
+        ensures { self.new ≡ others.now }
+    {
+        self.minimums.copy_from_slice(&others.minimums);
+        self.value = others.value;
+    }
+
     /// The short option minimum of a commodity in cents, 0 to 256 * 10^16: its charge for each option sold and not
     /// bought back, puts and calls added (CME SPAN).
     pub fn minimum(&self, commodity: usize) -> Cents

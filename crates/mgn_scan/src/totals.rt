@@ -71,6 +71,14 @@ impl ScanTotals {
         add_scaled(row, set.array(i, work), quantity);
     }
 
+    /// Takes over the totals of others for as many commodities. Takes no memory.
+    pub fn copy_from(&mut self, others: &ScanTotals)
+        requires { length self.old ≡ length others.now }
+        ensures { self.new ≡ others.now }
+    {
+        self.rows.copy_from_slice(&others.rows);
+    }
+
     // The totals of a commodity.
     fn row(&self, commodity: usize) -> &[Total; 16]
         requires { commodity < length self.now }

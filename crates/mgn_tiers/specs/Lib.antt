@@ -1,5 +1,6 @@
 -- How stages and deltas are kept.
 pub mod Sizes
+pub mod KeptStages
 pub mod Runs
 pub mod RunRows
 pub mod Tiers

@@ -6,4 +6,4 @@ abbrev pub run_of : Inside → Run
 run_of r = record { starts = r.starts; stages = r.stages.items; formed = r.formed; spot = r.spot }
 
 abbrev pub IsStageRun : Inside → Type 0
-IsStageRun r = IsRun (run_of r) r.left r.charged
+IsStageRun r = IsRun (run_of r) r.charged r.spot_charged

@@ -3,6 +3,7 @@
 #![tactic(auto)]
 
 mod delta;
+mod kept;
 mod rows;
 mod run;
 mod spot;

@@ -50,13 +50,35 @@ pub(crate) fn move_delta(run: &mut StageRun, tier: usize, old: Delta, new: Delta
     run.change_tier(tier, long, short);
 }
 
-// Runs without stages.
-fn empty_runs(alloc: Global, count: usize) -> Result<Vec<StageRun>, AllocError>
+// How many stages spreads have in each commodity, for which there is to be room.
+fn stage_counts(spreads: &[Spread]) -> [usize; 256]
+    requires spreads { All (λ s. s.commodity < 256) spreads.now }
+    requires few { length spreads.now ≤ 8192 }
+    ensures { (g : ℕ) → slice_index result g ≤ 2 * length spreads.now }
+{
+    let mut counts = [0; 256];
+    for spread in spreads {
+        counts[spread.commodity] += if spread.first_tier == spread.second_tier {
+            1
+        } else {
+            2
+        };
+    }
+    counts
+}
+
+// Runs without stages, with room for as many as are counted.
+fn empty_runs(
+    alloc: Global,
+    count: usize,
+    stages: &[usize; 256],
+) -> Result<Vec<StageRun>, AllocError>
+    requires { count ≤ 256 }
     ensures { IfOk result (λ runs. runs.items ≡ replicate count no_run) }
 {
-    let mut runs = Vec::new(alloc);
-    for _g in 0..count {
-        runs.push(StageRun::new(alloc))?;
+    let mut runs = Vec::with_capacity(alloc, count)?;
+    for g in 0..count {
+        runs.push(StageRun::new(alloc, stages[g])?)?;
     }
     Ok(runs)
 }
@@ -113,11 +135,10 @@ fn set_spots(runs: &mut [StageRun], spots: &[SpotCharge])
 
 // Forms all stages.
 fn form_all(runs: &mut [StageRun])
-    requires { (g : ℕ) → g < length runs.old → (run_at runs.old g).formed ≡ 0 }
     ensures { (g : ℕ) → g < length runs.old → run_at runs.new g ≡ record (run_at runs.old g) { formed = length (run_at runs.old g).stages } }
 {
     for g in 0..runs.len() {
-        runs[g].form_rest();
+        runs[g].form_all();
     }
 }
 
@@ -134,13 +155,27 @@ fn fill_runs(runs: &mut [StageRun], set: &ParamSet) -> Result<(), AllocError>
     Ok(())
 }
 
+// Takes over the stages of other runs, commodity by commodity.
+pub(crate) fn copy_runs(runs: &mut [StageRun], others: &[StageRun])
+    requires one_each { length runs.old ≡ length others.now }
+    requires stages { (g : ℕ) → g < length runs.old →
+        length (run_at runs.old g).stages ≡ length (run_at others.now g).stages }
+    ensures { runs.new ≡ others.now }
+{
+    for g in 0..runs.len() {
+        runs[g].copy_from(&others[g]);
+    }
+}
+
 // The stages of each commodity of a set, formed where no month has a delta.
 pub(crate) fn runs_of(alloc: Global, set: &ParamSet) -> Result<Vec<StageRun>, AllocError>
     ensures one_each { IfOk result (λ runs. length runs.items ≡ length set.now.commodities) }
     ensures runs { IfOk result (λ runs. (g : ℕ) → g < length set.now.commodities →
         run_at runs.items g ≡ run_by set.now (replicate (length set.now.months) (pos 0)) g) }
 {
-    let mut runs = empty_runs(alloc, set.commodity_count())?;
+    set.limits();
+    let stages = stage_counts(set.spreads());
+    let mut runs = empty_runs(alloc, set.commodity_count(), &stages)?;
     fill_runs(&mut runs, set)?;
     Ok(runs)
 }

@@ -1,9 +1,11 @@
-ghost use Rattle.std.specs.Prelude.{◌≡◌, ◌≢◌, ◌+◌, ◌-◌, ◌*◌, ◌<◌, ◌≤◌, ◌^◌, ℕ, List, [], ◌∷◌, ◌++◌, length, replicate, slice_index, slice_set, None, Some, OnOk};
+ghost use Rattle.std.specs.Prelude.{◌≡◌, ◌≢◌, ◌+◌, ◌-◌, ◌*◌, ◌<◌, ◌≤◌, ◌^◌, ℕ, List, [], ◌∷◌, ◌++◌, length, replicate, slice_index, slice_set, None, Some, IfOk, IfSome, OnOk};
 ghost use Rattle.mgn_span.specs.Spot.{spot_charge_from};
 ghost use Rattle.mgn_span.specs.Stages.{charges_of, left_by, IsStage};
 ghost use Rattle.mgn_tiers.specs.Runs.{IsSpot};
 ghost use Rattle.mgn_tiers.specs.Sizes.{IsStart};
+ghost use Rattle.mgn_tiers.specs.Tiers.{no_run};
 
+use crate::kept::KeptStage;
 use crate::spot::charge_by;
 use crate::stages::form_stage;
 use mgn_params::SpotCharge;
@@ -11,14 +13,14 @@ use mgn_span::Stage;
 use std::alloc::{AllocError, Global};
 use std::marker::Model;
 
-/// The stages of one commodity, of which the first `formed` are formed of what the legs start with.
+/// The stages of one commodity with what they charge, once all of them are formed of what the legs start with.
 #[derive(Drop)]
 pub(crate) struct StageRun {
     starts: [u64; 16],
-    left: [u64; 16],
     charged: u128,
+    spot_charged: u128,
     formed: usize,
-    stages: Vec<Stage>,
+    stages: Vec<KeptStage>,
     spot: Option<SpotCharge>,
 }
 
@@ -34,19 +36,48 @@ impl Model for StageRun {
     ghost invariant = { IsStageRun };
 }
 
+// Forms stages of what the legs have left, and tells what they charge.
+fn form_stages(left: &mut [u64; 16], stages: &[KeptStage]) -> u128
+    requires few { length stages.now ≤ 64 }
+    requires left { (k : ℕ) → IsStart (slice_index left.old k) }
+    ensures left { left.new ≡ left_by left.old stages.now }
+    ensures charge { result ≡ charges_of left.old stages.now }
+    ensures small { result ≤ 2 * 10 ^ 27 }
+{
+    let mut charged = 0;
+    for kept in stages {
+        charged += form_stage(left, &kept.stage());
+    }
+    charged
+}
+
+// The spot month charge, 0 where there is none.
+fn spot_charge_of(starts: &[u64; 16], left: &[u64; 16], spot: &Option<SpotCharge>) -> u128
+    requires spot { IfSome spot.now IsSpot }
+    requires starts { (k : ℕ) → IsStart (slice_index starts.now k) }
+    requires left { (k : ℕ) → slice_index left.now k ≤ slice_index starts.now k }
+    ensures charge { result ≡ spot_charge_from starts.now left.now spot.now }
+    ensures small { result ≤ 10 ^ 26 }
+{
+    match spot {
+        None => 0,
+        Some(spot) => charge_by(starts, left, spot),
+    }
+}
+
 impl StageRun {
-    // No stages, and legs that start with nothing. Takes no memory.
-    pub fn new(alloc: Global) -> StageRun
-        ensures { result ≡ record { starts = replicate 16 0; stages = []; formed = 0; spot = None } }
+    // No stages, with room for some, and legs that start with nothing.
+    pub fn new(alloc: Global, stages: usize) -> Result<StageRun, AllocError>
+        ensures { IfOk result (λ run. run ≡ no_run) }
     {
-        StageRun {
+        Ok(StageRun {
             starts: [0; 16],
-            left: [0; 16],
             charged: 0,
+            spot_charged: 0,
             formed: 0,
-            stages: Vec::new(alloc),
+            stages: Vec::with_capacity(alloc, stages)?,
             spot: None,
-        }
+        })
     }
 
     // Adds a stage behind the others, which is not formed.
@@ -55,7 +86,7 @@ impl StageRun {
         requires few { length self.old.stages < 64 }
         ensures { OnOk result (self.new ≡ record self.old { stages = self.old.stages ++ stage.now ∷ [] }) }
     {
-        self.stages.push(*stage)?;
+        self.stages.push(KeptStage::new(stage))?;
         Ok(())
     }
 
@@ -64,41 +95,32 @@ impl StageRun {
         requires { IsSpot spot.now }
         ensures { self.new ≡ record self.old { spot = Some spot.now } }
     {
+        let mut left = self.starts;
+        let _charged = form_stages(&mut left, &self.stages);
+        self.spot_charged = charge_by(&self.starts, &left, spot);
         self.spot = Some(*spot);
     }
 
-    // Forms the next stage of what the legs have left.
-    fn form_next(&mut self)
-        requires { self.old.formed < length self.old.stages }
-        ensures { self.new ≡ record self.old { formed = self.old.formed + 1 } }
+    // Forms all stages of what the legs start with from now on.
+    fn start_with(&mut self, starts: &[u64; 16])
+        requires { (k : ℕ) → IsStart (slice_index starts.now k) }
+        ensures { self.new ≡ record self.old { starts = starts.now; formed = length self.old.stages } }
     {
-        let stage = self.stages[self.formed];
-        self.charged += form_stage(&mut self.left, &stage);
-        self.formed += 1;
+        let mut left = *starts;
+        let charged = form_stages(&mut left, &self.stages);
+        let spot_charged = spot_charge_of(starts, &left, &self.spot);
+        self.starts = *starts;
+        self.charged = charged;
+        self.spot_charged = spot_charged;
+        self.formed = self.stages.len();
     }
 
-    // Changes what the two legs of a tier start with. No stage is formed then.
-    fn write_starts(&mut self, tier: usize, long: u64, short: u64)
-        requires tier { tier < 8 }
-        requires long { IsStart long }
-        requires short { IsStart short }
-        ensures { self.new ≡ record self.old { starts = slice_set (slice_set self.old.starts tier long) (8 + tier) short; formed = 0 } }
-    {
-        self.starts[tier] = long;
-        self.starts[8 + tier] = short;
-        self.left = self.starts;
-        self.charged = 0;
-        self.formed = 0;
-    }
-
-    /// Forms all stages that are not formed yet.
-    pub fn form_rest(&mut self)
-        requires { self.old.formed ≤ length self.old.stages }
+    /// Forms all stages.
+    pub fn form_all(&mut self)
         ensures { self.new ≡ record self.old { formed = length self.old.stages } }
     {
-        for step in self.formed..self.stages.len() {
-            self.form_next();
-        }
+        let starts = self.starts;
+        self.start_with(&starts);
     }
 
     /// Changes what the two legs of a tier start with, and forms the stages again if that is something else. All of
@@ -112,9 +134,24 @@ impl StageRun {
         ensures { self.new ≡ record self.old { starts = slice_set (slice_set self.old.starts tier long) (8 + tier) short } }
     {
         if self.starts[tier] != long || self.starts[8 + tier] != short {
-            self.write_starts(tier, long, short);
-            self.form_rest();
+            let mut starts = self.starts;
+            starts[tier] = long;
+            starts[8 + tier] = short;
+            self.start_with(&starts);
         }
+    }
+
+    /// Takes over the stages of another run, with what they are formed of. Takes no memory.
+    pub fn copy_from(&mut self, other: &StageRun)
+        requires { length self.old.stages ≡ length other.now.stages }
+        ensures { self.new ≡ other.now }
+    {
+        self.starts = other.starts;
+        self.charged = other.charged;
+        self.spot_charged = other.spot_charged;
+        self.formed = other.formed;
+        self.stages.copy_from_slice(&other.stages);
+        self.spot = other.spot;
     }
 
     /// What a leg starts with.
@@ -140,9 +177,6 @@ impl StageRun {
         ensures charge { result ≡ spot_charge_from self.now.starts (left_by self.now.starts self.now.stages) self.now.spot }
         ensures small { result ≤ 10 ^ 26 }
     {
-        match &self.spot {
-            None => 0,
-            Some(spot) => charge_by(&self.starts, &self.left, spot),
-        }
+        self.spot_charged
     }
 }

@@ -11,13 +11,16 @@ const SHORT_START: u64 = 1_000_000_000_000_000;
 
 const SHORT_AMOUNT: u128 = 10_000_000_000;
 
-// How many spreads a leg alone would form of what it has left, in ten-thousandths.
+// How many spreads a leg alone would form of what it has left, in ten-thousandths. A ratio of 1 needs no division.
 fn leg_amount(left: u64, ratio: u64) -> u128
     requires left { IsStart left }
     requires ratio { 0 < ratio }
     ensures amount { result ≡ 10000 * left / ratio }
     ensures small { result ≤ 2 * 10 ^ 20 }
 {
+    if ratio == 10000 {
+        return u128::from(left);
+    }
     if left < SHORT_START {
         return u128::from(10000 * left / ratio);
     }
@@ -46,6 +49,9 @@ fn used(amount: u128, ratio: u64) -> u64
     requires small { IsStart (used amount ratio) }
     ensures { result ≡ used amount ratio }
 {
+    if ratio == 10000 {
+        return amount as u64;
+    }
     if amount < SHORT_AMOUNT {
         return amount as u64 * ratio / 10000;
     }

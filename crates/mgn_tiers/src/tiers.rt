@@ -6,7 +6,7 @@ ghost use Rattle.mgn_tiers.specs.Tiers.{AreTiersOf};
 ghost use Rattle.mgn_span.specs.Sizes.{IsDelta};
 
 use crate::delta::Delta;
-use crate::rows::{delta_at, filled, move_delta, runs_of};
+use crate::rows::{copy_runs, delta_at, filled, move_delta, runs_of};
 use crate::run::StageRun;
 use mgn_num::{Cents, TenThousandths};
 use mgn_params::ParamSet;
@@ -67,6 +67,16 @@ impl TierStages {
         self.deltas[month] = new;
         self.net_deltas[place.commodity] = net;
         move_delta(&mut self.runs[place.commodity], place.tier, old, new);
+    }
+
+    /// Takes over what is kept for the same set under other deltas. Takes no memory.
+    pub fn copy_from(&mut self, others: &TierStages)
+        requires { (set : Tables) × AreTiersOf set self.old × AreTiersOf set others.now }
+        ensures { self.new ≡ others.now }
+    {
+        self.deltas.copy_from_slice(&others.deltas);
+        self.net_deltas.copy_from_slice(&others.net_deltas);
+        copy_runs(&mut self.runs, &others.runs);
     }
 
     /// The delta of the month at a place, in ten-thousandths: what the changes so far add up to.

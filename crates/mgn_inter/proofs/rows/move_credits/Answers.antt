@@ -37,7 +37,7 @@ loop-k-preserved c =
     let covered : slice_index old k ≤ slice_index c.loop-k.credits leg.commodity = omega (arith, within, c.requires.old leg.commodity, c.loop-k.invariant.moved leg.commodity) in
     record {
       long = length-set c.loop-k.credits leg.commodity _ ∙ c.loop-k.invariant.long;
-      moved = λ g. credit_moved c.args.credits.now c.loop-k.credits legs old c.args.new.now k g inside (omega (arith, old_long, c.requires.few, inside)) (omega (arith, new_long, c.requires.few, inside)) there covered (c.loop-k.invariant.moved g);
+      moved = λ g. rw (c.from.ensures, c.from-in-loop-k.ensures) (credit_moved c.args.credits.now c.loop-k.credits legs old c.args.new.now k g inside (omega (arith, old_long, c.requires.few, inside)) (omega (arith, new_long, c.requires.few, inside)) there covered (c.loop-k.invariant.moved g));
     }
 
 pub returns-clause-moved : goal.returns-clause-moved

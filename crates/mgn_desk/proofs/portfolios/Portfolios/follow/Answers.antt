@@ -1,7 +1,7 @@
 use Rattle.std.proofs.Common.{◌∙◌, ◌+◌, ap, ℕ}
 use Rattle.mgn_desk.specs.Moved.{arrays_of_quantity, counted}
 use Rattle.mgn_desk.proofs.MovedLemmas.{counted_more}
-use Rattle.mgn_desk.proofs.portfolios.Portfolios.apply.Goals as goal
+use Rattle.mgn_desk.proofs.portfolios.Portfolios.follow.Goals as goal
 
 pub returns-clause-counted : goal.returns-clause-counted
 returns-clause-counted c =

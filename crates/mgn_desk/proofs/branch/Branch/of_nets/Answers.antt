@@ -1,0 +1,14 @@
+use Rattle.std.proofs.Common.{◌≡◌, ◌∙◌, refl, sym}
+use Rattle.std.proofs.lemmas.Bool.Decides.{Decides-int_eq}
+use Rattle.std.proofs.lemmas.Slice.Eq.{slice_eq-Decides}
+use Rattle.std.specs.Cmp.Lexicographic.{pointwise}
+use Rattle.std.specs.Ordering.{int_eq}
+use Rattle.mgn_desk.proofs.branch.Branch.of_nets.Goals as goal
+
+pub returns-then-eq-clause-nets : goal.returns-then-eq-clause-nets
+returns-then-eq-clause-nets c =
+    λ p same.
+    let nets = c.args.nets.now in
+    let lots = c.args.lots.now in
+    let alike : nets ≡ lots = (slice_eq-Decides Decides-int_eq nets lots (pointwise int_eq nets lots) refl).0 (sym c.if-eq.ensures) in
+    same ∙ sym alike

@@ -1,0 +1,81 @@
+ghost use Rattle.std.specs.Prelude.{◌≡◌, ◌<◌, ◌+ℤ◌, length, true, false, All, IfOk};
+ghost use Rattle.mgn_params.specs.Tables.{Tables};
+ghost use Rattle.mgn_span.specs.Positions.{IsNet};
+ghost use Rattle.mgn_span.specs.Scan.{value_at};
+ghost use Rattle.mgn_desk.specs.Kept.{IsPortfolio, Kept};
+ghost use Rattle.mgn_desk.specs.Moved.{arrays_of_quantity, counted, more_of};
+
+use crate::portfolio::Portfolio;
+use mgn_num::Quantity;
+use mgn_params::{ParamSet, Work};
+use std::alloc::{AllocError, Global};
+
+/// A portfolio of a margin unit beside that of its lots. Until it first has other nets than the lots, what is kept of
+/// these is kept of it too, and its own waits with nets of 0.
+#[derive(Drop)]
+pub(crate) struct Branch {
+    pub own: Portfolio,
+    pub apart: bool,
+}
+
+impl Branch {
+    ghost use Rattle.mgn_desk.specs.Portfolios.{branch_of};
+
+    // A branch with these nets beside those of the lots. The only error is that memory was refused.
+    pub fn of_nets(
+        alloc: Global,
+        set: &ParamSet,
+        lots: &[Quantity],
+        nets: &[Quantity],
+    ) -> Result<Branch, AllocError>
+        requires one_each { length nets.now ≡ length set.now.contracts }
+        requires nets { All IsNet nets.now }
+        ensures portfolio { IfOk result (λ b. IsPortfolio set.now b.own) }
+        ensures nets { IfOk result (λ b. (p : Kept) → p.nets ≡ lots.now → (branch_of p b).nets ≡ nets.now) }
+    {
+        if nets == lots {
+            let own = Portfolio::new(alloc, set)?;
+            return Ok(Branch { own, apart: false });
+        }
+        let own = Portfolio::of_nets(alloc, set, nets)?;
+        Ok(Branch { own, apart: true })
+    }
+
+    // What is kept of it.
+    pub fn kept<'a>(&'a self, lots: &'a Portfolio) -> &'a Portfolio
+        ensures { result.now ≡ branch_of lots.now self.now }
+    {
+        if self.apart { &self.own } else { lots }
+    }
+
+    // Keeps it apart from now on, if it is to have other nets than the lots.
+    pub fn part(&mut self, lots: &Portfolio, is_other: bool)
+        requires { (set : Tables) × IsPortfolio set self.old.own × IsPortfolio set lots.now }
+        ensures kept { branch_of lots.now self.new ≡ branch_of lots.now self.old }
+        ensures portfolio { (set : Tables) → IsPortfolio set self.old.own → IsPortfolio set lots.now →
+            IsPortfolio set self.new.own }
+        ensures apart { is_other ≡ true → self.new.apart ≡ true }
+    {
+        if is_other && !self.apart {
+            self.own.copy_from(lots);
+            self.apart = true;
+        }
+    }
+
+    // Changes a net where it is kept apart. Else the lots' array is read again, since arrays are counted by portfolio.
+    pub fn follow(&mut self, set: &ParamSet, i: usize, quantity: Quantity, work: &mut Work)
+        requires portfolio { IsPortfolio set.now self.old.own }
+        requires contract { i < length set.now.contracts }
+        requires net { self.old.apart ≡ true → IsNet (value_at self.old.own.nets i +ℤ quantity) }
+        ensures portfolio { IsPortfolio set.now self.new.own }
+        ensures apart { self.new.apart ≡ self.old.apart }
+        ensures nets { self.new.apart ≡ true → self.new.own.nets ≡ more_of self.old.own.nets i quantity }
+        ensures counted { work.new ≡ counted work.old (arrays_of_quantity quantity) }
+    {
+        if self.apart {
+            self.own.follow(set, i, quantity, work);
+        } else if quantity.size() != 0 {
+            let _array = set.array(i, work);
+        }
+    }
+}
