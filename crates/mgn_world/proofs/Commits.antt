@@ -25,7 +25,10 @@ use Rattle.mgn_register.specs.declared.plans.Plan.{Plan}
 use Rattle.mgn_register.specs.declared.plans.Plan.TheVariants.{Nothing, One, Two}
 use Rattle.mgn_register.specs.Plans.{plan_of}
 use Rattle.mgn_world.specs.Claims.{HasPlan, IsAmong, IsReplayed, Rests, before_close}
-use Rattle.mgn_world.specs.Stages.{Call, Gathering, Seen, Stage, View, Idle, Held, Applied, Failed, Ended, Gathered}
+use Rattle.mgn_world.specs.declared.stages.Call.{Call}
+use Rattle.mgn_world.specs.declared.stages.Stage.{Stage}
+use Rattle.mgn_world.specs.declared.stages.Stage.TheVariants.{Idle, Held, Applied, Failed, Ended, Gathered}
+use Rattle.mgn_world.specs.Stages.{Gathering, Seen, View}
 use Rattle.mgn_world.specs.World.{World, are_fit, are_stale, desk_at, in_force, is_apart, is_done, is_fit, is_stale, lengthened, lock_at, placed, plan_units, planned, same_nets, seen_at, stage_at, stepped, unit_nets, units_of, with_stage}
 use Rattle.mgn_world.proofs.Standing.{DeskOf, Good, HeldDesk, Owns, Sees, StageOf}
 use Rattle.mgn_world.proofs.Desks.{plan_held}

@@ -16,7 +16,10 @@ use Rattle.mgn_register.specs.Plans.{UnitNets, moved_nets, nets_by, nets_in, pla
 use Rattle.mgn_unit.specs.Rows.{row_of}
 use Rattle.mgn_pricing.specs.Desks.{four, moves_of}
 use Rattle.mgn_world.specs.Claims.{HasPlan, IsAmong, Rests}
-use Rattle.mgn_world.specs.Stages.{Call, Seen, Stage, View, Idle, Held, Looked, Applied, Failed, Ended}
+use Rattle.mgn_world.specs.declared.stages.Call.{Call}
+use Rattle.mgn_world.specs.declared.stages.Stage.{Stage}
+use Rattle.mgn_world.specs.declared.stages.Stage.TheVariants.{Idle, Held, Looked, Applied, Failed, Ended}
+use Rattle.mgn_world.specs.Stages.{Seen, View}
 use Rattle.mgn_world.specs.World.{World, are_of, desk_at, desks_with, desks_without, in_order, is_of, lock_at, mark_first, plan_units, planned_desks, seen_at, stage_at, unit_nets, unplanned_desks}
 use Rattle.mgn_world.proofs.Standing.{Good, HeldDesk, IsPassed, Owns, Sees, StageOf}
 use Rattle.mgn_world.proofs.Frames.{view_inside, view_units}

@@ -13,7 +13,13 @@ use Rattle.mgn_register.specs.declared.plans.Plan.{Plan}
 use Rattle.mgn_register.specs.declared.plans.Plan.TheVariants.{Nothing, One, Two}
 use Rattle.mgn_register.specs.Plans.{plan_of}
 use Rattle.mgn_world.specs.Claims.{AreLimited, IsLimited}
-use Rattle.mgn_world.specs.Stages.{Call, Deed, Gathering, Stage, Step, View, Idle, Held, Looked, Applied, Failed, Ended, Gathered, Begin, Look, Mark, Apply, Commit, Back, End, Gather, Prepare}
+use Rattle.mgn_world.specs.declared.stages.Call.{Call}
+use Rattle.mgn_world.specs.declared.stages.Deed.{Deed}
+use Rattle.mgn_world.specs.declared.stages.Deed.TheVariants.{Begin, Look, Mark, Apply, Commit, Back, End, Gather, Prepare}
+use Rattle.mgn_world.specs.declared.stages.Stage.{Stage}
+use Rattle.mgn_world.specs.declared.stages.Stage.TheVariants.{Idle, Held, Looked, Applied, Failed, Ended, Gathered}
+use Rattle.mgn_world.specs.declared.stages.Step.{Step}
+use Rattle.mgn_world.specs.Stages.{Gathering, View}
 use Rattle.mgn_world.specs.World.{World, applies, are_covered, are_free, are_of, are_stale, backs, begin_on, begins, commits, does, does_as, ends, finished, gathers, in_force, is_apart, is_full, look_on, looks, marks, next, no_nets, opening, placed, planned_desks, prepares, run, stage_at, stepped, taken, units_of, with_stage}
 use Rattle.mgn_world.proofs.Standing.{Good, StageOf}
 use Rattle.mgn_world.proofs.Commits.{good_at_once, good_placed, good_planless, good_switch, stale_passed}
@@ -119,7 +125,7 @@ choose false v x first second = second
 good_prepare : (w : World) (p u : ℕ) (st : Stage) → Good w → stage_at w p ≡ st → p < length w.stages → Good (prepares w p u st)
 good_prepare w p u (Gathered g) good is there =
     choose (nat_lt u (length g.nets) && are_covered (set_at w.sets g.version) g.set (slice_index_or g.nets u no_nets)) _ _
-    (good_stage w p (Gathered g) (Gathered record g { prepared = u ∷ g.prepared }) good is there (session w p (Gathered g) good is) (λ x d h. h)) good
+    (good_stage w p (Gathered g) (Gathered record g { prepared = slice_set g.prepared u true }) good is there (session w p (Gathered g) good is) (λ x d h. h)) good
 good_prepare w p u st good is there = good
 
 -- All steps

@@ -20,7 +20,13 @@ use Rattle.mgn_book.specs.BookViews.{sets_after}
 use Rattle.mgn_register.specs.declared.plans.Plan.{Plan}
 use Rattle.mgn_register.specs.declared.plans.Plan.TheVariants.{Nothing, One, Two}
 use Rattle.mgn_register.specs.Plans.{plan_of}
-use Rattle.mgn_world.specs.Stages.{Call, Deed, Seen, Stage, Step, View, Idle, Held, Looked, Applied, Failed, Ended, Gathered, Begin, Look, Mark, Apply, Commit, Back, End, Gather, Prepare}
+use Rattle.mgn_world.specs.declared.stages.Call.{Call}
+use Rattle.mgn_world.specs.declared.stages.Deed.{Deed}
+use Rattle.mgn_world.specs.declared.stages.Deed.TheVariants.{Begin, Look, Mark, Apply, Commit, Back, End, Gather, Prepare}
+use Rattle.mgn_world.specs.declared.stages.Stage.{Stage}
+use Rattle.mgn_world.specs.declared.stages.Stage.TheVariants.{Idle, Held, Looked, Applied, Failed, Ended, Gathered}
+use Rattle.mgn_world.specs.declared.stages.Step.{Step}
+use Rattle.mgn_world.specs.Stages.{Seen, View}
 use Rattle.mgn_world.specs.World.{World, applies, are_of, are_stale, backs, begin_on, begins, commits, desk_at, does, does_as, ends, entered, gathers, in_force, is_apart, is_full, is_of, look_on, looks, mark_first, marks, next, opening, placed, prepares, run, stepped, with_stage}
 use Rattle.mgn_world.specs.Claims.{IsReplayed, IsRun}
 

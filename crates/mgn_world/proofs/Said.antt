@@ -15,7 +15,11 @@ use Rattle.mgn_machine.specs.State.{State}
 use Rattle.mgn_machine.proofs.Versions.{keeps_version}
 use Rattle.mgn_register.specs.Plans.{plan_of}
 use Rattle.mgn_world.specs.Claims.{HasPlan, IsAmong, IsIn, IsReached, Rests, before_close, call_in, shown_now}
-use Rattle.mgn_world.specs.Stages.{Call, Commit, Stage, View, Idle, Held, Looked, Applied, Failed, Ended, Gathered}
+use Rattle.mgn_world.specs.declared.stages.Call.{Call}
+use Rattle.mgn_world.specs.declared.stages.Deed.TheVariants.{Commit}
+use Rattle.mgn_world.specs.declared.stages.Stage.{Stage}
+use Rattle.mgn_world.specs.declared.stages.Stage.TheVariants.{Idle, Held, Looked, Applied, Failed, Ended, Gathered}
+use Rattle.mgn_world.specs.Stages.{View}
 use Rattle.mgn_world.specs.World.{World, are_stale, commits, desk_at, in_force, is_apart, is_done, is_full, lock_at, next, opening, placed, plan_units, stage_at, stepped, unit_nets, units_of, with_stage}
 use Rattle.mgn_world.proofs.Commits.{before_step, has_plan, never_apart, now_in_force, settled}
 use Rattle.mgn_world.proofs.Desks.{plan_held}

@@ -28,7 +28,13 @@ use Rattle.mgn_register.specs.declared.plans.UnitChange.{UnitChange}
 use Rattle.mgn_register.specs.Plans.{nets_in, plan_of, planned_nets}
 use Rattle.mgn_pricing.specs.Desks.{four, moves_of}
 use Rattle.mgn_book.specs.BookViews.{sets_after}
-use Rattle.mgn_world.specs.Stages.{Call, Deed, Seen, Stage, Step, View, Idle, Held, Looked, Applied, Failed, Ended, Gathered, Begin, Look, Mark, Apply, Commit, Back, End, Gather, Prepare}
+use Rattle.mgn_world.specs.declared.stages.Call.{Call}
+use Rattle.mgn_world.specs.declared.stages.Deed.{Deed}
+use Rattle.mgn_world.specs.declared.stages.Deed.TheVariants.{Begin, Look, Mark, Apply, Commit, Back, End, Gather, Prepare}
+use Rattle.mgn_world.specs.declared.stages.Stage.{Stage}
+use Rattle.mgn_world.specs.declared.stages.Stage.TheVariants.{Idle, Held, Looked, Applied, Failed, Ended, Gathered}
+use Rattle.mgn_world.specs.declared.stages.Step.{Step}
+use Rattle.mgn_world.specs.Stages.{Seen, View}
 
 -- The sets by version, the machine's state and history; by unit a desk, which is empty or has nets under the set of a
 -- version, and the place of the session that holds it; and the stages of the 16 sessions. A unit has one holder at
@@ -304,7 +310,7 @@ gathers w p set Idle = with_stage w p (Gathered record {
   set = set;
   version = w.state.version;
   nets = map (unit_nets (in_force w) w.state.accounts) (range_with_len 0 w.state.units);
-  prepared = [];
+  prepared = replicate w.state.units false;
 })
 gathers w p set _ = w
 
@@ -319,7 +325,7 @@ no_nets = record { lots = []; buys = []; sales = []; all = [] }
 abbrev pub prepares : World → ℕ → ℕ → Stage → World
 prepares w p u (Gathered g) =
     if nat_lt u (length g.nets) && are_covered (set_at w.sets g.version) g.set (slice_index_or g.nets u no_nets) then
-    with_stage w p (Gathered record g { prepared = u ∷ g.prepared })
+    with_stage w p (Gathered record g { prepared = slice_set g.prepared u true })
     else w
 prepares w p u _ = w
 
