@@ -30,7 +30,7 @@ use Rattle.mgn_world.specs.declared.stages.Stage.{Stage}
 use Rattle.mgn_world.specs.declared.stages.Stage.TheVariants.{Idle, Held, Applied, Failed, Ended, Gathered}
 use Rattle.mgn_world.specs.Stages.{Gathering, Seen, View}
 use Rattle.mgn_world.specs.World.{World, are_fit, are_stale, desk_at, in_force, is_apart, is_done, is_fit, is_stale, lengthened, lock_at, placed, plan_units, planned, same_nets, seen_at, stage_at, stepped, unit_nets, units_of, with_stage}
-use Rattle.mgn_world.proofs.Standing.{DeskOf, Good, HeldDesk, Owns, Sees, StageOf}
+use Rattle.mgn_world.specs.Standing.{DeskOf, Good, HeldDesk, Owns, Sees, StageOf}
 use Rattle.mgn_world.proofs.Desks.{plan_held}
 use Rattle.mgn_world.proofs.Effects.{Before, Outcome, outcome}
 use Rattle.mgn_world.proofs.Frames.{Change, good_after, owns_kept, rests_same}

@@ -21,7 +21,7 @@ use Rattle.mgn_world.specs.declared.stages.Stage.{Stage}
 use Rattle.mgn_world.specs.declared.stages.Stage.TheVariants.{Idle, Held, Looked, Applied, Failed, Ended}
 use Rattle.mgn_world.specs.Stages.{Seen, View}
 use Rattle.mgn_world.specs.World.{World, are_of, desk_at, desks_with, desks_without, in_order, is_of, lock_at, mark_first, plan_units, planned_desks, seen_at, stage_at, unit_nets, unplanned_desks}
-use Rattle.mgn_world.proofs.Standing.{Good, HeldDesk, IsPassed, Owns, Sees, StageOf}
+use Rattle.mgn_world.specs.Standing.{Good, HeldDesk, IsPassed, Owns, Sees, StageOf}
 use Rattle.mgn_world.proofs.Frames.{view_inside, view_units}
 use Rattle.mgn_world.proofs.Locks.{both_true, lock_inside}
 use Rattle.mgn_world.proofs.Simple.{good_desks, held_desk, session}

@@ -21,7 +21,7 @@ use Rattle.mgn_world.specs.declared.stages.Stage.TheVariants.{Idle, Held, Looked
 use Rattle.mgn_world.specs.declared.stages.Step.{Step}
 use Rattle.mgn_world.specs.Stages.{Gathering, View}
 use Rattle.mgn_world.specs.World.{World, applies, are_covered, are_free, are_of, are_stale, backs, begin_on, begins, commits, does, does_as, ends, finished, gathers, in_force, is_apart, is_full, look_on, looks, marks, next, no_nets, opening, placed, planned_desks, prepares, run, stage_at, stepped, taken, units_of, with_stage}
-use Rattle.mgn_world.proofs.Standing.{Good, StageOf}
+use Rattle.mgn_world.specs.Standing.{Good, StageOf}
 use Rattle.mgn_world.proofs.Commits.{good_at_once, good_placed, good_planless, good_switch, stale_passed}
 use Rattle.mgn_world.proofs.Desks.{good_applied, good_backed, good_mark}
 use Rattle.mgn_world.proofs.Locks.{none_past}

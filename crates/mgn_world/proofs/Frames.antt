@@ -19,7 +19,7 @@ use Rattle.mgn_world.specs.declared.stages.Stage.{Stage}
 use Rattle.mgn_world.specs.declared.stages.Stage.TheVariants.{Idle, Held, Looked, Applied, Failed, Ended, Gathered}
 use Rattle.mgn_world.specs.Stages.{View}
 use Rattle.mgn_world.specs.World.{World, desk_at, in_force, lock_at, plan_units, planned, seen_at, stage_at, unit_nets, units_of}
-use Rattle.mgn_world.proofs.Standing.{DeskOf, Good, HeldDesk, IsHoused, IsPassed, Owns, Sees, StageOf}
+use Rattle.mgn_world.specs.Standing.{DeskOf, Good, HeldDesk, IsHoused, IsPassed, Owns, Sees, StageOf}
 use Rattle.mgn_world.proofs.Stays.{SameUnits, plan_stays, plan_units-are, units_before, units_stay}
 use Rattle.mgn_world.proofs.Twins.{Keeps, nets-kept}
 

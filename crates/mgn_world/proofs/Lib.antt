@@ -1,7 +1,6 @@
 -- The law of the world, step by step.
 pub mod Replays
 pub mod Twins
-pub mod Standing
 pub mod Places
 pub mod Stays
 pub mod Effects

@@ -28,7 +28,7 @@ use Rattle.mgn_world.proofs.Effects.{outcome}
 use Rattle.mgn_world.proofs.Frames.{some_same}
 use Rattle.mgn_world.proofs.Locks.{lengthened_at}
 use Rattle.mgn_world.proofs.Simple.{held_desk, session}
-use Rattle.mgn_world.proofs.Standing.{DeskOf, Good, HeldDesk, Owns, Sees, StageOf}
+use Rattle.mgn_world.specs.Standing.{DeskOf, Good, HeldDesk, Owns, Sees, StageOf}
 
 pub good_reached : (w : World) → IsReached w → Good w
 good_reached w r = subst Good (sym r.is) (good_run (opening r.set) r.steps r.gathered (good_opening r.set r.limits))

@@ -1,3 +1,5 @@
 pub mod Stages
 pub mod World
 pub mod Claims
+pub mod Standing
+pub mod Worlds

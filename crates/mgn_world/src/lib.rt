@@ -3,3 +3,6 @@
 
 pub mod laws;
 pub mod stages;
+mod world;
+
+pub use world::World;
