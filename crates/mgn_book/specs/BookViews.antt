@@ -1,5 +1,7 @@
 -- The state of the book with the history that made it. The sets are those of a shelf, by version.
-use Rattle.std.specs.Prelude.{ℕ, ◌≡◌, ◌+◌, ◌<◌, ◌≤◌, false, List, [], ◌∷◌, ◌++◌, length, slice_index_or}
+use Rattle.std.specs.Prelude.{ℕ, ◌≡◌, ◌+◌, ◌-◌, ◌<◌, ◌≤◌, ◌==◌, if◌then◌else◌, false, List, [], ◌∷◌, ◌++◌, length, slice_index_or, Option, None}
+use Rattle.std.specs.List.{slice_get}
+use Rattle.std.specs.Option.{option_map}
 use Rattle.mgn_params.specs.Shelves.{set_at}
 use Rattle.mgn_params.specs.Tables.{Tables}
 use Rattle.mgn_machine.specs.declared.entry.Entry.{Entry}
@@ -64,6 +66,18 @@ abbrev pub Shelves : List Tables → Request → Outcome → List Tables → Typ
 Shelves old request (Done place reply) new = new ≡ sets_after old request reply
 Shelves old request Full new = new ≡ old
 Shelves old request Memory new = new ≡ old
+
+-- the entry at a place, which counts from 1; none where there is no such entry
+abbrev pub entry_at : List Entry → ℕ → Option Entry
+entry_at history place = if place == 0 then None else slice_get history (place - 1)
+
+-- its reply
+abbrev pub reply_at : List Entry → ℕ → Option Reply
+reply_at history place = option_map (λ (e : Entry). e.reply) (entry_at history place)
+
+-- the number of its session
+abbrev pub session_at : List Entry → ℕ → Option ℕ
+session_at history place = option_map (λ (e : Entry). e.session) (entry_at history place)
 
 -- Inside the book.
 

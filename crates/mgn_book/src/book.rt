@@ -1,13 +1,14 @@
-ghost use Rattle.std.specs.Prelude.{◌≡◌, ◌+◌, ◌<◌, ◌≤◌, length, IfOk, List};
+ghost use Rattle.std.specs.Prelude.{◌≡◌, ◌+◌, ◌<◌, ◌≤◌, length, IfOk, IfSome, IsOk, List, MatchOption, true};
 ghost use Rattle.mgn_params.specs.Shelves.{set_at};
 ghost use Rattle.mgn_params.specs.Tables.{Tables};
+ghost use Rattle.mgn_machine.specs.Brief.{is_brief};
 ghost use Rattle.mgn_machine.specs.Refusals.{place_of};
 ghost use Rattle.mgn_machine.specs.declared.request.Request.TheVariants.{Do, Switch};
 ghost use Rattle.mgn_machine.specs.History.{calls};
 ghost use Rattle.mgn_unit.specs.NewSets.{ArePrepared};
-ghost use Rattle.mgn_register.specs.BookStates.{statement_found};
+ghost use Rattle.mgn_register.specs.BookStates.{account_unit, statement_found};
 ghost use Rattle.mgn_register.specs.Plans.{Foresees, IsPossible, plan_of};
-ghost use Rattle.mgn_book.specs.BookViews.{Committed, Leaves, Shelves, Stands, opening};
+ghost use Rattle.mgn_book.specs.BookViews.{Committed, Leaves, Shelves, Stands, opening, reply_at, session_at};
 
 use crate::history::History;
 use crate::in_force::switch_set;
@@ -83,6 +84,30 @@ impl Book {
         self.counts[place]
     }
 
+    /// The reply of the entry at a place of the history, which counts from 1, as `Outcome::Done` tells it; none where
+    /// there is no such entry. It takes no memory; an error says that no more owners of a statement can be counted.
+    pub fn reply(&self, place: u64) -> Result<Option<Reply>, AllocError>
+        ensures reply { IfOk result (λ found. found ≡ reply_at self.now.history place) }
+        ensures brief { MatchOption (reply_at self.now.history place) (IsOk result)
+            (λ reply. is_brief reply ≡ true → IsOk result) }
+    {
+        if place == 0 {
+            return Ok(None);
+        }
+        self.history.reply(place as usize - 1)
+    }
+
+    /// The session of the entry at a place of the history, which counts from 1; none where there is no such entry. It
+    /// takes no memory.
+    pub fn session(&self, place: u64) -> Option<SessionNo>
+        ensures { result ≡ session_at self.now.history place }
+    {
+        if place == 0 {
+            return None;
+        }
+        self.history.session(place as usize - 1)
+    }
+
     /// The version of the set in force.
     pub fn version(&self) -> Version
         ensures { result ≡ self.now.book.state.version }
@@ -95,6 +120,15 @@ impl Book {
         ensures { result.now ≡ self.now.book.rows }
     {
         self.register.rows()
+    }
+
+    /// The margin unit of an account: the place of its row, none where there is no such account. It takes no memory.
+    pub fn unit_of(&self, account: &AccountName) -> Option<usize>
+        ensures unit { let state = self.now.book.state in
+            result ≡ account_unit state (place_of state account.now) }
+        ensures within { IfSome result (λ unit. unit < length self.now.book.rows) }
+    {
+        self.register.unit_of(*account)
     }
 
     /// What every book meets: no work, a fact for callers.

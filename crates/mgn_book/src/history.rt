@@ -1,5 +1,9 @@
-ghost use Rattle.std.specs.Prelude.{◌≡◌, ◌<◌, ◌≤◌, ◌++◌, ◌∷◌, [], length, slice_index_or, vec_capacity, vec_len, IfOk, IfSome, IsOk, OnErr, OnOk, ℕ, true};
+ghost use Rattle.std.specs.Prelude.{◌≡◌, ◌<◌, ◌≤◌, ◌++◌, ◌∷◌, [], length, slice_index_or, vec_capacity, vec_len, IfOk, IfSome, IsOk, MatchOption, OnErr, OnOk, ℕ, true};
+ghost use Rattle.std.specs.List.{slice_get};
+ghost use Rattle.std.specs.Option.{option_map};
+ghost use Rattle.mgn_machine.specs.declared.entry.Entry.{Entry};
 ghost use Rattle.mgn_machine.specs.declared.request.Recorded.TheVariants.{Asked, InForce};
+ghost use Rattle.mgn_machine.specs.Brief.{is_brief};
 ghost use Rattle.mgn_machine.specs.History.{entry};
 ghost use Rattle.mgn_params.specs.Tables.{no_tables};
 ghost use Rattle.mgn_book.specs.History.{Grows, kept_apart, recorded_of, replies_needed, reply_of, sets_needed};
@@ -78,6 +82,27 @@ impl History {
         ensures { result ≡ length self.now.entries }
     {
         self.entries.len()
+    }
+
+    /// The session of the entry of an index, none past the last.
+    pub fn session(&self, index: usize) -> Option<SessionNo>
+        ensures { result ≡ option_map (λ (e : Entry). e.session) (slice_get self.now.entries index) }
+    {
+        let stored = self.entries.get(index)?;
+        Some(stored.session)
+    }
+
+    /// The reply of the entry of an index, none past the last; the only error is that of `Reply::copy`.
+    pub fn reply(&self, index: usize) -> Result<Option<Reply>, AllocError>
+        ensures reply { IfOk result (λ found.
+            found ≡ option_map (λ (e : Entry). e.reply) (slice_get self.now.entries index)) }
+        ensures brief { MatchOption (slice_get self.now.entries index) (IsOk result)
+            (λ e. is_brief e.reply ≡ true → IsOk result) }
+    {
+        match self.entries.get(index) {
+            Some(stored) => Ok(Some(copy_of(self.apart.as_slice(), stored.reply)?)),
+            None => Ok(None),
+        }
     }
 
     /// Reserves memory for one more entry, whatever its reply. The entries stay, also where memory is refused.
@@ -166,6 +191,20 @@ fn store_request(
             refused.push(set)?;
             Ok(StoredRequest::SetRefused(refused.len() - 1))
         }
+    }
+}
+
+// A copy of the reply that is stored.
+fn copy_of(apart: &[Reply], stored: StoredReply) -> Result<Reply, AllocError>
+    requires { replies_needed stored ≤ length apart.now }
+    ensures equal { IfOk result (λ copy. copy ≡ reply_of apart.now stored) }
+    ensures brief { is_brief (reply_of apart.now stored) ≡ true → IsOk result }
+{
+    match stored {
+        StoredReply::Done => Ok(Reply::Done),
+        StoredReply::NewSet(told) => Ok(Reply::NewSet(told)),
+        StoredReply::Refused(why) => Ok(Reply::Refused(why)),
+        StoredReply::At(place) => apart[place].copy(),
     }
 }
 

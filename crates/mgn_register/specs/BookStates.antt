@@ -19,6 +19,11 @@ abbrev pub statement_found : Tables → State → Result ℕ Refusal → Option 
 statement_found set s (Ok k) = Some (statement_of set s (account_at s.accounts k))
 statement_found set s (Err why) = None
 
+-- the margin unit of the account at a place, none where there is no place
+abbrev pub account_unit : State → Result ℕ Refusal → Option ℕ
+account_unit s (Ok k) = Some (account_at s.accounts k).unit
+account_unit s (Err why) = None
+
 pub record BookState : Type 0 where
   pub state : State
   pub rows : List Row

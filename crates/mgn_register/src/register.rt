@@ -1,5 +1,5 @@
-ghost use Rattle.std.specs.Prelude.{◌≡◌, ◌<◌, ◌≤◌, ◌≤ℤ◌, ◌+ℤ◌, ◌*◌, ◌^◌, ◌==◌, ◌||◌, IfOk, OnOk, Ok, [], length, pos, false, true, unsigned_abs, int_lt};
-ghost use Rattle.mgn_params.specs.Tables.{contract_at, is_premium};
+ghost use Rattle.std.specs.Prelude.{◌≡◌, ◌<◌, ◌≤◌, ◌≤ℤ◌, ◌+ℤ◌, ◌*◌, ◌^◌, ◌==◌, ◌||◌, IfOk, IfSome, OnOk, Ok, [], length, pos, false, true, unsigned_abs, int_lt};
+ghost use Rattle.mgn_params.specs.Tables.{Tables, contract_at, is_premium};
 ghost use Rattle.mgn_lots.specs.Lots.{has_number, is_busted, is_full, is_live, is_moved, lot_at, place_of_lot};
 ghost use Rattle.mgn_machine.specs.declared.reply.Refusal.TheVariants.{NoTrade};
 ghost use Rattle.mgn_machine.specs.State.{account_at, put, with_amount};
@@ -9,7 +9,7 @@ ghost use Rattle.mgn_coll.specs.Posted.{amount_of, most_of};
 ghost use Rattle.mgn_span.specs.Positions.{IsNet};
 ghost use Rattle.mgn_machine.specs.Room.{unit_room};
 ghost use Rattle.mgn_unit.specs.Rows.{row_of, IsRow};
-ghost use Rattle.mgn_register.specs.BookStates.{IsKept, book_state};
+ghost use Rattle.mgn_register.specs.BookStates.{IsKept, account_unit, book_state};
 
 use mgn_coll::{is_known, most_of};
 use mgn_ids::{AccountName, ClassName, ContractName, LotId, LotQuantity, Places, Premium, Units};
@@ -150,6 +150,17 @@ impl Register {
         ensures within { IfOk result (λ k. k < length self.now.state.accounts) }
     {
         self.names.place(account).ok_or(Refusal::NoAccount)
+    }
+
+    /// The number of an account's margin unit, none where there is no such account. It takes no memory.
+    pub fn unit_of(&self, account: AccountName) -> Option<usize>
+        ensures unit { result ≡ account_unit self.now.state (place_of self.now.state account) }
+        ensures within { (set : Tables) → IsKept set self.now → IfSome result (λ u. u < length self.now.rows) }
+    {
+        match self.place(account) {
+            Ok(place) => Some(self.accounts[place].unit()),
+            Err(_) => None,
+        }
     }
 
     // The row of an account's unit.
