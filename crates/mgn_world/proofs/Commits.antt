@@ -142,7 +142,7 @@ fresh_seen : (l : View) (sets : List Tables) (accounts : List AccountState) (ver
 fresh_seen l sets accounts version u desks [] t xs has h e = absurd h
 fresh_seen l sets accounts version u desks (x ∷ us) t xs has h e = fresh_first l sets accounts version x (are_stale version desks (map (seen_at t xs) us)) (slice_index_or desks x None) (has x (inl refl)) e
 
-pointwise_same : (xs : List ℤ) → pointwise int_eq xs xs ≡ true
+pub pointwise_same : (xs : List ℤ) → pointwise int_eq xs xs ≡ true
 pointwise_same [] = refl
 pointwise_same (x ∷ xs) = (λ j. (Decides-int_eq x x).1 refl j && pointwise int_eq xs xs) ∙ pointwise_same xs
 

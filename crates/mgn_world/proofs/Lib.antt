@@ -12,3 +12,10 @@ pub mod Commits
 pub mod Each
 pub mod Turns
 pub mod Said
+pub mod Shows
+pub mod Ready
+pub mod Sounds
+pub mod Gathered
+pub mod Looking
+pub mod Decided
+pub mod Entered

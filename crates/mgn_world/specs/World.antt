@@ -34,7 +34,7 @@ use Rattle.mgn_world.specs.declared.stages.Deed.TheVariants.{Begin, Look, Mark, 
 use Rattle.mgn_world.specs.declared.stages.Stage.{Stage}
 use Rattle.mgn_world.specs.declared.stages.Stage.TheVariants.{Idle, Held, Looked, Applied, Failed, Ended, Gathered}
 use Rattle.mgn_world.specs.declared.stages.Step.{Step}
-use Rattle.mgn_world.specs.Stages.{Seen, View}
+use Rattle.mgn_world.specs.Stages.{Gathering, Seen, View}
 
 -- The sets by version, the machine's state and history; by unit a desk, which is empty or has nets under the set of a
 -- version, and the place of the session that holds it; and the stages of the 16 sessions. A unit has one holder at
@@ -201,14 +201,14 @@ abbrev pub is_of : ℕ → Option MarkedNets → Bool
 is_of version None = false
 is_of version (Some m) = m.version == version
 
-abbrev pub mark_first : World → ℕ → List Seen → World
-mark_first w version [] = w
-mark_first w version (x ∷ xs) =
-    if is_of version (desk_at w x.unit) then mark_first w version xs
-    else record w { desks = slice_set w.desks x.unit (Some record { version = version; nets = x.nets }) }
+abbrev pub mark_first : ℕ → List Seen → List (Option MarkedNets) → List (Option MarkedNets)
+mark_first version [] desks = desks
+mark_first version (x ∷ xs) desks =
+    if is_of version (slice_index_or desks x.unit None) then mark_first version xs desks
+    else slice_set desks x.unit (Some record { version = version; nets = x.nets })
 
 abbrev pub marks : World → Stage → World
-marks w (Looked k l) = mark_first w l.version l.seen
+marks w (Looked k l) = record w { desks = mark_first l.version l.seen w.desks }
 marks w _ = w
 
 -- Apply: where all desks of the plan are of the looked version, their nets become those after it.
@@ -322,11 +322,15 @@ are_covered old new nets =
 abbrev pub no_nets : FourNets
 no_nets = record { lots = []; buys = []; sales = []; all = [] }
 
+-- what is gathered, once a unit is worked out
+abbrev pub prepared_more : Tables → ℕ → Gathering → Gathering
+prepared_more old u g =
+    if nat_lt u (length g.nets) && are_covered old g.set (slice_index_or g.nets u no_nets) then
+    record g { prepared = slice_set g.prepared u true }
+    else g
+
 abbrev pub prepares : World → ℕ → ℕ → Stage → World
-prepares w p u (Gathered g) =
-    if nat_lt u (length g.nets) && are_covered (set_at w.sets g.version) g.set (slice_index_or g.nets u no_nets) then
-    with_stage w p (Gathered record g { prepared = slice_set g.prepared u true })
-    else w
+prepares w p u (Gathered g) = with_stage w p (Gathered (prepared_more (set_at w.sets g.version) u g))
 prepares w p u _ = w
 
 -- A step of the session at a place. Where it is not the next one of the session's call, nothing changes.

@@ -1,11 +1,12 @@
 -- The world that a run keeps: what it is shown as, and what is true of it beside that (own profile).
-use Rattle.std.specs.Prelude.{ℕ, ◌≡◌, ◌<◌, ◌==◌, All, if◌then◌else◌, Option, None, Some, List, [], ◌∷◌, length, map, slice_index_or}
+use Rattle.std.specs.Prelude.{ℕ, ◌≡◌, ◌≢◌, ◌<◌, ◌==◌, All, if◌then◌else◌, Option, None, Some, List, [], ◌∷◌, length, map, slice_get}
 use Rattle.mgn_params.specs.Shelves.{set_at}
 use Rattle.mgn_params.specs.Tables.{Tables}
-use Rattle.mgn_desk.specs.declared.desk.Marked.{Marked}
-use Rattle.mgn_desk.specs.Desks.{DeskRows, MarkedNets, marked_nets}
-use Rattle.mgn_desk.specs.Portfolios.{AreFourNets, ArePortfolios, CanMove, FourNets}
+use Rattle.mgn_desk.specs.Desks.{MarkedNets}
+use Rattle.mgn_desk.specs.Portfolios.{AreFourNets, CanMove, FourNets}
 use Rattle.mgn_unit.specs.declared.change.Change.{Change}
+use Rattle.mgn_unit.specs.declared.row.Row.{Row}
+use Rattle.mgn_unit.specs.Prepared.{copied}
 use Rattle.mgn_register.specs.declared.plans.Plan.{Plan}
 use Rattle.mgn_register.specs.declared.plans.Plan.TheVariants.{Nothing, One, Two}
 use Rattle.mgn_pricing.specs.Desks.{moves_of}
@@ -13,12 +14,9 @@ use Rattle.mgn_book.specs.BookViews.{Stands}
 use Rattle.mgn_world.specs.declared.stages.Stage.{Stage}
 use Rattle.mgn_world.specs.declared.stages.Stage.TheVariants.{Idle, Held, Looked, Applied, Failed, Ended, Gathered}
 use Rattle.mgn_world.specs.declared.world.World.{World as Kept}
-use Rattle.mgn_world.specs.Stages.{Gathering, Seen, View}
-use Rattle.mgn_world.specs.Standing.{Good}
+use Rattle.mgn_world.specs.DeskMoves.{AreDesks, desk_shown}
+use Rattle.mgn_world.specs.Stages.{Gathering, Seen, View, shown_nets}
 use Rattle.mgn_world.specs.World.{World, no_nets}
-
-abbrev pub desk_shown : DeskRows → Option MarkedNets
-desk_shown desk = marked_nets desk.marked
 
 -- the world that is kept, as the definition has it
 abbrev pub shown : Kept → World
@@ -31,10 +29,13 @@ shown w = record {
   stages = w.stages.items;
 }
 
--- all that a marked desk keeps is that of its nets, under the set of its version
-abbrev pub IsRightIn : List Tables → Option Marked → Type 0
-IsRightIn sets None = Unit {0}
-IsRightIn sets (Some m) = (m.version < length sets) × ArePortfolios (set_at sets m.version) m.portfolios
+abbrev pub row_nets : Option Row → FourNets
+row_nets None = no_nets
+row_nets (Some row) = shown_nets (copied row)
+
+-- a unit with the nets of its row
+abbrev pub seen_in : List Row → ℕ → Seen
+seen_in rows u = record { unit = u; nets = row_nets (slice_get rows u) }
 
 -- the nets of a unit as they were looked at
 abbrev pub nets_seen : List Seen → ℕ → FourNets
@@ -50,7 +51,9 @@ abbrev pub CanFollowPlan : Tables → List Seen → Plan → Type 0
 CanFollowPlan set seen Nothing = Unit {0}
 CanFollowPlan set seen (One u) = CanFollow set u.change (nets_seen seen u.unit)
 CanFollowPlan set seen (Two u v) =
-    CanFollow set u.change (nets_seen seen u.unit) × CanFollow set v.change (nets_seen seen v.unit)
+    CanFollow set u.change (nets_seen seen u.unit)
+    × CanFollow set v.change (nets_seen seen v.unit)
+    × (v.unit ≢ u.unit)
 
 -- what was looked at: the nets of units that are there, within their limits under the set, after the plan too
 pub record IsSeen (sets : List Tables) (units : ℕ) (l : View) : Type 0 where
@@ -73,15 +76,10 @@ IsStage sets units (Failed k l again) = IsSeen sets units l
 IsStage sets units (Ended k) = Unit {0}
 IsStage sets units (Gathered g) = IsGathered sets g
 
--- each desk is that of the unit at its place
-abbrev pub AreNumbered : List DeskRows → Type 0
-AreNumbered desks = (u : ℕ) (d : DeskRows) → u < length desks → (slice_index_or desks u d).unit ≡ u
-
--- what is true of the world that is kept after every step
-pub record IsWorld (w : Kept) : Type 0 where
-  pub good : Good (shown w)
+-- what is true of the world that is kept after every step, beside what is true of the definition's: the rows of the book
+-- are those of its state, all that desks keep is right, and each view and gathering was one of the sets of then
+pub record IsSound (w : Kept) : Type 0 where
   pub book : Stands w.shelf w.book
   pub sixteen : length w.stages.items ≡ 16
-  pub numbered : AreNumbered w.desks.items
-  pub right : All (λ (d : DeskRows). IsRightIn w.shelf d.marked) w.desks.items
+  pub desks : AreDesks w.shelf w.desks.items
   pub stages : All (IsStage w.shelf (length w.desks.items)) w.stages.items

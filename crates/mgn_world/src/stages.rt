@@ -1,10 +1,16 @@
 //! Where a session is in its call, and the steps that it makes.
 
+ghost use Rattle.std.specs.Prelude.{◌≡◌, ◌<◌, false, if◌then◌else◌, IfSome, None, Some, length, slice_index_or, slice_set};
+ghost use Rattle.mgn_world.specs.declared.stages.Call.{Call};
+ghost use Rattle.mgn_world.specs.declared.stages.Stage.TheVariants.{Applied, Ended, Failed, Gathered, Idle, Looked};
+ghost use Rattle.mgn_world.specs.Stages.{Gathering as GatheringValue, View};
+
 use mgn_machine::Command;
 use mgn_params::{ParamSet, Version};
 use mgn_register::Plan;
 use mgn_unit::{CopiedNets, PreparedUnit};
 use std::marker::Model;
+use std::mem;
 
 /// A call in progress.
 #[derive(Clone, Copy)]
@@ -42,7 +48,7 @@ pub struct View {
 }
 
 impl Model for View {
-    ghost use Rattle.mgn_world.specs.Stages.{View};
+    ghost use Rattle.mgn_world.specs.Stages.{Gathering as GatheringValue, View};
 
     ghost Value = { View };
 
@@ -93,6 +99,100 @@ pub enum Stage {
     Ended(Call),
     /// A switch is gathered.
     Gathered(Gathering),
+}
+
+impl Stage {
+    // The stage of a call whose plan was applied after it looked.
+    fn applied(self) -> Stage
+        ensures { (k : Call) (l : View) → self ≡ Looked k l → result ≡ Applied k l }
+    {
+        match self {
+            Stage::Looked(call, view) => Stage::Applied(call, view),
+            other => other,
+        }
+    }
+
+    // The stage of an applied call whose commit failed.
+    fn failed(self, again: bool) -> Stage
+        ensures { (k : Call) (l : View) → self ≡ Applied k l → result ≡ Failed k l again }
+    {
+        match self {
+            Stage::Applied(call, view) => Stage::Failed(call, view, again),
+            other => other,
+        }
+    }
+
+    // The stage of an applied call whose commit was answered.
+    fn settled(self, done: bool) -> Stage
+        ensures { (k : Call) (l : View) → self ≡ Applied k l →
+            result ≡ (if done then Ended k else Failed k l false) }
+    {
+        match self {
+            Stage::Applied(call, view) => {
+                if done {
+                    Stage::Ended(call)
+                } else {
+                    Stage::Failed(call, view, false)
+                }
+            }
+            other => other,
+        }
+    }
+}
+
+/// Puts a session in a stage.
+pub(crate) fn set_stage(stages: &mut Vec<Stage>, place: usize, stage: Stage)
+    requires { place < length stages.old.items }
+    ensures { stages.new.items ≡ slice_set stages.old.items place stage }
+{
+    stages[place] = stage;
+}
+
+/// A session's call that has looked is applied.
+pub(crate) fn set_applied(stages: &mut Vec<Stage>, place: usize)
+    requires { place < length stages.old.items }
+    ensures { (k : Call) (l : View) → slice_index_or stages.old.items place Idle ≡ Looked k l →
+        stages.new.items ≡ slice_set stages.old.items place (Applied k l) }
+{
+    let stage = mem::replace(&mut stages[place], Stage::Idle);
+    set_stage(stages, place, stage.applied());
+}
+
+/// The commit of a session's applied call failed.
+pub(crate) fn set_failed(stages: &mut Vec<Stage>, place: usize, again: bool)
+    requires { place < length stages.old.items }
+    ensures { (k : Call) (l : View) → slice_index_or stages.old.items place Idle ≡ Applied k l →
+        stages.new.items ≡ slice_set stages.old.items place (Failed k l again) }
+{
+    let stage = mem::replace(&mut stages[place], Stage::Idle);
+    set_stage(stages, place, stage.failed(again));
+}
+
+/// The commit of a session's applied call was answered.
+pub(crate) fn set_settled(stages: &mut Vec<Stage>, place: usize, done: bool)
+    requires { place < length stages.old.items }
+    ensures { (k : Call) (l : View) → slice_index_or stages.old.items place Idle ≡ Applied k l →
+        stages.new.items ≡ slice_set stages.old.items place (if done then Ended k else Failed k l false) }
+{
+    let stage = mem::replace(&mut stages[place], Stage::Idle);
+    set_stage(stages, place, stage.settled(done));
+}
+
+/// What a session has gathered, which it has no more.
+pub(crate) fn take_gathering(stages: &mut Vec<Stage>, place: usize) -> Option<Gathering>
+    requires { place < length stages.old.items }
+    ensures taken { (g : GatheringValue) → slice_index_or stages.old.items place Idle ≡ Gathered g →
+        (result ≡ Some g) × (stages.new.items ≡ slice_set stages.old.items place Idle) }
+    ensures other { result ≡ None → stages.new.items ≡ stages.old.items }
+    ensures found { IfSome result (λ g. slice_index_or stages.old.items place Idle ≡ Gathered g) }
+{
+    match mem::replace(&mut stages[place], Stage::Idle) {
+        Stage::Gathered(gathering) => Some(gathering),
+        other => {
+            set_stage(stages, place, other);
+            None
+        }
+    }
 }
 
 /// What a session does next.
