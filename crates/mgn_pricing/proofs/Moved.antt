@@ -18,7 +18,7 @@ use Rattle.mgn_register.specs.Plans.{UnitNets, moved_nets, nets_in}
 use Rattle.mgn_pricing.specs.Desks.{IsReady, four, moves_of, required_by}
 
 -- a net that moves stays within its limit
-net-moved : (nets : List ℤ) (i : ℕ) (quantity : ℤ) → i < length nets → All IsNet (more_at nets i quantity) → IsNet (value_at nets i +ℤ quantity)
+pub net-moved : (nets : List ℤ) (i : ℕ) (quantity : ℤ) → i < length nets → All IsNet (more_at nets i quantity) → IsNet (value_at nets i +ℤ quantity)
 net-moved nets i quantity inside small =
     subst IsNet (get_or-set_same nets i (value_at nets i +ℤ quantity) (pos 0) inside) (small i (pos 0) (omega (arith, length-set nets i (value_at nets i +ℤ quantity), inside)))
 
@@ -66,7 +66,7 @@ priced-by set' version row change before after p ready moved required small = by
 
 -- Moving back.
 
-net-back : (nets : List ℤ) (i : ℕ) (quantity : ℤ) → i < length nets → All IsNet nets → IsNet (value_at (more_at nets i quantity) i +ℤ neg_ℤ quantity)
+pub net-back : (nets : List ℤ) (i : ℕ) (quantity : ℤ) → i < length nets → All IsNet nets → IsNet (value_at (more_at nets i quantity) i +ℤ neg_ℤ quantity)
 net-back nets i quantity inside small =
     let there = get_or-set_same nets i (value_at nets i +ℤ quantity) (pos 0) inside in
     subst (λ (z : ℤ). IsNet (z +ℤ neg_ℤ quantity)) (sym there) (back (value_at nets i) (small i (pos 0) inside))

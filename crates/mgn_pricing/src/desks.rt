@@ -32,8 +32,8 @@ impl Model for Desks {
     ghost view = { λ d. d.desks.items };
 }
 
-// What a change moves in the nets of a desk.
-fn moves_of(change: &Change) -> Moves
+/// What a change of a unit's row moves in the nets of its desk.
+pub fn moves_of(change: &Change) -> Moves
     ensures { result ≡ moves_of change.now }
 {
     Moves {
@@ -45,8 +45,8 @@ fn moves_of(change: &Change) -> Moves
     }
 }
 
-// Whether a desk is marked under a version.
-pub(crate) fn is_of(desk: &Desk, version: Version) -> bool
+/// Whether a desk is marked under a version.
+pub fn is_of(desk: &Desk, version: Version) -> bool
     ensures { result ≡ is_of version desk.now.marked }
 {
     match desk.version() {

@@ -7,6 +7,7 @@ mod change;
 mod holding;
 mod nets;
 mod new_set;
+mod prepared;
 mod row;
 mod rows;
 #[cfg(test)]
@@ -18,5 +19,6 @@ pub use change::{Change, Gain};
 pub use holding::filling_at_limit_keeps_room;
 pub use nets::Nets;
 pub use new_set::Switch;
+pub use prepared::CopiedNets;
 pub use row::{PortfolioRow, PreparedPortfolio, PreparedUnit, Priced, Row};
 pub use transfer::add_both;

@@ -30,6 +30,14 @@ impl Nets {
         Ok(Nets { cells })
     }
 
+    /// An equal list. An error says that memory was refused.
+    pub fn copy(&self, alloc: Global) -> Result<Nets, AllocError>
+        ensures { IfOk result (λ nets. nets ≡ self.now) }
+    {
+        let cells = self.cells.as_slice().to_vec(alloc)?;
+        Ok(Nets { cells })
+    }
+
     /// All quantities, in the order of the set's contracts.
     pub fn as_slice(&self) -> &[Quantity]
         ensures { result.now ≡ self.now }

@@ -53,6 +53,13 @@ impl<'a> Switch<'a> {
         Ok(Switch { old, new, places })
     }
 
+    // The new set.
+    pub(crate) fn new_set(&self) -> &ParamSet
+        ensures { result.now ≡ self.now.new }
+    {
+        self.new
+    }
+
     /// How much more the collateral of a unit's accounts is worth under the new set, in cents; below 0 where it is
     /// worth less.
     pub fn gain(&self, accounts: &[Account], unit: usize) -> Cents
@@ -79,13 +86,40 @@ impl<'a> Switch<'a> {
     }
 
     // The numbers of a row, by the contracts' names, for the contracts of the new set.
-    fn carry(&self, alloc: Global, row: &Nets) -> Result<Nets, AllocError>
+    pub(crate) fn carry(&self, alloc: Global, row: &Nets) -> Result<Nets, AllocError>
         requires { All IsNet row.now }
         ensures row { IfOk result (λ nets. nets ≡ carried self.now.old self.now.new row.now) }
         ensures one_each { IfOk result (λ nets. length nets ≡ length self.now.new.contracts) }
         ensures limits { IfOk result (λ nets. All IsNet nets) }
     {
         row.at_places(alloc, self.places.as_slice())
+    }
+}
+
+impl Nets {
+    // Whether the new set has each contract of the old one in which the quantity is not 0.
+    pub(crate) fn are_covered_by(&self, old: &ParamSet, new: &ParamSet) -> bool
+        requires one_each { length self.now ≡ length old.now.contracts }
+        ensures { result ≡ is_covered old.now new.now self.now }
+    {
+        for contract in 0..old.contract_count() {
+            if !self.is_covered_in(contract, old, new) {
+                return false;
+            }
+        }
+        true
+    }
+
+    // Whether the quantity in a contract of the old set is 0, or the new one has it.
+    fn is_covered_in(&self, contract: usize, old: &ParamSet, new: &ParamSet) -> bool
+        requires contract { contract < length old.now.contracts }
+        requires one_each { length self.now ≡ length old.now.contracts }
+        ensures { result ≡ is_covered_at old.now new.now self.now contract }
+    {
+        if self.at(contract) == Quantity::ZERO {
+            return true;
+        }
+        new.contract(old.contract_at(contract).name).is_some()
     }
 }
 
@@ -267,24 +301,7 @@ impl Row {
         requires { IsRow old.now self.now }
         ensures { result ≡ is_covered old.now new.now self.now.sizes }
     {
-        for contract in 0..old.contract_count() {
-            if !self.is_covered_in(contract, old, new) {
-                return false;
-            }
-        }
-        true
-    }
-
-    // Whether nothing is live or held in a contract of the old set, or the new one has it.
-    fn is_covered_in(&self, contract: usize, old: &ParamSet, new: &ParamSet) -> bool
-        requires contract { contract < length old.now.contracts }
-        requires row { IsRow old.now self.now }
-        ensures { result ≡ is_covered_at old.now new.now self.now.sizes contract }
-    {
-        if self.sizes.at(contract) == Quantity::ZERO {
-            return true;
-        }
-        new.contract(old.contract_at(contract).name).is_some()
+        self.sizes.are_covered_by(old, new)
     }
 
     /// Whether the lots require more than is there for them.

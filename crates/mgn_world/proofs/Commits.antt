@@ -25,9 +25,12 @@ use Rattle.mgn_register.specs.declared.plans.Plan.{Plan}
 use Rattle.mgn_register.specs.declared.plans.Plan.TheVariants.{Nothing, One, Two}
 use Rattle.mgn_register.specs.Plans.{plan_of}
 use Rattle.mgn_world.specs.Claims.{HasPlan, IsAmong, IsReplayed, Rests, before_close}
-use Rattle.mgn_world.specs.Stages.{Call, Gathering, Seen, Stage, View, Idle, Held, Applied, Failed, Ended, Gathered}
+use Rattle.mgn_world.specs.declared.stages.Call.{Call}
+use Rattle.mgn_world.specs.declared.stages.Stage.{Stage}
+use Rattle.mgn_world.specs.declared.stages.Stage.TheVariants.{Idle, Held, Applied, Failed, Ended, Gathered}
+use Rattle.mgn_world.specs.Stages.{Gathering, Seen, View}
 use Rattle.mgn_world.specs.World.{World, are_fit, are_stale, desk_at, in_force, is_apart, is_done, is_fit, is_stale, lengthened, lock_at, placed, plan_units, planned, same_nets, seen_at, stage_at, stepped, unit_nets, units_of, with_stage}
-use Rattle.mgn_world.proofs.Standing.{DeskOf, Good, HeldDesk, Owns, Sees, StageOf}
+use Rattle.mgn_world.specs.Standing.{DeskOf, Good, HeldDesk, Owns, Sees, StageOf}
 use Rattle.mgn_world.proofs.Desks.{plan_held}
 use Rattle.mgn_world.proofs.Effects.{Before, Outcome, outcome}
 use Rattle.mgn_world.proofs.Frames.{Change, good_after, owns_kept, rests_same}
@@ -139,7 +142,7 @@ fresh_seen : (l : View) (sets : List Tables) (accounts : List AccountState) (ver
 fresh_seen l sets accounts version u desks [] t xs has h e = absurd h
 fresh_seen l sets accounts version u desks (x ∷ us) t xs has h e = fresh_first l sets accounts version x (are_stale version desks (map (seen_at t xs) us)) (slice_index_or desks x None) (has x (inl refl)) e
 
-pointwise_same : (xs : List ℤ) → pointwise int_eq xs xs ≡ true
+pub pointwise_same : (xs : List ℤ) → pointwise int_eq xs xs ≡ true
 pointwise_same [] = refl
 pointwise_same (x ∷ xs) = (λ j. (Decides-int_eq x x).1 refl j && pointwise int_eq xs xs) ∙ pointwise_same xs
 

@@ -16,9 +16,12 @@ use Rattle.mgn_register.specs.Plans.{UnitNets, moved_nets, nets_by, nets_in, pla
 use Rattle.mgn_unit.specs.Rows.{row_of}
 use Rattle.mgn_pricing.specs.Desks.{four, moves_of}
 use Rattle.mgn_world.specs.Claims.{HasPlan, IsAmong, Rests}
-use Rattle.mgn_world.specs.Stages.{Call, Seen, Stage, View, Idle, Held, Looked, Applied, Failed, Ended}
+use Rattle.mgn_world.specs.declared.stages.Call.{Call}
+use Rattle.mgn_world.specs.declared.stages.Stage.{Stage}
+use Rattle.mgn_world.specs.declared.stages.Stage.TheVariants.{Idle, Held, Looked, Applied, Failed, Ended}
+use Rattle.mgn_world.specs.Stages.{Seen, View}
 use Rattle.mgn_world.specs.World.{World, are_of, desk_at, desks_with, desks_without, in_order, is_of, lock_at, mark_first, plan_units, planned_desks, seen_at, stage_at, unit_nets, unplanned_desks}
-use Rattle.mgn_world.proofs.Standing.{Good, HeldDesk, IsPassed, Owns, Sees, StageOf}
+use Rattle.mgn_world.specs.Standing.{Good, HeldDesk, IsPassed, Owns, Sees, StageOf}
 use Rattle.mgn_world.proofs.Frames.{view_inside, view_units}
 use Rattle.mgn_world.proofs.Locks.{both_true, lock_inside}
 use Rattle.mgn_world.proofs.Simple.{good_desks, held_desk, session}
@@ -57,19 +60,19 @@ good_marked w p u k l good is there mine =
     now : List (Option MarkedNets)
     now = slice_set w.desks u marked
 
-choose : (b : Bool) (v x : World) → Good v → Good x → Good (if b then v else x)
-choose true v x first second = first
-choose false v x first second = second
+choose : (w : World) (b : Bool) (xs ys : List (Option MarkedNets)) → Good (record w { desks = xs }) → Good (record w { desks = ys }) → Good (record w { desks = if b then xs else ys })
+choose w true xs ys first second = first
+choose w false xs ys first second = second
 
-mark_each : (w : World) (p : ℕ) (k : Call) (l : View) (us : List ℕ) → Good w → stage_at w p ≡ Looked k l → p < length w.stages → ((u : ℕ) → IsAmong u us → lock_at w u ≡ Some p) → Good (mark_first w l.version (map (seen_at (set_at w.sets l.version) w.state.accounts) us))
+mark_each : (w : World) (p : ℕ) (k : Call) (l : View) (us : List ℕ) → Good w → stage_at w p ≡ Looked k l → p < length w.stages → ((u : ℕ) → IsAmong u us → lock_at w u ≡ Some p) → Good (record w { desks = mark_first l.version (map (seen_at (set_at w.sets l.version) w.state.accounts) us) w.desks })
 mark_each w p k l [] good is there mine = good
 mark_each w p k l (u ∷ us) good is there mine =
-    choose (is_of l.version (desk_at w u)) _ _ (mark_each w p k l us good is there (λ x h. mine x (inr h))) (good_marked w p u k l good is there (mine u (inl refl)))
+    choose w (is_of l.version (desk_at w u)) _ _ (mark_each w p k l us good is there (λ x h. mine x (inr h))) (good_marked w p u k l good is there (mine u (inl refl)))
 
-pub good_mark : (w : World) (p : ℕ) (k : Call) (l : View) → Good w → stage_at w p ≡ Looked k l → p < length w.stages → Good (mark_first w l.version l.seen)
+pub good_mark : (w : World) (p : ℕ) (k : Call) (l : View) → Good w → stage_at w p ≡ Looked k l → p < length w.stages → Good (record w { desks = mark_first l.version l.seen w.desks })
 good_mark w p k l good is there =
     let ok = session w p (Looked k l) good is in
-    subst (λ (seen : List Seen). Good (mark_first w l.version seen)) (sym ok.1.seen)
+    subst (λ (seen : List Seen). Good (record w { desks = mark_first l.version seen w.desks })) (sym ok.1.seen)
     (mark_each w p k l (plan_units l.plan) good is there (λ u h. plan_held w p u k l ok.0 ok.1 h))
 
 -- Plans on desks, unit by unit.
@@ -107,7 +110,7 @@ without_at u desks x inside = set_by desks u.unit x (moved_marked (opposite (mov
 abbrev Inside : List (Option MarkedNets) → Plan → Type 0
 Inside desks plan = (u : ℕ) → IsAmong u (plan_units plan) → u < length desks
 
-in_two : (b : Bool) (u v : ℕ) → IsAmong u (if b then v ∷ u ∷ [] else u ∷ v ∷ []) × IsAmong v (if b then v ∷ u ∷ [] else u ∷ v ∷ [])
+pub in_two : (b : Bool) (u v : ℕ) → IsAmong u (if b then v ∷ u ∷ [] else u ∷ v ∷ []) × IsAmong v (if b then v ∷ u ∷ [] else u ∷ v ∷ [])
 in_two true u v = (inr (inl refl), inl refl)
 in_two false u v = (inl refl, inr (inl refl))
 
@@ -199,13 +202,13 @@ unplanned_other (Two u v) x d n =
 -- Apply
 
 -- a desk is of the looked version, with the nets of the unit
-ready : (sets : List Tables) (accounts : List AccountState) (version u : ℕ) (d : Option MarkedNets) → is_of version d ≡ true → Rests sets accounts u d → d ≡ marked version (nets_in (row_of (set_at sets version) accounts u))
+pub ready : (sets : List Tables) (accounts : List AccountState) (version u : ℕ) (d : Option MarkedNets) → is_of version d ≡ true → Rests sets accounts u d → d ≡ marked version (nets_in (row_of (set_at sets version) accounts u))
 ready sets accounts version u None e rests = cc
 ready sets accounts version u (Some m) e rests =
     let same : m.version ≡ version = eqb-true m.version version e in
     λ j. Some record { version = same j; nets = (rests.1 ∙ ap (λ (v : ℕ). unit_nets (set_at sets v) accounts u) same) j }
 
-seen_of : (version : ℕ) (desks : List (Option MarkedNets)) (t : Tables) (accounts : List AccountState) (us : List ℕ) (u : ℕ) → are_of version desks (map (seen_at t accounts) us) ≡ true → IsAmong u us → is_of version (slice_index_or desks u None) ≡ true
+pub seen_of : (version : ℕ) (desks : List (Option MarkedNets)) (t : Tables) (accounts : List AccountState) (us : List ℕ) (u : ℕ) → are_of version desks (map (seen_at t accounts) us) ≡ true → IsAmong u us → is_of version (slice_index_or desks u None) ≡ true
 seen_of version desks t accounts [] u e h = absurd h
 seen_of version desks t accounts (x ∷ us) u e h =
     let both = both_true (is_of version (slice_index_or desks x None)) (are_of version desks (map (seen_at t accounts) us)) e in

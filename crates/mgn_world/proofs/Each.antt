@@ -13,9 +13,15 @@ use Rattle.mgn_register.specs.declared.plans.Plan.{Plan}
 use Rattle.mgn_register.specs.declared.plans.Plan.TheVariants.{Nothing, One, Two}
 use Rattle.mgn_register.specs.Plans.{plan_of}
 use Rattle.mgn_world.specs.Claims.{AreLimited, IsLimited}
-use Rattle.mgn_world.specs.Stages.{Call, Deed, Gathering, Stage, Step, View, Idle, Held, Looked, Applied, Failed, Ended, Gathered, Begin, Look, Mark, Apply, Commit, Back, End, Gather, Prepare}
-use Rattle.mgn_world.specs.World.{World, applies, are_covered, are_free, are_of, are_stale, backs, begin_on, begins, commits, does, does_as, ends, finished, gathers, in_force, is_apart, is_full, look_on, looks, marks, next, no_nets, opening, placed, planned_desks, prepares, run, stage_at, stepped, taken, units_of, with_stage}
-use Rattle.mgn_world.proofs.Standing.{Good, StageOf}
+use Rattle.mgn_world.specs.declared.stages.Call.{Call}
+use Rattle.mgn_world.specs.declared.stages.Deed.{Deed}
+use Rattle.mgn_world.specs.declared.stages.Deed.TheVariants.{Begin, Look, Mark, Apply, Commit, Back, End, Gather, Prepare}
+use Rattle.mgn_world.specs.declared.stages.Stage.{Stage}
+use Rattle.mgn_world.specs.declared.stages.Stage.TheVariants.{Idle, Held, Looked, Applied, Failed, Ended, Gathered}
+use Rattle.mgn_world.specs.declared.stages.Step.{Step}
+use Rattle.mgn_world.specs.Stages.{Gathering, View}
+use Rattle.mgn_world.specs.World.{World, applies, are_covered, are_free, are_of, are_stale, backs, begin_on, begins, commits, does, does_as, ends, finished, gathers, in_force, is_apart, is_full, look_on, looks, marks, next, no_nets, opening, placed, planned_desks, prepared_more, prepares, run, stage_at, stepped, taken, units_of, with_stage}
+use Rattle.mgn_world.specs.Standing.{Good, StageOf}
 use Rattle.mgn_world.proofs.Commits.{good_at_once, good_placed, good_planless, good_switch, stale_passed}
 use Rattle.mgn_world.proofs.Desks.{good_applied, good_backed, good_mark}
 use Rattle.mgn_world.proofs.Locks.{none_past}
@@ -112,14 +118,15 @@ good_gather : (w : World) (p : ℕ) (set : Tables) (st : Stage) → IsWithinLimi
 good_gather w p set Idle limits good is there = good_stage w p Idle _ good is there limits (λ u d h. absurd h)
 good_gather w p set st limits good is there = good
 
-choose : (b : Bool) (v x : World) → Good v → Good x → Good (if b then v else x)
-choose true v x first second = first
-choose false v x first second = second
+gathered_set : (b : Bool) (g : Gathering) (prepared : List Bool) → (if b then record g { prepared = prepared } else g).set ≡ g.set
+gathered_set true g prepared = refl
+gathered_set false g prepared = refl
 
 good_prepare : (w : World) (p u : ℕ) (st : Stage) → Good w → stage_at w p ≡ st → p < length w.stages → Good (prepares w p u st)
 good_prepare w p u (Gathered g) good is there =
-    choose (nat_lt u (length g.nets) && are_covered (set_at w.sets g.version) g.set (slice_index_or g.nets u no_nets)) _ _
-    (good_stage w p (Gathered g) (Gathered record g { prepared = u ∷ g.prepared }) good is there (session w p (Gathered g) good is) (λ x d h. h)) good
+    good_stage w p (Gathered g) (Gathered (prepared_more (set_at w.sets g.version) u g)) good is there
+    (subst IsWithinLimits (sym (gathered_set (nat_lt u (length g.nets) && are_covered (set_at w.sets g.version) g.set (slice_index_or g.nets u no_nets)) g (slice_set g.prepared u true))) (session w p (Gathered g) good is))
+    (λ x d h. h)
 good_prepare w p u st good is there = good
 
 -- All steps

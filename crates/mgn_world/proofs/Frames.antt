@@ -14,9 +14,12 @@ use Rattle.mgn_register.specs.declared.plans.Plan.{Plan}
 use Rattle.mgn_register.specs.Plans.{UnitNets, plan_of, planned_nets}
 use Rattle.mgn_pricing.specs.Desks.{four}
 use Rattle.mgn_world.specs.Claims.{HasPlan, IsAmong, IsReplayed, Rests, before_close}
-use Rattle.mgn_world.specs.Stages.{Call, Stage, View, Idle, Held, Looked, Applied, Failed, Ended, Gathered}
+use Rattle.mgn_world.specs.declared.stages.Call.{Call}
+use Rattle.mgn_world.specs.declared.stages.Stage.{Stage}
+use Rattle.mgn_world.specs.declared.stages.Stage.TheVariants.{Idle, Held, Looked, Applied, Failed, Ended, Gathered}
+use Rattle.mgn_world.specs.Stages.{View}
 use Rattle.mgn_world.specs.World.{World, desk_at, in_force, lock_at, plan_units, planned, seen_at, stage_at, unit_nets, units_of}
-use Rattle.mgn_world.proofs.Standing.{DeskOf, Good, HeldDesk, IsHoused, IsPassed, Owns, Sees, StageOf}
+use Rattle.mgn_world.specs.Standing.{DeskOf, Good, HeldDesk, IsHoused, IsPassed, Owns, Sees, StageOf}
 use Rattle.mgn_world.proofs.Stays.{SameUnits, plan_stays, plan_units-are, units_before, units_stay}
 use Rattle.mgn_world.proofs.Twins.{Keeps, nets-kept}
 

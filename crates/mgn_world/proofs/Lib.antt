@@ -1,7 +1,6 @@
 -- The law of the world, step by step.
 pub mod Replays
 pub mod Twins
-pub mod Standing
 pub mod Places
 pub mod Stays
 pub mod Effects
@@ -13,3 +12,10 @@ pub mod Commits
 pub mod Each
 pub mod Turns
 pub mod Said
+pub mod Shows
+pub mod Ready
+pub mod Sounds
+pub mod Gathered
+pub mod Looking
+pub mod Decided
+pub mod Entered

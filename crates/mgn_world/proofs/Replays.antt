@@ -20,8 +20,14 @@ use Rattle.mgn_book.specs.BookViews.{sets_after}
 use Rattle.mgn_register.specs.declared.plans.Plan.{Plan}
 use Rattle.mgn_register.specs.declared.plans.Plan.TheVariants.{Nothing, One, Two}
 use Rattle.mgn_register.specs.Plans.{plan_of}
-use Rattle.mgn_world.specs.Stages.{Call, Deed, Seen, Stage, Step, View, Idle, Held, Looked, Applied, Failed, Ended, Gathered, Begin, Look, Mark, Apply, Commit, Back, End, Gather, Prepare}
-use Rattle.mgn_world.specs.World.{World, applies, are_of, are_stale, backs, begin_on, begins, commits, desk_at, does, does_as, ends, entered, gathers, in_force, is_apart, is_full, is_of, look_on, looks, mark_first, marks, next, opening, placed, prepares, run, stepped, with_stage}
+use Rattle.mgn_world.specs.declared.stages.Call.{Call}
+use Rattle.mgn_world.specs.declared.stages.Deed.{Deed}
+use Rattle.mgn_world.specs.declared.stages.Deed.TheVariants.{Begin, Look, Mark, Apply, Commit, Back, End, Gather, Prepare}
+use Rattle.mgn_world.specs.declared.stages.Stage.{Stage}
+use Rattle.mgn_world.specs.declared.stages.Stage.TheVariants.{Idle, Held, Looked, Applied, Failed, Ended, Gathered}
+use Rattle.mgn_world.specs.declared.stages.Step.{Step}
+use Rattle.mgn_world.specs.Stages.{Seen, View}
+use Rattle.mgn_world.specs.World.{World, applies, are_of, are_stale, backs, begin_on, begins, commits, desk_at, does, does_as, ends, entered, gathers, in_force, is_apart, is_full, is_of, look_on, looks, marks, next, opening, placed, prepares, run, stepped, with_stage}
 use Rattle.mgn_world.specs.Claims.{IsReplayed, IsRun}
 
 -- One entry more, under the sets as they are then.
@@ -111,12 +117,8 @@ looks-run : (w : World) (p : ℕ) (st : Stage) → IsReplayed w → IsReplayed (
 looks-run w p (Held k) is = look_on-run w p k _ is
 looks-run w p st is = is
 
-mark_first-run : (w : World) (version : ℕ) (seen : List Seen) → IsReplayed w → IsReplayed (mark_first w version seen)
-mark_first-run w version [] is = is
-mark_first-run w version (x ∷ xs) is = choose (is_of version (desk_at w x.unit)) _ _ (mark_first-run w version xs is) is
-
 marks-run : (w : World) (st : Stage) → IsReplayed w → IsReplayed (marks w st)
-marks-run w (Looked k l) is = mark_first-run w l.version l.seen is
+marks-run w (Looked k l) is = is
 marks-run w st is = is
 
 applies-run : (w : World) (p : ℕ) (st : Stage) → IsReplayed w → IsReplayed (applies w p st)
@@ -148,7 +150,7 @@ gathers-run w p set Idle is = is
 gathers-run w p set st is = is
 
 prepares-run : (w : World) (p u : ℕ) (st : Stage) → IsReplayed w → IsReplayed (prepares w p u st)
-prepares-run w p u (Gathered g) is = choose _ _ _ is is
+prepares-run w p u (Gathered g) is = is
 prepares-run w p u st is = is
 
 does-run : (w : World) (p : ℕ) (d : Deed) → IsReplayed w → IsReplayed (does w p d)

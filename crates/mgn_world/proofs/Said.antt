@@ -15,7 +15,11 @@ use Rattle.mgn_machine.specs.State.{State}
 use Rattle.mgn_machine.proofs.Versions.{keeps_version}
 use Rattle.mgn_register.specs.Plans.{plan_of}
 use Rattle.mgn_world.specs.Claims.{HasPlan, IsAmong, IsIn, IsReached, Rests, before_close, call_in, shown_now}
-use Rattle.mgn_world.specs.Stages.{Call, Commit, Stage, View, Idle, Held, Looked, Applied, Failed, Ended, Gathered}
+use Rattle.mgn_world.specs.declared.stages.Call.{Call}
+use Rattle.mgn_world.specs.declared.stages.Deed.TheVariants.{Commit}
+use Rattle.mgn_world.specs.declared.stages.Stage.{Stage}
+use Rattle.mgn_world.specs.declared.stages.Stage.TheVariants.{Idle, Held, Looked, Applied, Failed, Ended, Gathered}
+use Rattle.mgn_world.specs.Stages.{View}
 use Rattle.mgn_world.specs.World.{World, are_stale, commits, desk_at, in_force, is_apart, is_done, is_full, lock_at, next, opening, placed, plan_units, stage_at, stepped, unit_nets, units_of, with_stage}
 use Rattle.mgn_world.proofs.Commits.{before_step, has_plan, never_apart, now_in_force, settled}
 use Rattle.mgn_world.proofs.Desks.{plan_held}
@@ -24,7 +28,7 @@ use Rattle.mgn_world.proofs.Effects.{outcome}
 use Rattle.mgn_world.proofs.Frames.{some_same}
 use Rattle.mgn_world.proofs.Locks.{lengthened_at}
 use Rattle.mgn_world.proofs.Simple.{held_desk, session}
-use Rattle.mgn_world.proofs.Standing.{DeskOf, Good, HeldDesk, Owns, Sees, StageOf}
+use Rattle.mgn_world.specs.Standing.{DeskOf, Good, HeldDesk, Owns, Sees, StageOf}
 
 pub good_reached : (w : World) → IsReached w → Good w
 good_reached w r = subst Good (sym r.is) (good_run (opening r.set) r.steps r.gathered (good_opening r.set r.limits))

@@ -14,9 +14,11 @@ use Rattle.mgn_register.specs.declared.plans.Plan.{Plan}
 use Rattle.mgn_register.specs.declared.plans.Plan.TheVariants.{Nothing}
 use Rattle.mgn_register.specs.Plans.{plan_of}
 use Rattle.mgn_world.specs.Claims.{IsAmong, Rests, before_close}
-use Rattle.mgn_world.specs.Stages.{Call, Stage, Idle, Held}
+use Rattle.mgn_world.specs.declared.stages.Call.{Call}
+use Rattle.mgn_world.specs.declared.stages.Stage.{Stage}
+use Rattle.mgn_world.specs.declared.stages.Stage.TheVariants.{Idle, Held}
 use Rattle.mgn_world.specs.World.{World, are_free, desk_at, finished, freed, in_force, lock_at, looked_at, stage_at, taken, unit_found, units_found, units_of, with_stage}
-use Rattle.mgn_world.proofs.Standing.{DeskOf, Good, HeldDesk, IsHoused, Owns, StageOf}
+use Rattle.mgn_world.specs.Standing.{DeskOf, Good, HeldDesk, IsHoused, Owns, StageOf}
 use Rattle.mgn_world.proofs.Frames.{good_after, holder, some_none, some_same}
 use Rattle.mgn_world.proofs.Locks.{among_or, free_at, freed_at, freed_mine, freed_other, taken_long, taken_mine, taken_other}
 use Rattle.mgn_world.proofs.Stays.{plan_now}

@@ -15,8 +15,14 @@ use Rattle.mgn_register.specs.declared.plans.Plan.{Plan}
 use Rattle.mgn_register.specs.declared.plans.Plan.TheVariants.{Nothing, One, Two}
 use Rattle.mgn_register.specs.Plans.{plan_of}
 use Rattle.mgn_world.specs.Claims.{KeepsSets, Switches}
-use Rattle.mgn_world.specs.Stages.{Call, Deed, Seen, Stage, Step, Idle, Held, Looked, Applied, Failed, Ended, Gathered, Begin, Look, Mark, Apply, Commit, Back, End, Gather, Prepare}
-use Rattle.mgn_world.specs.World.{World, applies, are_covered, are_free, are_of, are_stale, backs, begin_on, begins, commits, desk_at, does, does_as, ends, entered, gathers, in_force, is_apart, is_full, is_of, look_on, looks, mark_first, marks, next, no_nets, placed, prepares, stage_at, stepped, units_of}
+use Rattle.mgn_world.specs.declared.stages.Call.{Call}
+use Rattle.mgn_world.specs.declared.stages.Deed.{Deed}
+use Rattle.mgn_world.specs.declared.stages.Deed.TheVariants.{Begin, Look, Mark, Apply, Commit, Back, End, Gather, Prepare}
+use Rattle.mgn_world.specs.declared.stages.Stage.{Stage}
+use Rattle.mgn_world.specs.declared.stages.Stage.TheVariants.{Idle, Held, Looked, Applied, Failed, Ended, Gathered}
+use Rattle.mgn_world.specs.declared.stages.Step.{Step}
+use Rattle.mgn_world.specs.Stages.{Seen}
+use Rattle.mgn_world.specs.World.{World, applies, are_covered, are_free, are_of, are_stale, backs, begin_on, begins, commits, desk_at, does, does_as, ends, entered, gathers, in_force, is_apart, is_full, is_of, look_on, looks, marks, next, no_nets, placed, prepares, stage_at, stepped, units_of}
 use Rattle.mgn_world.proofs.Locks.{lengthened_at}
 
 abbrev Turn : World → World → Type 0
@@ -64,12 +70,8 @@ turn_look : (w : World) (p : ℕ) (st : Stage) → Turn w (looks w p st)
 turn_look w p (Held k) = turn_look_on w p k (plan_of (in_force w) w.state k.command)
 turn_look w p st = same w _ refl refl
 
-turn_mark_first : (w : World) (version : ℕ) (seen : List Seen) → Turn w (mark_first w version seen)
-turn_mark_first w version [] = same w w refl refl
-turn_mark_first w version (x ∷ xs) = choose w (is_of version (desk_at w x.unit)) _ _ (turn_mark_first w version xs) (same w _ refl refl)
-
 turn_mark : (w : World) (st : Stage) → Turn w (marks w st)
-turn_mark w (Looked k l) = turn_mark_first w l.version l.seen
+turn_mark w (Looked k l) = same w _ refl refl
 turn_mark w st = same w _ refl refl
 
 turn_apply : (w : World) (p : ℕ) (st : Stage) → Turn w (applies w p st)
@@ -97,8 +99,7 @@ turn_gather w p t Idle = same w _ refl refl
 turn_gather w p t st = same w _ refl refl
 
 turn_prepare : (w : World) (p u : ℕ) (st : Stage) → Turn w (prepares w p u st)
-turn_prepare w p u (Gathered g) =
-    choose w (nat_lt u (length g.nets) && are_covered (set_at w.sets g.version) g.set (slice_index_or g.nets u no_nets)) _ _ (same w _ refl refl) (same w _ refl refl)
+turn_prepare w p u (Gathered g) = same w _ refl refl
 turn_prepare w p u st = same w _ refl refl
 
 turn_does : (w : World) (p : ℕ) (d : Deed) → Turn w (does w p d)

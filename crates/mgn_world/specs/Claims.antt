@@ -7,7 +7,13 @@ use Rattle.mgn_desk.specs.Desks.{MarkedNets}
 use Rattle.mgn_machine.specs.declared.entry.Entry.{Entry}
 use Rattle.mgn_machine.specs.History.{Legal, replay}
 use Rattle.mgn_machine.specs.State.{AccountState, State}
-use Rattle.mgn_world.specs.Stages.{Call, Deed, Gather, Stage, Step, View, Idle, Held, Looked, Applied, Failed, Ended, Gathered}
+use Rattle.mgn_world.specs.declared.stages.Call.{Call}
+use Rattle.mgn_world.specs.declared.stages.Deed.{Deed}
+use Rattle.mgn_world.specs.declared.stages.Deed.TheVariants.{Gather}
+use Rattle.mgn_world.specs.declared.stages.Stage.{Stage}
+use Rattle.mgn_world.specs.declared.stages.Stage.TheVariants.{Idle, Held, Looked, Applied, Failed, Ended, Gathered}
+use Rattle.mgn_world.specs.declared.stages.Step.{Step}
+use Rattle.mgn_world.specs.Stages.{View}
 use Rattle.mgn_world.specs.World.{World, desk_at, in_force, opening, planned, run, stage_at, unit_nets}
 
 -- the history is legal and replays to the state, the last set is in force, and there are at most 1,000,000 entries

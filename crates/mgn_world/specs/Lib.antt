@@ -1,3 +1,8 @@
 pub mod Stages
 pub mod World
 pub mod Claims
+pub mod Standing
+pub mod Worlds
+pub mod Units
+pub mod DeskMoves
+pub mod Decisions

@@ -28,7 +28,13 @@ use Rattle.mgn_register.specs.declared.plans.UnitChange.{UnitChange}
 use Rattle.mgn_register.specs.Plans.{nets_in, plan_of, planned_nets}
 use Rattle.mgn_pricing.specs.Desks.{four, moves_of}
 use Rattle.mgn_book.specs.BookViews.{sets_after}
-use Rattle.mgn_world.specs.Stages.{Call, Deed, Seen, Stage, Step, View, Idle, Held, Looked, Applied, Failed, Ended, Gathered, Begin, Look, Mark, Apply, Commit, Back, End, Gather, Prepare}
+use Rattle.mgn_world.specs.declared.stages.Call.{Call}
+use Rattle.mgn_world.specs.declared.stages.Deed.{Deed}
+use Rattle.mgn_world.specs.declared.stages.Deed.TheVariants.{Begin, Look, Mark, Apply, Commit, Back, End, Gather, Prepare}
+use Rattle.mgn_world.specs.declared.stages.Stage.{Stage}
+use Rattle.mgn_world.specs.declared.stages.Stage.TheVariants.{Idle, Held, Looked, Applied, Failed, Ended, Gathered}
+use Rattle.mgn_world.specs.declared.stages.Step.{Step}
+use Rattle.mgn_world.specs.Stages.{Gathering, Seen, View}
 
 -- The sets by version, the machine's state and history; by unit a desk, which is empty or has nets under the set of a
 -- version, and the place of the session that holds it; and the stages of the 16 sessions. A unit has one holder at
@@ -195,14 +201,14 @@ abbrev pub is_of : ℕ → Option MarkedNets → Bool
 is_of version None = false
 is_of version (Some m) = m.version == version
 
-abbrev pub mark_first : World → ℕ → List Seen → World
-mark_first w version [] = w
-mark_first w version (x ∷ xs) =
-    if is_of version (desk_at w x.unit) then mark_first w version xs
-    else record w { desks = slice_set w.desks x.unit (Some record { version = version; nets = x.nets }) }
+abbrev pub mark_first : ℕ → List Seen → List (Option MarkedNets) → List (Option MarkedNets)
+mark_first version [] desks = desks
+mark_first version (x ∷ xs) desks =
+    if is_of version (slice_index_or desks x.unit None) then mark_first version xs desks
+    else slice_set desks x.unit (Some record { version = version; nets = x.nets })
 
 abbrev pub marks : World → Stage → World
-marks w (Looked k l) = mark_first w l.version l.seen
+marks w (Looked k l) = record w { desks = mark_first l.version l.seen w.desks }
 marks w _ = w
 
 -- Apply: where all desks of the plan are of the looked version, their nets become those after it.
@@ -304,7 +310,7 @@ gathers w p set Idle = with_stage w p (Gathered record {
   set = set;
   version = w.state.version;
   nets = map (unit_nets (in_force w) w.state.accounts) (range_with_len 0 w.state.units);
-  prepared = [];
+  prepared = replicate w.state.units false;
 })
 gathers w p set _ = w
 
@@ -316,11 +322,15 @@ are_covered old new nets =
 abbrev pub no_nets : FourNets
 no_nets = record { lots = []; buys = []; sales = []; all = [] }
 
+-- what is gathered, once a unit is worked out
+abbrev pub prepared_more : Tables → ℕ → Gathering → Gathering
+prepared_more old u g =
+    if nat_lt u (length g.nets) && are_covered old g.set (slice_index_or g.nets u no_nets) then
+    record g { prepared = slice_set g.prepared u true }
+    else g
+
 abbrev pub prepares : World → ℕ → ℕ → Stage → World
-prepares w p u (Gathered g) =
-    if nat_lt u (length g.nets) && are_covered (set_at w.sets g.version) g.set (slice_index_or g.nets u no_nets) then
-    with_stage w p (Gathered record g { prepared = u ∷ g.prepared })
-    else w
+prepares w p u (Gathered g) = with_stage w p (Gathered (prepared_more (set_at w.sets g.version) u g))
 prepares w p u _ = w
 
 -- A step of the session at a place. Where it is not the next one of the session's call, nothing changes.

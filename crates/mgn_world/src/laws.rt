@@ -8,7 +8,11 @@ ghost use Rattle.mgn_machine.specs.declared.request.Request.TheVariants.{Do};
 ghost use Rattle.mgn_machine.specs.Step.{step};
 ghost use Rattle.mgn_register.specs.Plans.{plan_of};
 ghost use Rattle.mgn_world.specs.Claims.{HasPlan, IsAmong, IsIn, IsReached, IsReplayed, KeepsSets, Rests, Switches, before_close, shown_now};
-ghost use Rattle.mgn_world.specs.Stages.{Applied, Call, Commit, Ended, Failed, Step, View};
+ghost use Rattle.mgn_world.specs.declared.stages.Call.{Call};
+ghost use Rattle.mgn_world.specs.declared.stages.Deed.TheVariants.{Commit};
+ghost use Rattle.mgn_world.specs.declared.stages.Stage.TheVariants.{Applied, Ended, Failed};
+ghost use Rattle.mgn_world.specs.declared.stages.Step.{Step};
+ghost use Rattle.mgn_world.specs.Stages.{View};
 ghost use Rattle.mgn_world.specs.World.{World, are_stale, desk_at, in_force, is_apart, is_full, lock_at, next, opening, placed, plan_units, run, stage_at, units_of};
 
 /// A law, and no work: after every list of steps of any sessions, however they interleave, the history is legal and the

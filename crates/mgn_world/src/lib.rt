@@ -1,4 +1,15 @@
 //! The world of sessions whose steps interleave, and what holds of it after every list of steps.
 #![tactic(auto)]
 
+mod calls;
+mod deciding;
+mod gathering;
 pub mod laws;
+mod run;
+pub mod stages;
+mod switches;
+mod unit_desks;
+mod units;
+mod world;
+
+pub use world::World;

@@ -11,7 +11,10 @@ use Rattle.mgn_machine.specs.State.{AccountState, State}
 use Rattle.mgn_register.specs.declared.plans.Plan.TheVariants.{Nothing}
 use Rattle.mgn_register.specs.Plans.{plan_of}
 use Rattle.mgn_world.specs.Claims.{HasPlan, IsAmong, IsReplayed, Rests, before_close}
-use Rattle.mgn_world.specs.Stages.{Call, Stage, View, Idle, Held, Looked, Applied, Failed, Ended, Gathered}
+use Rattle.mgn_world.specs.declared.stages.Call.{Call}
+use Rattle.mgn_world.specs.declared.stages.Stage.{Stage}
+use Rattle.mgn_world.specs.declared.stages.Stage.TheVariants.{Idle, Held, Looked, Applied, Failed, Ended, Gathered}
+use Rattle.mgn_world.specs.Stages.{View}
 use Rattle.mgn_world.specs.World.{World, desk_at, in_force, lock_at, plan_units, seen_at, stage_at, units_of}
 
 -- the desk of a unit that a session holds, by the session's stage

@@ -1,0 +1,30 @@
+-- Copies of the nets of margin units, for what is worked out before a set comes into force.
+use Rattle.std.specs.Prelude.{◌≡◌, ℤ, List, length, All}
+use Rattle.mgn_params.specs.Tables.{Tables}
+use Rattle.mgn_span.specs.Positions.{IsNet}
+use Rattle.mgn_unit.specs.declared.prepared.CopiedNets.{CopiedNets}
+use Rattle.mgn_unit.specs.declared.row.PreparedUnit.{PreparedUnit}
+use Rattle.mgn_unit.specs.declared.row.Row.{Row}
+use Rattle.mgn_unit.specs.NewSets.{carried}
+
+-- the nets of a row
+abbrev pub copied : Row → CopiedNets
+copied row = record { lots = row.lots.nets; buys = row.buys.nets; sales = row.sales.nets; all = row.all.nets }
+
+-- one net for each contract of a set, within its limit
+pub record IsCopied (set : Tables) (nets : List ℤ) : Type 0 where
+  pub one_each : length nets ≡ length set.contracts
+  pub small : All IsNet nets
+
+pub record AreCopied (set : Tables) (nets : CopiedNets) : Type 0 where
+  pub lots : IsCopied set nets.lots
+  pub buys : IsCopied set nets.buys
+  pub sales : IsCopied set nets.sales
+  pub all : IsCopied set nets.all
+
+-- what was prepared of a unit stands beside the nets that it was worked out from, by the contracts' names
+pub record AreCarried (old new : Tables) (nets : CopiedNets) (prepared : PreparedUnit) : Type 0 where
+  pub lots : prepared.lots.nets ≡ carried old new nets.lots
+  pub buys : prepared.buys.nets ≡ carried old new nets.buys
+  pub sales : prepared.sales.nets ≡ carried old new nets.sales
+  pub all : prepared.all.nets ≡ carried old new nets.all

@@ -1,0 +1,130 @@
+-- The world after commits of the kept one.
+use Rattle.std.proofs.Common.{◌≡◌, ◌<◌, ◌+◌, ◌∙◌, ◌++◌, ℕ, Bool, true, false, All, Option, None, Some, List, [], ◌∷◌, length, length-append, map, replicate, get_or, sym, ap, subst, refl, arith}
+use Rattle.std.specs.Prelude.{◌&&◌, if◌then◌else◌, nat_lt, slice_index_or, slice_set}
+use Rattle.std.specs.List.{range_with_len}
+use Rattle.std.proofs.lemmas.List.{ext_get_or, get_or-map, length-map}
+use Rattle.std.proofs.lemmas.List.FromFn.{get_or-map-range_with_len, length-map-range_with_len}
+use Rattle.mgn_params.specs.Shelves.{set_at}
+use Rattle.mgn_params.specs.Tables.{Tables}
+use Rattle.mgn_desk.specs.Desks.{MarkedNets}
+use Rattle.mgn_desk.specs.Portfolios.{AreFourNets, FourNets}
+use Rattle.mgn_machine.specs.declared.entry.Entry.{Entry}
+use Rattle.mgn_machine.specs.declared.reply.Reply.{Reply}
+use Rattle.mgn_machine.specs.declared.request.Request.TheVariants.{Switch}
+use Rattle.mgn_machine.specs.History.{calls, entry, recorded}
+use Rattle.mgn_machine.specs.State.{State}
+use Rattle.mgn_machine.specs.Step.{step}
+use Rattle.mgn_unit.specs.declared.row.Row.{Row}
+use Rattle.mgn_unit.specs.Prepared.{copied}
+use Rattle.mgn_unit.specs.Rows.{no_row, row_of}
+use Rattle.mgn_register.specs.BookStates.{BookState, IsKept}
+use Rattle.mgn_book.specs.BookViews.{BookView, Committed, Stands, sets_after}
+use Rattle.mgn_book.specs.declared.book.Outcome.TheVariants.{Done as Settled}
+use Rattle.mgn_world.specs.declared.stages.Call.{Call}
+use Rattle.mgn_world.specs.declared.stages.Stage.{Stage}
+use Rattle.mgn_world.specs.declared.stages.Stage.TheVariants.{Idle, Applied, Ended, Failed, Gathered}
+use Rattle.mgn_world.specs.declared.world.World.{World as Kept}
+use Rattle.mgn_world.specs.Decisions.{IsApplied}
+use Rattle.mgn_world.specs.DeskMoves.{desk_shown}
+use Rattle.mgn_world.specs.Stages.{Gathering, View, shown_nets}
+use Rattle.mgn_world.specs.World.{World, are_covered, are_stale, commits, entered, gathers, in_force, is_full, lengthened, no_nets, prepared_more, prepares, stage_at, stepped, unit_nets, with_stage}
+use Rattle.mgn_world.specs.Worlds.{IsGathered, IsSeen, IsSound, IsStage, shown}
+use Rattle.mgn_world.proofs.Decided.{not_full}
+use Rattle.mgn_world.proofs.Looking.{four_are}
+
+-- Applied calls
+
+pub applied_of : (st : Stage) → IsApplied st → (k : Call) × ((l : View) × (st ≡ Applied k l))
+applied_of (Applied k l) h = (k, (l, refl))
+applied_of st h = absurd h
+
+pub stale_is : (w : World) (p : ℕ) (k : Call) (l : View) (stages : List Stage) → stage_at w p ≡ Applied k l → is_full w ≡ false → are_stale w.state.version w.desks l.seen ≡ true → stages ≡ slice_set w.stages p (Failed k l true) → record w { stages = stages } ≡ commits w p (stage_at w p)
+stale_is w p k l stages is room stale put =
+    (λ j. record w { stages = put j })
+    ∙ sym (by (is_full w) (are_stale w.state.version w.desks l.seen) room stale _)
+    ∙ ap (commits w p) (sym is)
+  where
+    by : (a b : Bool) → a ≡ false → b ≡ true → (x : World) → (if a then with_stage w p (Failed k l false) else if b then with_stage w p (Failed k l true) else x) ≡ with_stage w p (Failed k l true)
+    by true b e f x = cc
+    by false true e f x = refl
+    by false false e f x = cc
+
+-- Gather
+
+rows_nets : (t : Tables) (b : BookState) → IsKept t b → map (λ (row : Row). shown_nets (copied row)) b.rows ≡ map (unit_nets t b.state.accounts) (range_with_len 0 b.state.units)
+rows_nets t b kept =
+    ext_get_or none (map copy b.rows) (map (unit_nets t b.state.accounts) (range_with_len 0 b.state.units))
+    (length-map b.rows copy ∙ sym kept.units ∙ sym (length-map-range_with_len (unit_nets t b.state.accounts) 0 b.state.units))
+    (λ i inside. let less : i < length b.rows = omega (arith, inside, length-map b.rows copy) in
+    get_or-map copy b.rows i (no_row t) none less
+    ∙ ap copy (kept.rows i (no_row t) less).is
+    ∙ sym (get_or-map-range_with_len (unit_nets t b.state.accounts) 0 b.state.units i i none (omega (arith, less, kept.units)) (omega arith)))
+  where
+    copy : Row → FourNets
+    copy row = shown_nets (copied row)
+
+    none : FourNets
+    none = record { lots = []; buys = []; sales = []; all = [] }
+
+pub gathers_is : (w : Kept) (p : ℕ) (t : Tables) (version : ℕ) (g : Gathering) (stages : List Stage) → IsSound w → stage_at (shown w) p ≡ Idle → version ≡ w.book.book.state.version
+    → g ≡ record { set = t; version = version; nets = map (λ (row : Row). shown_nets (copied row)) w.book.book.rows; prepared = replicate (length w.book.book.rows) false } → stages ≡ slice_set w.stages.items p (Gathered g)
+    → record (shown w) { stages = stages } ≡ gathers (shown w) p t (stage_at (shown w) p)
+gathers_is w p t version g stages sound is now gathered put =
+    (λ j. record (shown w) { stages = put j })
+    ∙ (λ j. with_stage (shown w) p (Gathered (gathered j)))
+    ∙ (λ j. with_stage (shown w) p (Gathered record { set = t; version = now j; nets = rows_nets (set_at w.shelf w.book.book.state.version) w.book.book sound.book.kept j; prepared = replicate (sym sound.book.kept.units j) false }))
+    ∙ ap (gathers (shown w) p t) (sym is)
+
+pub gathered_sound : (w : Kept) (t : Tables) (version : ℕ) (g : Gathering) → IsSound w → version ≡ w.book.book.state.version → g ≡ record { set = t; version = version; nets = map (λ (row : Row). shown_nets (copied row)) w.book.book.rows; prepared = replicate (length w.book.book.rows) false } → IsGathered w.shelf g
+gathered_sound w t version g sound now gathered = subst (IsGathered w.shelf) (sym (gathered ∙ (λ j. record { set = t; version = now j; nets = map (λ (row : Row). shown_nets (copied row)) w.book.book.rows; prepared = replicate (length w.book.book.rows) false }))) record {
+  inside = omega (arith, sound.book.shown);
+  nets = λ i d inside. let less : i < length w.book.book.rows = omega (arith, inside, length-map w.book.book.rows (λ (row : Row). shown_nets (copied row))) in
+      let u = set_at w.shelf w.book.book.state.version in
+      subst (AreFourNets u) (sym (get_or-map (λ (row : Row). shown_nets (copied row)) w.book.book.rows i (no_row u) d less)) (four_are u _ (sound.book.kept.rows i (no_row u) less).limits);
+}
+
+-- Prepare
+
+pub prepares_is : (w : World) (p u : ℕ) (g now : Gathering) (stages : List Stage) → stage_at w p ≡ Gathered g → now ≡ prepared_more (set_at w.sets g.version) u g → stages ≡ slice_set w.stages p (Gathered now) → record w { stages = stages } ≡ prepares w p u (stage_at w p)
+prepares_is w p u g now stages is more put =
+    (λ j. record w { stages = put j }) ∙ (λ j. with_stage w p (Gathered (more j))) ∙ ap (prepares w p u) (sym is)
+
+pub prepared_sound : (sets : List Tables) (t : Tables) (u : ℕ) (g : Gathering) → IsGathered sets g → IsGathered sets (prepared_more t u g)
+prepared_sound sets t u g is = by (nat_lt u (length g.nets) && are_covered t g.set (slice_index_or g.nets u no_nets))
+  where
+    by : (b : Bool) → IsGathered sets (if b then record g { prepared = slice_set g.prepared u true } else g)
+    by true = record { inside = is.inside; nets = is.nets }
+    by false = is
+
+-- The commit of a set
+
+pub switched_is : (w v : Kept) (p session number : ℕ) (g : Gathering) (t : Tables) (place : ℕ) (reply : Reply) (book : BookView) (shelf : List Tables) → session ≡ p + 1 → number ≡ calls session w.book.history + 1 → t ≡ g.set → Stands shelf book
+    → Committed shelf w.book session number (Switch t) (Settled place reply) book → shelf ≡ sets_after w.shelf (Switch t) reply → v.shelf ≡ shelf → v.book ≡ book
+    → map desk_shown v.desks.items ≡ lengthened (length book.book.rows) (map desk_shown w.desks.items) → v.locks.items ≡ lengthened (length book.book.rows) w.locks.items → v.stages.items ≡ slice_set w.stages.items p Idle
+    → shown v ≡ with_stage (entered (shown w) p (Switch g.set)) p Idle
+switched_is w v p session number g t place reply book shelf s n set stands did put own same desks locks stages =
+    (λ j. record {
+      sets = (own ∙ put) j;
+      state = (same j).book.state;
+      history = (ap (λ (x : BookView). x.history) same ∙ did.2 ∙ (λ i. w.book.history ++ entry (s i) ((n ∙ ap (λ (x : ℕ). calls x w.book.history + 1) s) i) (recorded (Switch t) reply) reply ∷ [])) j;
+      desks = (desks ∙ ap (λ (k : ℕ). lengthened k (map desk_shown w.desks.items)) (sym stands.kept.units)) j;
+      locks = (locks ∙ ap (λ (k : ℕ). lengthened k w.locks.items) (sym stands.kept.units)) j;
+      stages = stages j;
+    })
+    ∙ ap (λ (after : State × Reply). with_stage (stepped (shown w) p (Switch t) after) p Idle) did.1
+    ∙ ap (λ (x : Tables). with_stage (stepped (shown w) p (Switch x) (step w.shelf w.book.book.state (Switch x))) p Idle) set
+    ∙ sym (ap (λ (b : Bool). with_stage (if b then shown w else stepped (shown w) p (Switch g.set) (step w.shelf w.book.book.state (Switch g.set))) p Idle) room)
+  where
+    room : is_full (shown w) ≡ false
+    room =
+        let one = ap (λ (xs : List Entry). length xs) did.2 ∙ length-append w.book.history (entry session number (recorded (Switch t) reply) reply ∷ []) in
+        not_full (length w.book.history) (omega (arith, one, stands.few))
+
+-- what was gathered, as the code hands it on
+abbrev pub gathering_or : Gathering → Option Gathering → Gathering
+gathering_or d None = d
+gathering_or d (Some g) = g
+
+pub settled_stage : (sets : List Tables) (units : ℕ) (k : Call) (l : View) (done : Bool) → IsSeen sets units l → IsStage sets units (if done then Ended k else Failed k l false)
+settled_stage sets units k l true is = tt
+settled_stage sets units k l false is = is

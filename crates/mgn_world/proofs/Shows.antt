@@ -1,0 +1,39 @@
+-- What desks show once one of them has moved.
+use Rattle.std.proofs.Common.{◌≡◌, ◌<◌, ◌+◌, ◌++◌, ◌∙◌, ℕ, zero, suc, arith, drop, take, refl, Option, None, Some, List, [], ◌∷◌, length, map, get_or, sym, ap}
+use Rattle.std.specs.Prelude.{slice_index_or, slice_set}
+use Rattle.std.proofs.lemmas.List.{get_or-map, map-set}
+use Rattle.mgn_params.specs.Tables.{Tables}
+use Rattle.mgn_desk.specs.declared.moves.Moves.{Moves}
+use Rattle.mgn_desk.specs.Desks.{DeskRows, MarkedNets}
+use Rattle.std.specs.Prelude.{All, replicate}
+use Rattle.std.proofs.lemmas.List.Elements.{All-replicate}
+use Rattle.mgn_world.specs.declared.stages.Stage.TheVariants.{Idle}
+use Rattle.mgn_world.specs.DeskMoves.{AreDesks, IsReadyFor, desk_shown}
+use Rattle.mgn_world.specs.Worlds.{IsStage}
+
+pub shows_set : (desks : List DeskRows) (u : ℕ) (d e : DeskRows) (f : Option MarkedNets → Option MarkedNets) → u < length desks → desk_shown d ≡ f (desk_shown (slice_index_or desks u e)) → map desk_shown (slice_set desks u d) ≡ slice_set (map desk_shown desks) u (f (slice_index_or (map desk_shown desks) u None))
+shows_set desks u d e f inside is =
+    map-set desk_shown desks u d ∙ ap (slice_set (map desk_shown desks) u) (is ∙ ap f (sym (get_or-map desk_shown desks u e None inside)))
+
+-- a desk that can take moves is there
+pub ready_inside : (set : Tables) (version : ℕ) (moves : Moves) (desks : List DeskRows) (u : ℕ) → IsReadyFor set version moves (slice_index_or (map desk_shown desks) u None) → u < length desks
+ready_inside set version moves [] u h = absurd h
+ready_inside set version moves (d ∷ ds) zero h = omega arith
+ready_inside set version moves (d ∷ ds) (suc u) h = omega (arith, ready_inside set version moves ds u h)
+
+-- one more place of a list changed by a function
+change_next : {X : Type 0} (f : X → X) (d : X) (xs : List X) (i : ℕ) → i < length xs → slice_set (map f (take i xs) ++ drop i xs) i (f (get_or (map f (take i xs) ++ drop i xs) i d)) ≡ map f (take (suc i) xs) ++ drop (suc i) xs
+change_next f d [] i inside = absurd (omega (arith, inside))
+change_next f d (x ∷ xs) zero inside = refl
+change_next f d (x ∷ xs) (suc i) inside = ap (λ (ys : List _). f x ∷ ys) (change_next f d xs i (omega (arith, inside)))
+
+pub change_more : {X : Type 0} (f : X → X) (d : X) (xs : List X) (i : ℕ) → i < length xs → slice_set (map f (take i xs) ++ drop i xs) i (f (get_or (map f (take i xs) ++ drop i xs) i d)) ≡ map f (take (i + 1) xs) ++ drop (i + 1) xs
+change_more f d xs i inside =
+    let e : suc i ≡ i + 1 = omega arith in
+    change_next f d xs i inside ∙ ap (λ (n : ℕ). map f (take n xs) ++ drop n xs) e
+
+pub no_desks : (sets : List Tables) → AreDesks sets []
+no_desks sets = record { numbered = λ u d inside. absurd (omega (arith, inside)); right = λ i d inside. absurd (omega (arith, inside)) }
+
+pub sixteen_idle : (sets : List Tables) (units n : ℕ) → All (IsStage sets units) (replicate n Idle)
+sixteen_idle sets units n = All-replicate (IsStage sets units) n Idle tt

@@ -1,0 +1,193 @@
+-- What stays true of the kept world beside its definition.
+use Rattle.std.proofs.Common.{Global, Vec, Some, Result, Ok, Err, ◌≡◌, ◌<◌, ◌≤◌, ◌+◌, ◌-◌, ◌++◌, ◌⊎◌, inl, inr, ⊎_elim, ◌∙◌, ℕ, zero, suc, true, false, All, List, [], ◌∷◌, None, Option, get_or, length, replicate, refl, sym, ap, subst, arith}
+use Rattle.std.specs.Prelude.{if◌then◌else◌, Bool, slice_index_or, slice_set}
+use Rattle.std.specs.Result.{OnOk}
+use Rattle.std.proofs.lemmas.List.{append-nil, length-set, append_assoc, get_or_append_left, length-append, replicate-append-replicate}
+use Rattle.std.proofs.lemmas.List.Elements.{All-append, All-set}
+use Rattle.mgn_params.specs.Shelves.{set_at}
+use Rattle.mgn_params.specs.Tables.{Tables, no_tables}
+use Rattle.mgn_desk.specs.declared.desk.Marked.{Marked}
+use Rattle.mgn_desk.specs.Portfolios.{AreFourNets, ArePortfolios}
+use Rattle.mgn_machine.specs.declared.reply.Reply.{Reply}
+use Rattle.mgn_machine.specs.declared.reply.Reply.TheVariants.{Done as Settled, Figures, NewSet, Refused, Statement, Totals}
+use Rattle.mgn_machine.specs.declared.request.Request.TheVariants.{Switch}
+use Rattle.mgn_desk.specs.Desks.{DeskRows, MarkedNets}
+use Rattle.mgn_pricing.proofs.Fitting.{default-is}
+use Rattle.mgn_book.specs.BookViews.{Stands, sets_after}
+use Rattle.mgn_world.specs.declared.world.World.{World as Kept}
+use Rattle.mgn_world.specs.declared.stages.Call.{Call}
+use Rattle.mgn_world.specs.declared.stages.Stage.{Stage}
+use Rattle.mgn_world.specs.declared.stages.Stage.TheVariants.{Idle, Held, Looked, Applied, Failed, Ended, Gathered}
+use Rattle.mgn_world.specs.DeskMoves.{AreDesks, IsRightIn, desk_shown}
+use Rattle.mgn_world.specs.Stages.{Seen, View}
+use Rattle.mgn_world.specs.World.{World, applies, are_of, planned_desks, stage_at}
+use Rattle.mgn_world.specs.Worlds.{CanFollowPlan, IsSeen, IsSound, IsStage}
+
+-- the stage of a session, as the code reads it
+pub at_stage : (stages : List Stage) (p : ℕ) (x st : Stage) → p < length stages → x ≡ slice_index_or stages p x → x ≡ st → slice_index_or stages p Idle ≡ st
+at_stage stages p x st inside e is = default-is stages p Idle x inside ∙ sym e ∙ is
+
+pub of_stage : (sets : List Tables) (units : ℕ) (stages : List Stage) (p : ℕ) (st : Stage) → p < length stages → All (IsStage sets units) stages → slice_index_or stages p Idle ≡ st → IsStage sets units st
+of_stage sets units stages p st inside all is = subst (IsStage sets units) is (all p Idle inside)
+
+-- one session in another stage
+pub stages_set : (sets : List Tables) (m n : ℕ) (stages : List Stage) (p : ℕ) (st : Stage) → m ≡ n → IsStage sets n st → All (IsStage sets n) stages → All (IsStage sets m) (slice_set stages p st)
+stages_set sets m n stages p st e is all = subst (λ (x : ℕ). All (IsStage sets x) (slice_set stages p st)) (sym e) (All-set (IsStage sets n) stages p st is all)
+
+pub applies_is : (w : World) (p : ℕ) (k : Call) (l : View) (desks : List (Option MarkedNets)) (stages : List Stage) → stage_at w p ≡ Looked k l → are_of l.version w.desks l.seen ≡ true → desks ≡ planned_desks l.plan w.desks → stages ≡ slice_set w.stages p (Applied k l)
+    → record w { desks = desks; stages = stages } ≡ applies w p (stage_at w p)
+applies_is w p k l desks stages is of moved set =
+    (λ j. record w { desks = moved j; stages = set j })
+    ∙ sym (ap (λ (b : Bool). if b then record w { desks = planned_desks l.plan w.desks; stages = slice_set w.stages p (Applied k l) } else w) of)
+    ∙ ap (applies w p) (sym is)
+
+pub after_back : (sets : List Tables) (units : ℕ) (k : Call) (again : Bool) → IsStage sets units (if again then Held k else Ended k)
+after_back sets units k true = tt
+after_back sets units k false = tt
+
+-- Desks and holders of units that were made.
+
+pub one_none_more : {X : Type 0} (xs now : List (Option X)) (i : ℕ) → length xs ≤ i → now ≡ xs ++ replicate (i - length xs) None → now ++ None ∷ [] ≡ xs ++ replicate (i + 1 - length xs) None
+one_none_more xs now i from so_far =
+    let e : i - length xs + 1 ≡ i + 1 - length xs = omega (arith, from) in
+    ap (λ (ys : List _). ys ++ None ∷ []) so_far ∙ append_assoc xs (replicate (i - length xs) None) (None ∷ [])
+    ∙ ap (λ (ys : List _). xs ++ ys) (replicate-append-replicate (i - length xs) 1 None ∙ ap (λ (n : ℕ). replicate n None) e)
+
+get_or-append-last : (xs : List DeskRows) (y x : DeskRows) → get_or (xs ++ y ∷ []) (length xs) x ≡ y
+get_or-append-last [] y x = refl
+get_or-append-last (z ∷ xs) y x = get_or-append-last xs y x
+
+less_or : (a b : ℕ) → (a < b) ⊎ (b ≤ a)
+less_or zero zero = inr (omega arith)
+less_or zero (suc b) = inl (omega arith)
+less_or (suc a) zero = inr (omega arith)
+less_or (suc a) (suc b) = ⊎_elim (λ h. inl (omega (arith, h))) (λ h. inr (omega (arith, h))) (less_or a b)
+
+pub desk_pushed : (sets : List Tables) (desks : List DeskRows) (d : DeskRows) → d.unit ≡ length desks → d.marked ≡ None → AreDesks sets desks → AreDesks sets (desks ++ d ∷ [])
+desk_pushed sets desks d unit empty are = record {
+  numbered = λ u x inside. by u x inside (less_or u (length desks));
+  right = All-append (λ (y : DeskRows). IsRightIn sets y.marked) desks (d ∷ []) are.right (λ i x inside. last i x inside);
+}
+  where
+    last : (i : ℕ) (x : DeskRows) → i < 1 → IsRightIn sets (get_or (d ∷ []) i x).marked
+    last zero x inside = subst (IsRightIn sets) (sym empty) tt
+    last (suc i) x inside = absurd (omega (arith, inside))
+
+    by : (u : ℕ) (x : DeskRows) → u < length (desks ++ d ∷ []) → (u < length desks) ⊎ (length desks ≤ u) → (get_or (desks ++ d ∷ []) u x).unit ≡ u
+    by u x inside (inl less) = ap (λ (y : DeskRows). y.unit) (get_or_append_left desks (d ∷ []) x u less) ∙ are.numbered u x less
+    by u x inside (inr more) =
+        let e : length desks ≡ u = omega (arith, more, inside, length-append desks (d ∷ [])) in
+        subst (λ (i : ℕ). (get_or (desks ++ d ∷ []) i x).unit ≡ i) e (ap (λ (y : DeskRows). y.unit) (get_or-append-last desks d x) ∙ unit)
+
+-- the units that got a place
+pub left : (units i n : ℕ) → units ≤ i → n ≤ i → (units ≤ n → i ≡ n) → (n ≤ units → i ≤ units) → i - n ≡ units - n
+left units i n over from stays upto = ⊎_elim
+    (λ (h : units < n). let e : i ≡ n = stays (omega (arith, h)) in omega (arith, e, h))
+    (λ (h : n ≤ units). let e : i ≤ units = upto h in omega (arith, e, h, over))
+    (less_or units n)
+
+-- more units are there
+seen_more : (sets : List Tables) (m n : ℕ) (l : View) → m ≤ n → IsSeen sets m l → IsSeen sets n l
+seen_more sets m n l le is = record {
+  inside = is.inside;
+  there = λ i d inside. let less = is.there i d inside in omega (arith, less, le);
+  nets = is.nets;
+  plan = is.plan;
+}
+
+stage_more : (sets : List Tables) (m n : ℕ) (st : Stage) → m ≤ n → IsStage sets m st → IsStage sets n st
+stage_more sets m n Idle le is = tt
+stage_more sets m n (Held k) le is = tt
+stage_more sets m n (Looked k l) le is = seen_more sets m n l le is
+stage_more sets m n (Applied k l) le is = seen_more sets m n l le is
+stage_more sets m n (Failed k l again) le is = seen_more sets m n l le is
+stage_more sets m n (Ended k) le is = tt
+stage_more sets m n (Gathered g) le is = is
+
+pub stages_more : (sets : List Tables) (m n : ℕ) (stages : List Stage) → m ≤ n → All (IsStage sets m) stages → All (IsStage sets n) stages
+stages_more sets m n stages le all i d inside = stage_more sets m n (get_or stages i d) le (all i d inside)
+
+pub housed_sound : (w v : Kept) → IsSound w → v.shelf ≡ w.shelf → Stands v.shelf v.book → v.stages ≡ w.stages → AreDesks w.shelf v.desks.items → length w.desks.items ≤ length v.desks.items → IsSound v
+housed_sound w v sound shelf stands stages desks more = record {
+  book = stands;
+  sixteen = ap (λ (x : Vec Stage Global). length x.items) stages ∙ sound.sixteen;
+  desks = subst (λ (sets : List Tables). AreDesks sets v.desks.items) (sym shelf) desks;
+  stages = subst (λ (sets : List Tables). All (IsStage sets (length v.desks.items)) v.stages.items) (sym shelf)
+      (subst (λ (x : Vec Stage Global). All (IsStage w.shelf (length v.desks.items)) x.items) (sym stages) (stages_more w.shelf (length w.desks.items) (length v.desks.items) w.stages.items more sound.stages));
+}
+
+pub on_both : {T E A B C : Type 0} (r : Result T E) → (A → B → C) → OnOk r A → OnOk r B → OnOk r C
+on_both (Ok x) f a b = f a b
+on_both (Err e) f a b = tt
+
+-- one session in another stage, after a step of the book
+pub after_sound : (w v : Kept) (p : ℕ) (st : Stage) → IsSound w → v.shelf ≡ w.shelf → Stands v.shelf v.book → v.desks ≡ w.desks → IsStage w.shelf (length w.desks.items) st → v.stages.items ≡ slice_set w.stages.items p st → IsSound v
+after_sound w v p st sound shelf stands desks is put = record {
+  book = stands;
+  sixteen = ap (λ (xs : List Stage). length xs) put ∙ length-set w.stages.items p st ∙ sound.sixteen;
+  desks = subst (λ (sets : List Tables). AreDesks sets v.desks.items) (sym shelf) (subst (λ (x : Vec DeskRows Global). AreDesks w.shelf x.items) (sym desks) sound.desks);
+  stages = subst (λ (sets : List Tables). All (IsStage sets (length v.desks.items)) v.stages.items) (sym shelf)
+      (subst (λ (x : Vec DeskRows Global). All (IsStage w.shelf (length x.items)) v.stages.items) (sym desks)
+      (subst (All (IsStage w.shelf (length w.desks.items))) (sym put) (stages_set w.shelf (length w.desks.items) (length w.desks.items) w.stages.items p st refl is sound.stages)));
+}
+
+-- more sets are there
+set_before : (sets more : List Tables) (i : ℕ) → i < length sets → set_at (sets ++ more) i ≡ set_at sets i
+set_before sets more i inside = get_or_append_left sets more (no_tables []) i inside
+
+within_more : (sets more : List Tables) (i : ℕ) → i < length sets → i < length (sets ++ more)
+within_more sets more i inside = omega (arith, inside, length-append sets more)
+
+right_more : (sets more : List Tables) (m : Option Marked) → IsRightIn sets m → IsRightIn (sets ++ more) m
+right_more sets more None is = tt
+right_more sets more (Some m) is = (within_more sets more m.version is.0, subst (λ (t : Tables). ArePortfolios t m.portfolios) (sym (set_before sets more m.version is.0)) is.1)
+
+seen_later : (sets more : List Tables) (n : ℕ) (l : View) → IsSeen sets n l → IsSeen (sets ++ more) n l
+seen_later sets more n l is =
+    let same = sym (set_before sets more l.version is.inside) in
+    record {
+      inside = within_more sets more l.version is.inside;
+      there = is.there;
+      nets = subst (λ (t : Tables). All (λ (x : Seen). AreFourNets t x.nets) l.seen) same is.nets;
+      plan = subst (λ (t : Tables). CanFollowPlan t l.seen l.plan) same is.plan;
+    }
+
+stage_later : (sets more : List Tables) (n : ℕ) (st : Stage) → IsStage sets n st → IsStage (sets ++ more) n st
+stage_later sets more n Idle is = tt
+stage_later sets more n (Held k) is = tt
+stage_later sets more n (Looked k l) is = seen_later sets more n l is
+stage_later sets more n (Applied k l) is = seen_later sets more n l is
+stage_later sets more n (Failed k l again) is = seen_later sets more n l is
+stage_later sets more n (Ended k) is = tt
+stage_later sets more n (Gathered g) is = record {
+  inside = within_more sets more g.version is.inside;
+  nets = subst (λ (t : Tables). All (AreFourNets t) g.nets) (sym (set_before sets more g.version is.inside)) is.nets;
+}
+
+after_more : (sets : List Tables) (t : Tables) (reply : Reply) → (more : List Tables) × (sets_after sets (Switch t) reply ≡ sets ++ more)
+after_more sets t (NewSet told) = (t ∷ [], refl)
+after_more sets t Settled = ([], sym (append-nil sets))
+after_more sets t (Figures figures) = ([], sym (append-nil sets))
+after_more sets t (Totals totals) = ([], sym (append-nil sets))
+after_more sets t (Statement told) = ([], sym (append-nil sets))
+after_more sets t (Refused why) = ([], sym (append-nil sets))
+
+pub grown_sound : (w v : Kept) (p : ℕ) (t : Tables) (reply : Reply) → IsSound w → v.shelf ≡ sets_after w.shelf (Switch t) reply → Stands v.shelf v.book → v.desks ≡ w.desks → v.stages.items ≡ slice_set w.stages.items p Idle → IsSound v
+grown_sound w v p t reply sound shelf stands desks put =
+    let after = after_more w.shelf t reply in
+    let now : v.shelf ≡ w.shelf ++ after.0 = shelf ∙ after.1 in
+    record {
+      book = stands;
+      sixteen = ap (λ (xs : List Stage). length xs) put ∙ length-set w.stages.items p Idle ∙ sound.sixteen;
+      desks = subst (λ (sets : List Tables). AreDesks sets v.desks.items) (sym now) (subst (λ (x : Vec DeskRows Global). AreDesks (w.shelf ++ after.0) x.items) (sym desks) record {
+        numbered = sound.desks.numbered;
+        right = λ i d inside. right_more w.shelf after.0 (get_or w.desks.items i d).marked (sound.desks.right i d inside);
+      });
+      stages = subst (λ (sets : List Tables). All (IsStage sets (length v.desks.items)) v.stages.items) (sym now)
+          (subst (λ (x : Vec DeskRows Global). All (IsStage (w.shelf ++ after.0) (length x.items)) v.stages.items) (sym desks)
+          (subst (All (IsStage (w.shelf ++ after.0) (length w.desks.items))) (sym put)
+          (stages_set (w.shelf ++ after.0) (length w.desks.items) (length w.desks.items) w.stages.items p Idle refl tt (λ i d inside. stage_later w.shelf after.0 (length w.desks.items) (get_or w.stages.items i d) (sound.stages i d inside)))));
+    }
+
+pub stands_in : (w v : Kept) → Stands w.shelf w.book → v.shelf ≡ w.shelf → v.book ≡ w.book → Stands v.shelf v.book
+stands_in w v stands shelf book = subst (λ (sets : List Tables). Stands sets v.book) (sym shelf) (subst (Stands w.shelf) (sym book) stands)

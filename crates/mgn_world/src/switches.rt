@@ -1,0 +1,84 @@
+//! The steps of a switch to another set.
+
+ghost use Rattle.std.specs.Prelude.{◌≡◌, ◌<◌, OnOk};
+ghost use Rattle.mgn_params.specs.Limits.{IsWithinLimits};
+ghost use Rattle.mgn_world.specs.declared.stages.Stage.TheVariants.{Gathered};
+ghost use Rattle.mgn_world.specs.Stages.{Gathering as AnyGathering};
+ghost use Rattle.mgn_world.specs.Standing.{Good};
+ghost use Rattle.mgn_world.specs.World.{commits, gathers, prepares, stage_at};
+ghost use Rattle.mgn_world.specs.Worlds.{IsSound, shown};
+
+use crate::stages::{Gathering, Stage, set_stage, take_gathering};
+use crate::world::{World, session_at};
+use mgn_book::Outcome;
+use mgn_params::{ParamSet, Shelf};
+use std::alloc::{AllocError, Global};
+
+impl World {
+    /// Gather: begins a switch with a copy of all nets. An error says that memory was refused.
+    pub(crate) fn gather(&mut self, alloc: Global, place: usize, set: ParamSet) -> Result<(), AllocError>
+        requires good { Good (shown self.old) }
+        requires sound { IsSound self.old }
+        requires place { place < 16 }
+        ensures step { OnOk result (shown self.new ≡
+            gathers (shown self.old) place set (stage_at (shown self.old) place)) }
+        ensures sound { OnOk result (IsSound self.new) }
+    {
+        let Stage::Idle = &self.stages[place] else {
+            return Ok(());
+        };
+        let gathering = Gathering::new(alloc, set, self.book.version(), self.book.rows())?;
+        set_stage(&mut self.stages, place, Stage::Gathered(gathering));
+        Ok(())
+    }
+
+    /// Prepare: works out what a unit requires under the gathered set. An error says that memory was refused.
+    pub(crate) fn prepare(&mut self, alloc: Global, place: usize, unit: usize) -> Result<(), AllocError>
+        requires good { Good (shown self.old) }
+        requires sound { IsSound self.old }
+        requires place { place < 16 }
+        ensures step { OnOk result (shown self.new ≡
+            prepares (shown self.old) place unit (stage_at (shown self.old) place)) }
+        ensures sound { OnOk result (IsSound self.new) }
+    {
+        let Some(mut gathering) = take_gathering(&mut self.stages, place) else {
+            return Ok(());
+        };
+        let Some(old) = self.shelf.get(gathering.version) else {
+            unreachable!();
+        };
+        gathering.prepare(alloc, old, unit)?;
+        set_stage(&mut self.stages, place, Stage::Gathered(gathering));
+        Ok(())
+    }
+
+    /// The commit of a gathered set, which ends its call. An error says that memory was refused.
+    pub(crate) fn commit_set(&mut self, alloc: Global, place: usize) -> Result<(), AllocError>
+        requires good { Good (shown self.old) }
+        requires sound { IsSound self.old }
+        requires place { place < 16 }
+        ensures step { OnOk result ((g : AnyGathering) → stage_at (shown self.old) place ≡ Gathered g →
+            shown self.new ≡ commits (shown self.old) place (Gathered g)) }
+        ensures sound { OnOk result (IsSound self.new) }
+    {
+        let Some(gathering) = take_gathering(&mut self.stages, place) else {
+            return Ok(());
+        };
+        let (set, prepared) = gathering.into_parts();
+        let session = session_at(place);
+        let number = self.book.calls(session) + 1;
+        match self.book.commit_switch(
+            alloc,
+            session,
+            number,
+            set,
+            &mut self.shelf,
+            prepared.as_slice(),
+        ) {
+            Outcome::Done(..) => {}
+            Outcome::Full => return Ok(()),
+            Outcome::Memory => return Err(AllocError),
+        }
+        self.house()
+    }
+}
