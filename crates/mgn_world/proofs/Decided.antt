@@ -1,5 +1,5 @@
 -- What the commit of an applied call comes to, by the desks that are given with it.
-use Rattle.std.proofs.Common.{◌≡◌, ◌≢◌, ◌<◌, ◌≤◌, ◌+◌, ◌∙◌, ◌++◌, inl, inr, ⊎_elim, ℕ, zero, suc, Bool, true, false, All, Option, None, Some, List, [], ◌∷◌, length, length-append, map, get_or, sym, ap, subst, refl, arith, ne_eqb, cond}
+use Rattle.std.proofs.Common.{◌≡◌, ◌≢◌, ◌<◌, ◌+◌, ◌∙◌, inl, ⊎_elim, ℕ, zero, suc, Bool, true, false, All, Option, None, Some, List, [], ◌∷◌, length, length-append, map, sym, ap, subst, refl, arith, ne_eqb, cond}
 use Rattle.mgn_machine.specs.declared.entry.Entry.{Entry}
 use Rattle.std.specs.Prelude.{◌==◌, ◌&&◌, ◌||◌, if◌then◌else◌, nat_le, nat_lt, slice_index_or}
 use Rattle.std.specs.List.{find}
@@ -15,7 +15,6 @@ use Rattle.mgn_machine.specs.declared.command.Command.{Command}
 use Rattle.mgn_machine.specs.declared.request.Request.TheVariants.{Do}
 use Rattle.mgn_machine.specs.History.{calls, entry, recorded}
 use Rattle.mgn_machine.specs.State.{AccountState, State}
-use Rattle.mgn_unit.specs.declared.row.Row.{Row}
 use Rattle.mgn_unit.specs.Rows.{no_row, row_of}
 use Rattle.mgn_register.specs.declared.plans.Plan.{Plan}
 use Rattle.mgn_register.specs.declared.plans.Plan.TheVariants.{Nothing, One, Two}
@@ -23,7 +22,7 @@ use Rattle.mgn_register.specs.declared.plans.UnitChange.{UnitChange}
 use Rattle.mgn_register.specs.Plans.{UnitNets, moved_nets, nets_by, nets_in, plan_of, planned_nets}
 use Rattle.mgn_register.specs.TransferRows.{row_at}
 use Rattle.mgn_pricing.specs.Desks.{four}
-use Rattle.mgn_pricing.specs.Given.{IsRight, desk_of, fit_plan, fits, fits_change, is_older, is_one_older, marked_in, same_four, same_nets}
+use Rattle.mgn_pricing.specs.Given.{IsRight, desk_of, fit_plan, fits, fits_change, is_older, is_one_older, marked_in, same_four}
 use Rattle.mgn_book.specs.BookViews.{BookView, Committed, Stands}
 use Rattle.mgn_book.specs.declared.book.Outcome.TheVariants.{Done as Settled}
 use Rattle.mgn_book.specs.DeskCommits.{CommittedBy, fit_now}
@@ -36,9 +35,9 @@ use Rattle.mgn_world.specs.declared.stages.Stage.{Stage}
 use Rattle.mgn_world.specs.declared.stages.Stage.TheVariants.{Applied, Idle}
 use Rattle.mgn_world.specs.declared.world.World.{World as Kept}
 use Rattle.mgn_world.specs.DeskMoves.{AreDesks, IsRightIn, desk_shown}
-use Rattle.mgn_world.specs.Stages.{Seen, View}
+use Rattle.mgn_world.specs.Stages.{View}
 use Rattle.mgn_world.specs.Standing.{Good}
-use Rattle.mgn_world.specs.World.{are_stale, desk_at, in_force, is_full, is_stale, plan_units, planned, seen_at, stage_at}
+use Rattle.mgn_world.specs.World.{are_stale, desk_at, is_stale, plan_units, planned, seen_at, stage_at}
 use Rattle.mgn_world.specs.Worlds.{CanFollowPlan, IsSeen, IsSound, shown}
 use Rattle.mgn_world.proofs.Commits.{has_plan, never_apart, now_in_force, pointwise_same}
 use Rattle.mgn_world.proofs.Desks.{in_two}
@@ -61,9 +60,9 @@ one_among l u e = subst (λ (x : Plan). IsAmong u.unit (plan_units x)) (sym e) (
 
 pub two_among : (l : View) (u v : UnitChange) → l.plan ≡ Two u v → IsAmong u.unit (plan_units l.plan) × IsAmong v.unit (plan_units l.plan)
 two_among l u v e = let both = in_two (nat_lt v.unit u.unit) u.unit v.unit in (
-    subst (λ (x : Plan). IsAmong u.unit (plan_units x)) (sym e) both.0,
-    subst (λ (x : Plan). IsAmong v.unit (plan_units x)) (sym e) both.1,
-  )
+  subst (λ (x : Plan). IsAmong u.unit (plan_units x)) (sym e) both.0,
+  subst (λ (x : Plan). IsAmong v.unit (plan_units x)) (sym e) both.1,
+)
 
 pub planned_inside : (w : Kept) (p : ℕ) (k : Call) (l : View) (u : ℕ) → Good (shown w) → stage_at (shown w) p ≡ Applied k l → IsAmong u (plan_units l.plan) → u < length w.desks.items
 planned_inside w p k l u good is among = has_inside w.shelf w.book.book.state.accounts l u w.desks.items u (has_plan (shown w) p k l good is u among)
@@ -141,9 +140,9 @@ fits_now w p k l given good sound is now are = ⊎_elim
         let rows : u.unit < length w.book.book.rows = omega (arith, inside, length-map w.desks.items desk_shown, good.desks_long, sound.book.kept.units) in
         let row : row_at t w.book.book.rows u.unit ≡ row_of t s.accounts u.unit = (sound.book.kept.rows u.unit (no_row t) rows).is in
         let shows : marked_nets desk.marked ≡ Some record { version = l.version; nets = four (moved_nets u.change (row_nets u.unit)) } =
-            sym (get_or-map desk_shown w.desks.items u.unit record { unit = u.unit; marked = None } None inside)
-            ∙ has_nets w.shelf s.accounts l u.unit (desk_at (shown w) u.unit) (four (moved_nets u.change (row_nets u.unit))) (has_plan (shown w) p k l good is u.unit among)
-                (ap (λ (n : ℕ). planned l.plan (set_at w.shelf n) s.accounts u.unit) now ∙ ap four nets)
+        sym (get_or-map desk_shown w.desks.items u.unit record { unit = u.unit; marked = None } None inside)
+        ∙ has_nets w.shelf s.accounts l u.unit (desk_at (shown w) u.unit) (four (moved_nets u.change (row_nets u.unit))) (has_plan (shown w) p k l good is u.unit among)
+        (ap (λ (n : ℕ). planned l.plan (set_at w.shelf n) s.accounts u.unit) now ∙ ap four nets)
         in
         ap (fits s.version (four (moved_nets u.change (nets_in (row_at t w.book.book.rows u.unit))))) (are u.unit record { unit = u.unit; marked = None } among)
         ∙ fits_marked s.version (four (moved_nets u.change (nets_in (row_at t w.book.book.rows u.unit)))) desk.marked

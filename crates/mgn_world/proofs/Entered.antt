@@ -1,12 +1,11 @@
 -- The world after commits of the kept one.
-use Rattle.std.proofs.Common.{◌≡◌, ◌<◌, ◌+◌, ◌∙◌, ◌++◌, ℕ, Bool, true, false, All, Option, None, Some, List, [], ◌∷◌, length, length-append, map, replicate, get_or, sym, ap, subst, refl, arith}
+use Rattle.std.proofs.Common.{◌≡◌, ◌<◌, ◌+◌, ◌∙◌, ◌++◌, ℕ, Bool, true, false, Option, None, Some, List, [], ◌∷◌, length, length-append, map, replicate, sym, ap, subst, refl, arith}
 use Rattle.std.specs.Prelude.{◌&&◌, if◌then◌else◌, nat_lt, slice_index_or, slice_set}
 use Rattle.std.specs.List.{range_with_len}
 use Rattle.std.proofs.lemmas.List.{ext_get_or, get_or-map, length-map}
 use Rattle.std.proofs.lemmas.List.FromFn.{get_or-map-range_with_len, length-map-range_with_len}
 use Rattle.mgn_params.specs.Shelves.{set_at}
 use Rattle.mgn_params.specs.Tables.{Tables}
-use Rattle.mgn_desk.specs.Desks.{MarkedNets}
 use Rattle.mgn_desk.specs.Portfolios.{AreFourNets, FourNets}
 use Rattle.mgn_machine.specs.declared.entry.Entry.{Entry}
 use Rattle.mgn_machine.specs.declared.reply.Reply.{Reply}
@@ -16,7 +15,7 @@ use Rattle.mgn_machine.specs.State.{State}
 use Rattle.mgn_machine.specs.Step.{step}
 use Rattle.mgn_unit.specs.declared.row.Row.{Row}
 use Rattle.mgn_unit.specs.Prepared.{copied}
-use Rattle.mgn_unit.specs.Rows.{no_row, row_of}
+use Rattle.mgn_unit.specs.Rows.{no_row}
 use Rattle.mgn_register.specs.BookStates.{BookState, IsKept}
 use Rattle.mgn_book.specs.BookViews.{BookView, Committed, Stands, sets_after}
 use Rattle.mgn_book.specs.declared.book.Outcome.TheVariants.{Done as Settled}
@@ -27,7 +26,7 @@ use Rattle.mgn_world.specs.declared.world.World.{World as Kept}
 use Rattle.mgn_world.specs.Decisions.{IsApplied}
 use Rattle.mgn_world.specs.DeskMoves.{desk_shown}
 use Rattle.mgn_world.specs.Stages.{Gathering, View, shown_nets}
-use Rattle.mgn_world.specs.World.{World, are_covered, are_stale, commits, entered, gathers, in_force, is_full, lengthened, no_nets, prepared_more, prepares, stage_at, stepped, unit_nets, with_stage}
+use Rattle.mgn_world.specs.World.{World, are_covered, are_stale, commits, entered, gathers, is_full, lengthened, no_nets, prepared_more, prepares, stage_at, stepped, unit_nets, with_stage}
 use Rattle.mgn_world.specs.Worlds.{IsGathered, IsSeen, IsSound, IsStage, shown}
 use Rattle.mgn_world.proofs.Decided.{not_full}
 use Rattle.mgn_world.proofs.Looking.{four_are}

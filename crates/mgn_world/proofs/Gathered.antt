@@ -1,5 +1,5 @@
 -- What was gathered and prepared.
-use Rattle.std.proofs.Common.{◌≡◌, ◌≢◌, ◌<◌, ◌∙◌, arith, ap, All, length, List, [], ◌∷◌, Option, map, None, Some, replicate, take, ℕ, zero, suc, sym, subst, refl, Bool, false, true, ⊎_elim}
+use Rattle.std.proofs.Common.{◌≡◌, ◌≢◌, ◌<◌, ◌∙◌, arith, ap, All, length, List, ◌∷◌, Option, map, None, Some, replicate, take, ℕ, zero, suc, sym, subst, refl, Bool, false, true, ⊎_elim}
 use Rattle.std.specs.Prelude.{◌&&◌, if◌then◌else◌, is_some, nat_lt, slice_index_or, slice_set}
 use Rattle.std.proofs.lemmas.Bool.{cases_eq}
 use Rattle.std.proofs.lemmas.Bool.Decides.{nat_tests}
@@ -11,7 +11,7 @@ use Rattle.mgn_desk.specs.Portfolios.{AreFourNets, FourNets}
 use Rattle.mgn_unit.specs.declared.prepared.CopiedNets.{CopiedNets}
 use Rattle.mgn_unit.specs.declared.row.PreparedUnit.{PreparedUnit}
 use Rattle.mgn_unit.specs.declared.row.Row.{Row}
-use Rattle.mgn_unit.specs.NewSets.{ArePrepared, IsPrepared}
+use Rattle.mgn_unit.specs.NewSets.{IsPrepared}
 use Rattle.mgn_unit.specs.Prepared.{AreCopied, copied}
 use Rattle.mgn_world.specs.Stages.{Gathering, IsGathering, shown_nets}
 use Rattle.mgn_world.specs.World.{are_covered, no_nets, prepared_more}

@@ -19,3 +19,4 @@ pub mod Gathered
 pub mod Looking
 pub mod Decided
 pub mod Entered
+pub mod Ran

@@ -1,33 +1,28 @@
 -- What a Begin and a Look of the kept world come to.
-use Rattle.std.proofs.Common.{◌≡◌, ◌≢◌, ◌<◌, ◌+◌, ◌∙◌, ◌⊎◌, Ok, Err, OnOk, inl, inr, ⊎_elim, ℕ, zero, suc, Bool, true, false, All, Option, None, Some, List, [], ◌∷◌, length, map, get_or, sym, ap, subst, refl, arith, Result}
+use Rattle.std.proofs.Common.{◌≡◌, ◌≢◌, ◌<◌, ◌+◌, ◌∙◌, ◌⊎◌, Ok, Err, OnOk, inl, inr, ⊎_elim, ℕ, zero, suc, Bool, true, false, All, Some, List, [], ◌∷◌, length, map, sym, ap, subst, refl, arith, Result}
 use Rattle.std.specs.Prelude.{if◌then◌else◌, nat_lt, slice_index_or, slice_set}
 use Rattle.std.specs.List.{slice_get}
-use Rattle.std.proofs.lemmas.List.{length-map}
 use Rattle.mgn_params.specs.Shelves.{set_at}
 use Rattle.mgn_params.specs.Tables.{Tables}
-use Rattle.mgn_desk.specs.Portfolios.{AreFourNets, CanMove}
+use Rattle.mgn_desk.specs.Portfolios.{AreFourNets}
 use Rattle.mgn_machine.specs.declared.command.Command.{Command}
 use Rattle.mgn_machine.specs.State.{AccountState, State}
 use Rattle.mgn_unit.specs.declared.row.Row.{Row}
 use Rattle.mgn_unit.specs.Prepared.{copied}
-use Rattle.mgn_unit.specs.Rows.{IsRow, no_row, row_of}
+use Rattle.mgn_unit.specs.Rows.{IsRow, no_row}
 use Rattle.mgn_register.specs.BookStates.{BookState, IsKept}
 use Rattle.mgn_register.specs.declared.plans.Plan.{Plan}
 use Rattle.mgn_register.specs.declared.plans.Plan.TheVariants.{Nothing, One, Two}
 use Rattle.mgn_register.specs.declared.plans.UnitChange.{UnitChange}
 use Rattle.mgn_register.specs.Plans.{CanChange, IsPossible, plan_of}
 use Rattle.mgn_register.specs.TransferRows.{row_at}
-use Rattle.mgn_pricing.specs.Desks.{moves_of}
 use Rattle.mgn_pricing.proofs.Moved.{net-moved}
 use Rattle.mgn_world.specs.Claims.{IsAmong}
 use Rattle.mgn_world.specs.declared.stages.Call.{Call}
 use Rattle.mgn_world.specs.declared.stages.Stage.{Stage}
-use Rattle.mgn_world.specs.declared.stages.Stage.TheVariants.{Idle, Held, Looked}
-use Rattle.mgn_world.specs.declared.units.Units.{Units}
-use Rattle.mgn_world.specs.declared.units.Units.TheVariants.{Nothing as NoUnits, One as OneUnit, Two as TwoUnits}
-use Rattle.mgn_world.specs.Stages.{Seen, View, shown_nets}
-use Rattle.mgn_world.specs.Units.{units_by}
-use Rattle.mgn_world.specs.World.{World, are_free, begin_on, begins, in_force, look_on, in_order, looks, plan_units, seen_at, stage_at, taken, unit_nets, units_of}
+use Rattle.mgn_world.specs.declared.stages.Stage.TheVariants.{Held, Looked}
+use Rattle.mgn_world.specs.Stages.{Seen, shown_nets}
+use Rattle.mgn_world.specs.World.{World, in_force, look_on, looks, plan_units, seen_at, stage_at, unit_nets, units_of}
 use Rattle.mgn_world.specs.Worlds.{CanFollow, CanFollowPlan, IsSeen, nets_seen, row_nets, seen_in}
 use Rattle.mgn_world.proofs.Desks.{in_two}
 use Rattle.mgn_world.proofs.Ready.{nets_of_seen}

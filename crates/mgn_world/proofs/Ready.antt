@@ -1,11 +1,11 @@
 -- Desks that can take a plan, and give it back.
-use Rattle.std.proofs.Common.{◌≡◌, ◌≢◌, ◌<◌, ◌∙◌, inl, inr, ⊎_elim, ℕ, zero, suc, Bool, true, false, All, Option, None, Some, List, [], ◌∷◌, length, map, get_or, sym, ap, subst, refl, arith, ne_eqb}
-use Rattle.std.specs.Prelude.{◌==◌, if◌then◌else◌, nat_lt}
+use Rattle.std.proofs.Common.{◌≡◌, ◌≢◌, ◌<◌, ◌∙◌, inl, ⊎_elim, ℕ, zero, suc, Bool, true, All, Option, None, Some, List, [], ◌∷◌, length, map, sym, ap, subst, refl, arith, ne_eqb}
+use Rattle.std.specs.Prelude.{if◌then◌else◌, nat_lt}
 use Rattle.std.proofs.lemmas.Bool.{cases_eq, eq-eqb}
 use Rattle.mgn_params.specs.Shelves.{set_at}
 use Rattle.mgn_params.specs.Tables.{Tables}
 use Rattle.mgn_desk.specs.Desks.{MarkedNets}
-use Rattle.mgn_desk.specs.Portfolios.{AreFourNets, CanMove, FourNets, moved_by, opposite}
+use Rattle.mgn_desk.specs.Portfolios.{AreFourNets, FourNets, moved_by, opposite}
 use Rattle.mgn_machine.specs.State.{AccountState}
 use Rattle.mgn_unit.specs.declared.change.Change.{Change}
 use Rattle.mgn_unit.specs.Rows.{row_of}
@@ -20,7 +20,7 @@ use Rattle.mgn_world.specs.declared.stages.Call.{Call}
 use Rattle.mgn_world.specs.declared.stages.Stage.TheVariants.{Looked, Failed}
 use Rattle.mgn_world.specs.DeskMoves.{AreReadyFor, CanGiveBack, IsReadyFor}
 use Rattle.mgn_world.specs.Stages.{Seen, View}
-use Rattle.mgn_world.specs.Standing.{Good, Sees}
+use Rattle.mgn_world.specs.Standing.{Good}
 use Rattle.mgn_world.specs.World.{World, are_of, desk_at, plan_units, planned, seen_at, stage_at, unit_nets}
 use Rattle.mgn_world.specs.Worlds.{CanFollow, CanFollowPlan, IsSeen, nets_seen}
 use Rattle.mgn_world.proofs.Desks.{in_two, plan_held, ready, seen_of}

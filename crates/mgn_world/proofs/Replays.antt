@@ -26,8 +26,8 @@ use Rattle.mgn_world.specs.declared.stages.Deed.TheVariants.{Begin, Look, Mark, 
 use Rattle.mgn_world.specs.declared.stages.Stage.{Stage}
 use Rattle.mgn_world.specs.declared.stages.Stage.TheVariants.{Idle, Held, Looked, Applied, Failed, Ended, Gathered}
 use Rattle.mgn_world.specs.declared.stages.Step.{Step}
-use Rattle.mgn_world.specs.Stages.{Seen, View}
-use Rattle.mgn_world.specs.World.{World, applies, are_of, are_stale, backs, begin_on, begins, commits, desk_at, does, does_as, ends, entered, gathers, in_force, is_apart, is_full, is_of, look_on, looks, marks, next, opening, placed, prepares, run, stepped, with_stage}
+use Rattle.mgn_world.specs.Stages.{View}
+use Rattle.mgn_world.specs.World.{World, applies, are_of, are_stale, backs, begin_on, begins, commits, does, does_as, ends, entered, gathers, in_force, is_apart, is_full, look_on, looks, marks, next, opening, placed, prepares, run, stepped, with_stage}
 use Rattle.mgn_world.specs.Claims.{IsReplayed, IsRun}
 
 -- One entry more, under the sets as they are then.

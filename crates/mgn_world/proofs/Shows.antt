@@ -1,5 +1,5 @@
 -- What desks show once one of them has moved.
-use Rattle.std.proofs.Common.{◌≡◌, ◌<◌, ◌+◌, ◌++◌, ◌∙◌, ℕ, zero, suc, arith, drop, take, refl, Option, None, Some, List, [], ◌∷◌, length, map, get_or, sym, ap}
+use Rattle.std.proofs.Common.{◌≡◌, ◌<◌, ◌+◌, ◌++◌, ◌∙◌, ℕ, zero, suc, arith, drop, take, refl, Option, None, List, [], ◌∷◌, length, map, get_or, sym, ap}
 use Rattle.std.specs.Prelude.{slice_index_or, slice_set}
 use Rattle.std.proofs.lemmas.List.{get_or-map, map-set}
 use Rattle.mgn_params.specs.Tables.{Tables}

@@ -18,7 +18,7 @@ use Rattle.mgn_world.specs.declared.world.World.{World as Kept}
 use Rattle.mgn_world.specs.declared.stages.Call.{Call}
 use Rattle.mgn_world.specs.declared.stages.Stage.{Stage}
 use Rattle.mgn_world.specs.declared.stages.Stage.TheVariants.{Idle, Held, Looked, Applied, Failed, Ended, Gathered}
-use Rattle.mgn_world.specs.DeskMoves.{AreDesks, IsRightIn, desk_shown}
+use Rattle.mgn_world.specs.DeskMoves.{AreDesks, IsRightIn}
 use Rattle.mgn_world.specs.Stages.{Seen, View}
 use Rattle.mgn_world.specs.World.{World, applies, are_of, planned_desks, stage_at}
 use Rattle.mgn_world.specs.Worlds.{CanFollowPlan, IsSeen, IsSound, IsStage}

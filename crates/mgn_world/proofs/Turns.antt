@@ -1,7 +1,6 @@
 -- What a step does to the book: nothing, or one step of the machine.
 use Rattle.std.proofs.Common.{◌≡◌, ◌∙◌, ◌⊎◌, inl, inr, ⊎_elim, ℕ, zero, suc, Bool, true, false, Option, None, List, [], ◌∷◌, length, ap, refl, Result, Ok, Err}
-use Rattle.std.specs.Prelude.{if◌then◌else◌, nat_lt, ◌&&◌, slice_index_or}
-use Rattle.mgn_params.specs.Shelves.{set_at}
+use Rattle.std.specs.Prelude.{if◌then◌else◌, nat_lt, slice_index_or}
 use Rattle.mgn_params.specs.Tables.{Tables}
 use Rattle.mgn_desk.specs.Desks.{MarkedNets}
 use Rattle.mgn_machine.specs.declared.command.Command.{Command}
@@ -21,8 +20,7 @@ use Rattle.mgn_world.specs.declared.stages.Deed.TheVariants.{Begin, Look, Mark, 
 use Rattle.mgn_world.specs.declared.stages.Stage.{Stage}
 use Rattle.mgn_world.specs.declared.stages.Stage.TheVariants.{Idle, Held, Looked, Applied, Failed, Ended, Gathered}
 use Rattle.mgn_world.specs.declared.stages.Step.{Step}
-use Rattle.mgn_world.specs.Stages.{Seen}
-use Rattle.mgn_world.specs.World.{World, applies, are_covered, are_free, are_of, are_stale, backs, begin_on, begins, commits, desk_at, does, does_as, ends, entered, gathers, in_force, is_apart, is_full, is_of, look_on, looks, marks, next, no_nets, placed, prepares, stage_at, stepped, units_of}
+use Rattle.mgn_world.specs.World.{World, applies, are_free, are_of, are_stale, backs, begin_on, begins, commits, does, does_as, ends, entered, gathers, in_force, is_apart, is_full, look_on, looks, marks, next, placed, prepares, stage_at, stepped, units_of}
 use Rattle.mgn_world.proofs.Locks.{lengthened_at}
 
 abbrev Turn : World → World → Type 0

@@ -8,7 +8,6 @@ use Rattle.mgn_desk.specs.Desks.{DeskRows, MarkedNets, marked_nets}
 use Rattle.mgn_desk.specs.Portfolios.{ArePortfolios, CanMove, opposite}
 use Rattle.mgn_register.specs.declared.plans.Plan.{Plan}
 use Rattle.mgn_register.specs.declared.plans.Plan.TheVariants.{Nothing, One, Two}
-use Rattle.mgn_register.specs.declared.plans.UnitChange.{UnitChange}
 use Rattle.mgn_pricing.specs.Desks.{moves_of}
 
 abbrev pub desk_shown : DeskRows → Option MarkedNets

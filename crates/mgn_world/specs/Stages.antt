@@ -1,5 +1,5 @@
 -- What a session knows of its call (own profile).
-use Rattle.std.specs.Prelude.{ℕ, ◌≡◌, Bool, List, Option, length, is_some, map}
+use Rattle.std.specs.Prelude.{ℕ, ◌≡◌, Bool, List, Option, length}
 use Rattle.mgn_params.specs.Tables.{Tables}
 use Rattle.mgn_desk.specs.Portfolios.{FourNets}
 use Rattle.mgn_unit.specs.declared.prepared.CopiedNets.{CopiedNets}

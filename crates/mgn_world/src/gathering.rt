@@ -21,10 +21,10 @@ impl Gathering {
         rows: &[Row],
     ) -> Result<Gathering, AllocError>
         ensures { IfOk result (λ g. g ≡ record {
-            set = set;
-            version = version;
-            nets = map (λ row. shown_nets (copied row)) rows.now;
-            prepared = replicate (length rows.now) false;
+          set = set;
+          version = version;
+          nets = map (λ row. shown_nets (copied row)) rows.now;
+          prepared = replicate (length rows.now) false;
         }) }
     {
         let mut nets = Vec::with_capacity(alloc, rows.len())?;
@@ -43,7 +43,12 @@ impl Gathering {
 
     /// Works out what a unit requires under the set, where there is such a unit and the set has each contract in which
     /// its nets are not 0. An error says that memory was refused.
-    pub(crate) fn prepare(&mut self, alloc: Global, old: &ParamSet, unit: usize) -> Result<(), AllocError>
+    pub(crate) fn prepare(
+        &mut self,
+        alloc: Global,
+        old: &ParamSet,
+        unit: usize,
+    ) -> Result<(), AllocError>
         requires nets { All (AreFourNets old.now) self.old.nets }
         ensures { OnOk result (self.new ≡ prepared_more old.now unit self.old) }
     {

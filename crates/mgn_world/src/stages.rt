@@ -72,10 +72,10 @@ impl Model for Gathering {
     ghost Value = { Gathering };
 
     ghost view = { λ g. record {
-        set = g.set;
-        version = g.version;
-        nets = map shown_nets g.nets.items;
-        prepared = map is_some g.prepared.items;
+      set = g.set;
+      version = g.version;
+      nets = map shown_nets g.nets.items;
+      prepared = map is_some g.prepared.items;
     } };
 
     ghost invariant = { λ g. IsGathering g.set g.nets.items g.prepared.items };

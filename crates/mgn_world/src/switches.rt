@@ -16,7 +16,12 @@ use std::alloc::{AllocError, Global};
 
 impl World {
     /// Gather: begins a switch with a copy of all nets. An error says that memory was refused.
-    pub(crate) fn gather(&mut self, alloc: Global, place: usize, set: ParamSet) -> Result<(), AllocError>
+    pub(crate) fn gather(
+        &mut self,
+        alloc: Global,
+        place: usize,
+        set: ParamSet,
+    ) -> Result<(), AllocError>
         requires good { Good (shown self.old) }
         requires sound { IsSound self.old }
         requires place { place < 16 }
@@ -33,7 +38,12 @@ impl World {
     }
 
     /// Prepare: works out what a unit requires under the gathered set. An error says that memory was refused.
-    pub(crate) fn prepare(&mut self, alloc: Global, place: usize, unit: usize) -> Result<(), AllocError>
+    pub(crate) fn prepare(
+        &mut self,
+        alloc: Global,
+        place: usize,
+        unit: usize,
+    ) -> Result<(), AllocError>
         requires good { Good (shown self.old) }
         requires sound { IsSound self.old }
         requires place { place < 16 }

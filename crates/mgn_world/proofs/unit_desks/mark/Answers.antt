@@ -1,4 +1,4 @@
-use Rattle.std.proofs.Common.{◌≡◌, ◌∙◌, map, ap, Some, List, OnOk}
+use Rattle.std.proofs.Common.{◌∙◌, map, ap, Some}
 use Rattle.std.specs.Prelude.{slice_set}
 use Rattle.mgn_desk.specs.Desks.{Shown}
 use Rattle.mgn_world.specs.DeskMoves.{desk_shown}

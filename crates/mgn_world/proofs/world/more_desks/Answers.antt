@@ -1,6 +1,6 @@
-use Rattle.std.proofs.Common.{◌≡◌, ◌≤◌, ◌∙◌, ◌+◌, ◌-◌, ◌++◌, arith, ap, length, List, [], ◌∷◌, ℕ, None, Option, replicate, map, subst, sym}
+use Rattle.std.proofs.Common.{◌≡◌, ◌≤◌, ◌∙◌, ◌+◌, ◌-◌, ◌++◌, arith, ap, length, List, [], ◌∷◌, ℕ, None, replicate, map, subst, sym}
 use Rattle.std.proofs.lemmas.List.{length-append, length-map, map-append}
-use Rattle.mgn_desk.specs.Desks.{DeskRows, MarkedNets}
+use Rattle.mgn_desk.specs.Desks.{DeskRows}
 use Rattle.mgn_world.specs.DeskMoves.{AreDesks, desk_shown}
 use Rattle.mgn_world.proofs.Sounds.{desk_pushed, left, one_none_more}
 use Rattle.mgn_world.proofs.world.more_desks.Goals as goal
@@ -23,8 +23,8 @@ pub returns-clause-shown : goal.returns-clause-shown
 returns-clause-shown c =
     let long = length-map c.args.desks.now.items desk_shown in
     let e : c.loop-unit.unit - length (map desk_shown c.args.desks.now.items) ≡ c.args.units - length (map desk_shown c.args.desks.now.items) =
-        ap (λ (n : ℕ). c.loop-unit.unit - n) long
-        ∙ left c.args.units c.loop-unit.unit (length c.args.desks.now.items) c.loop-unit-test.false c.loop-unit.invariant.from c.loop-unit.invariant.stays (λ few. c.loop-unit.auto.unit-end (omega (arith, few, c.len-unit.ensures, c.args.desks.now.ok)))
-        ∙ sym (ap (λ (n : ℕ). c.args.units - n) long)
+    ap (λ (n : ℕ). c.loop-unit.unit - n) long
+    ∙ left c.args.units c.loop-unit.unit (length c.args.desks.now.items) c.loop-unit-test.false c.loop-unit.invariant.from c.loop-unit.invariant.stays (λ few. c.loop-unit.auto.unit-end (omega (arith, few, c.len-unit.ensures, c.args.desks.now.ok)))
+    ∙ sym (ap (λ (n : ℕ). c.args.units - n) long)
     in
     c.loop-unit.invariant.so_far ∙ ap (λ (n : ℕ). map desk_shown c.args.desks.now.items ++ replicate n None) e

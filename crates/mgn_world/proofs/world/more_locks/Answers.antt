@@ -1,4 +1,4 @@
-use Rattle.std.proofs.Common.{◌≡◌, ◌∙◌, ◌+◌, ◌-◌, ◌++◌, arith, ap, length, List, ℕ, None, Option, replicate}
+use Rattle.std.proofs.Common.{◌≡◌, ◌∙◌, ◌-◌, ◌++◌, arith, ap, length, ℕ, None, replicate}
 use Rattle.mgn_world.proofs.Sounds.{left, one_none_more}
 use Rattle.mgn_world.proofs.world.more_locks.Goals as goal
 

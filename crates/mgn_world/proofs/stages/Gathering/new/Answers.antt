@@ -1,10 +1,4 @@
-use Rattle.std.proofs.Common.{◌≡◌, ◌∙◌, arith, ap, length, List, Option, map, None, replicate, take, ℕ, sym, subst}
-use Rattle.std.specs.Prelude.{is_some}
-use Rattle.mgn_unit.specs.declared.prepared.CopiedNets.{CopiedNets}
-use Rattle.mgn_unit.specs.declared.row.PreparedUnit.{PreparedUnit}
-use Rattle.mgn_unit.specs.declared.row.Row.{Row}
-use Rattle.mgn_unit.specs.Prepared.{copied}
-use Rattle.mgn_world.specs.Stages.{IsGathering, shown_nets}
+use Rattle.std.proofs.Common.{◌≡◌, arith, length}
 use Rattle.mgn_world.proofs.Gathered.{all_copied, none_prepared, not_prepared}
 use Rattle.mgn_world.proofs.stages.Gathering.new.Goals as goal
 

@@ -1,8 +1,7 @@
-use Rattle.std.proofs.Common.{◌≡◌, ◌<◌, ◌∙◌, arith, ap, All, List, length, map, subst, sym, true, ℕ}
+use Rattle.std.proofs.Common.{◌≡◌, ◌<◌, ◌∙◌, arith, ap, List, length, subst, sym, true}
 use Rattle.std.specs.Prelude.{nat_lt, slice_index_or}
 use Rattle.std.proofs.lemmas.Bool.Decides.{nat_tests}
 use Rattle.mgn_params.specs.Tables.{Tables}
-use Rattle.mgn_desk.specs.Portfolios.{AreFourNets}
 use Rattle.mgn_unit.specs.declared.prepared.CopiedNets.{CopiedNets}
 use Rattle.mgn_unit.specs.NewSets.{IsPrepared}
 use Rattle.mgn_unit.specs.Prepared.{AreCopied}

@@ -1,5 +1,4 @@
-use Rattle.std.proofs.Common.{◌≡◌, ◌<◌, ◌∙◌, arith, sym}
-use Rattle.mgn_world.specs.declared.stages.Stage.TheVariants.{Idle}
+use Rattle.std.proofs.Common.{sym}
 use Rattle.mgn_world.specs.World.{in_force}
 use Rattle.mgn_world.specs.Worlds.{shown}
 use Rattle.mgn_world.proofs.Looking.{planless}

@@ -1,7 +1,5 @@
-use Rattle.std.proofs.Common.{Global, Vec, ◌≡◌, ◌<◌, ◌∙◌, arith, ap, length, List, ℕ, map, subst, sym, refl}
-use Rattle.std.specs.Prelude.{Bool, false, true, if◌then◌else◌, slice_index_or, slice_set}
-use Rattle.mgn_book.specs.BookViews.{BookView}
-use Rattle.mgn_desk.specs.Desks.{DeskRows}
+use Rattle.std.proofs.Common.{Global, Vec, ◌≡◌, ◌∙◌, ap, length, ℕ, map}
+use Rattle.std.specs.Prelude.{false, true, if◌then◌else◌, slice_index_or, slice_set}
 use Rattle.mgn_world.specs.declared.stages.Call.{Call}
 use Rattle.mgn_world.specs.declared.stages.Stage.{Stage}
 use Rattle.mgn_world.specs.declared.stages.Stage.TheVariants.{Applied, Ended, Failed, Idle}
@@ -9,7 +7,7 @@ use Rattle.mgn_world.specs.declared.world.World.{World as Kept}
 use Rattle.mgn_world.specs.DeskMoves.{desk_shown}
 use Rattle.mgn_world.specs.Stages.{View}
 use Rattle.mgn_world.specs.World.{stage_at}
-use Rattle.mgn_world.specs.Worlds.{IsSeen, IsStage, shown}
+use Rattle.mgn_world.specs.Worlds.{shown}
 use Rattle.mgn_world.proofs.Decided.{stage_seen}
 use Rattle.mgn_world.proofs.Entered.{applied_of, settled_stage, stale_is}
 use Rattle.mgn_world.proofs.Sounds.{after_sound, housed_sound, on_both, stands_in}
@@ -56,8 +54,8 @@ returns-clause-sound c =
     let put = same_stages c.args.self.now c.decide.new.self.stages c.set_settled.new.stages c.args.place at.0 at.1.0 next c.decide.ensures.stages at.1.1 (c.set_settled.ensures at.0 at.1.0) in
     let mid : Kept = record { shelf = c.decide.new.self.shelf; book = c.decide.new.self.book; desks = c.decide.new.self.desks; locks = c.decide.new.self.locks; stages = c.set_settled.new.stages } in
     let sound = after_sound c.args.self.now mid c.args.place next
-        c.requires.sound c.decide.ensures.shelf c.decide.ensures.stands c.decide.ensures.desks
-        (settled_stage c.args.self.now.shelf (length c.args.self.now.desks.items) at.0 at.1.0 c.is_done.result (stage_seen c.args.self.now c.args.place at.0 at.1.0 c.requires.sound at.1.1)) put
+    c.requires.sound c.decide.ensures.shelf c.decide.ensures.stands c.decide.ensures.desks
+    (settled_stage c.args.self.now.shelf (length c.args.self.now.desks.items) at.0 at.1.0 c.is_done.result (stage_seen c.args.self.now c.args.place at.0 at.1.0 c.requires.sound at.1.1)) put
     in
     on_both c.house.result
     (λ desks more. housed_sound mid c.house.new.self sound c.house.ensures.shelf (stands_in mid c.house.new.self c.decide.ensures.stands c.house.ensures.shelf c.house.ensures.book) c.house.ensures.stages (desks sound.desks) more)

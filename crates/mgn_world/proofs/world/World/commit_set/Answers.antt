@@ -1,11 +1,9 @@
-use Rattle.std.proofs.Common.{Global, Vec, ◌≡◌, ◌<◌, ◌+◌, ◌∙◌, arith, ap, length, List, ℕ, Option, Some, subst, sym, refl}
-use Rattle.mgn_params.specs.Tables.{Tables}
+use Rattle.std.proofs.Common.{Global, Vec, ◌≡◌, ◌+◌, ◌∙◌, ap, List, ℕ, Option, subst, sym, refl}
 use Rattle.mgn_unit.specs.declared.row.PreparedUnit.{PreparedUnit}
 use Rattle.mgn_unit.specs.NewSets.{ArePrepared}
 use Rattle.mgn_world.specs.declared.stages.Stage.{Stage}
-use Rattle.mgn_world.specs.declared.stages.Stage.TheVariants.{Gathered, Idle}
+use Rattle.mgn_world.specs.declared.stages.Stage.TheVariants.{Idle}
 use Rattle.mgn_world.specs.declared.world.World.{World as Kept}
-use Rattle.mgn_world.specs.DeskMoves.{AreDesks}
 use Rattle.mgn_world.specs.Stages.{Gathering}
 use Rattle.mgn_world.proofs.Entered.{gathering_or, switched_is}
 use Rattle.mgn_world.proofs.Sounds.{after_sound, grown_sound, housed_sound, on_both, stands_in}

@@ -1,14 +1,10 @@
-use Rattle.std.proofs.Common.{◌≡◌, ◌<◌, ◌+◌, ◌∙◌, arith, ap, length, sym, subst, ℕ, Bor, [], ◌∷◌}
+use Rattle.std.proofs.Common.{◌≡◌, ◌<◌, ◌+◌, ◌∙◌, arith, ap, length, sym, ℕ, Bor, [], ◌∷◌}
 use Rattle.mgn_params.specs.Shelves.{set_at}
 use Rattle.mgn_desk.specs.Desks.{DeskRows}
-use Rattle.mgn_machine.specs.declared.command.Command.{Command}
-use Rattle.mgn_machine.specs.History.{calls}
 use Rattle.mgn_register.specs.declared.plans.Plan.TheVariants.{One, Two}
 use Rattle.mgn_pricing.specs.Given.{IsRight}
-use Rattle.mgn_book.specs.DeskCommits.{CommittedBy}
 use Rattle.mgn_world.specs.declared.stages.Stage.TheVariants.{Applied}
 use Rattle.mgn_world.specs.Stages.{View}
-use Rattle.mgn_world.specs.Worlds.{shown}
 use Rattle.mgn_world.proofs.Decided.{all_one, all_two, as_asked, command_or, decided_one, decided_two, one_among, plan_or, planned_inside, right_at, two_among}
 use Rattle.mgn_world.proofs.Sounds.{at_stage}
 use Rattle.mgn_world.proofs.world.World.decide.Goals as goal

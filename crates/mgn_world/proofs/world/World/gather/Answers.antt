@@ -1,8 +1,8 @@
-use Rattle.std.proofs.Common.{◌≡◌, ◌<◌, ◌∙◌, arith, ap, length, false, List, map, replicate, subst, sym, refl}
+use Rattle.std.proofs.Common.{◌<◌, ◌∙◌, arith, ap, length, false, List, map, replicate, refl}
 use Rattle.mgn_unit.specs.declared.row.Row.{Row}
 use Rattle.mgn_unit.specs.Prepared.{copied}
 use Rattle.mgn_world.specs.declared.stages.Stage.TheVariants.{Gathered, Idle}
-use Rattle.mgn_world.specs.Stages.{Gathering, shown_nets}
+use Rattle.mgn_world.specs.Stages.{shown_nets}
 use Rattle.mgn_world.proofs.Entered.{gathered_sound, gathers_is}
 use Rattle.mgn_world.proofs.Sounds.{after_sound, at_stage}
 use Rattle.mgn_world.proofs.world.World.gather.Goals as goal

@@ -1,12 +1,10 @@
-use Rattle.std.proofs.Common.{◌≡◌, ◌<◌, ◌∙◌, All, ℕ, List, [], ◌∷◌, length, map, replicate, sym, subst, ap, arith}
-use Rattle.mgn_desk.specs.Desks.{DeskRows}
-use Rattle.mgn_params.specs.Limits.{IsWithinLimits}
+use Rattle.std.proofs.Common.{◌≡◌, ◌∙◌, All, ℕ, List, length, map, replicate, sym, subst, ap, arith}
 use Rattle.mgn_world.specs.declared.stages.Stage.{Stage}
 use Rattle.mgn_world.specs.declared.stages.Stage.TheVariants.{Idle}
 use Rattle.mgn_world.specs.DeskMoves.{AreDesks, desk_shown}
 use Rattle.mgn_world.specs.Standing.{Good}
-use Rattle.mgn_world.specs.World.{World, opening}
-use Rattle.mgn_world.specs.Worlds.{IsStage, IsSound, shown}
+use Rattle.mgn_world.specs.World.{opening}
+use Rattle.mgn_world.specs.Worlds.{IsStage, shown}
 use Rattle.mgn_world.proofs.Each.{good_opening}
 use Rattle.mgn_world.proofs.Shows.{no_desks, sixteen_idle}
 use Rattle.mgn_world.proofs.world.World.new.Goals as goal
