@@ -18,7 +18,7 @@ from the start. Edits that are not Rattle are found by the places of the errors,
   -j N          N checks side by side; by default one a processor
   --top DIR     the repository
   --built       trust the libraries that a run of `rt ci` has just left in crates/*/out
-  --times FILE  write what each crate took, a line `CRATE EDITS CHECKS SECONDS LARGEST_KIB`
+  --times FILE  write what each crate took, a line `CRATE EDITS CHECKS SECONDS LARGEST_KIB FAILED`
   --look        try nothing: say which edits cannot be applied
   --sort        try nothing: move each edit, those of crates/*/must-fail too, to the crate in whose files its text stands
 The last line is `N passed, M failed`.
@@ -31,7 +31,7 @@ import subprocess
 import sys
 import tempfile
 import threading
-from collections import defaultdict, namedtuple
+from collections import Counter, defaultdict, namedtuple
 from concurrent.futures import FIRST_COMPLETED, ThreadPoolExecutor, wait
 
 import source
@@ -425,11 +425,12 @@ def main():
         print(f"edits/{it}: crates.txt names no such crate")
     if given.crate:
         crates = [it for it in crates if it.name in given.crate]
-    groups, passed, failed, number = {}, [], sorted(unknown), {}
+    groups, passed, failed, number, wrong = {}, [], sorted(unknown), {}, Counter()
     for crate in crates:
         good, bad = read_edits(crate, f"{top}/edits/{crate.name}")
         print(*bad, sep="\n", end="\n" * bool(bad))
         failed += bad
+        wrong[crate.name] += len(bad)
         number[crate.name] = len(good) + len(bad)
         if good:
             groups[crate] = [[it] for it in good] if given.alone else batches_of(good)
@@ -446,6 +447,7 @@ def main():
     def tell(found):
         for edit, refused, said in found:
             (passed if refused else failed).append(edit)
+            wrong[edit.crate.name] += not refused
             print(f"{edit.crate.name}/{edit.name}: {said}", flush=True)
 
     with tempfile.TemporaryDirectory(prefix="edits-") as room:
@@ -458,7 +460,7 @@ def main():
         with open(given.times, "w", encoding="utf-8") as it:
             for crate in groups:
                 checks, seconds, largest = runs.took[crate.name]
-                it.write(f"{crate.name} {number[crate.name]} {checks} {seconds:.1f} {largest}\n")
+                it.write(f"{crate.name} {number[crate.name]} {checks} {seconds:.1f} {largest} {wrong[crate.name]}\n")
     print(f"{len(passed)} passed, {len(failed)} failed")
     return 1 if failed else 0
 

@@ -40,6 +40,11 @@ def load_rt():
     return sys.modules["rt"]
 
 
+def bytes_of(file):
+    with open(file, "rb") as it:
+        return it.read()
+
+
 def tokens(files):
     """Returns for each file its tokens, without comments, and None where it has a text that is none."""
     files = list(files)
