@@ -40,14 +40,23 @@ def copy_of(crate, room):
         shutil.move(f"{crate.folder}/out", f"{room}/crates/{crate.name}/out")
 
 
-def prove(crate, jobs):
+def heights(crates):
+    """Returns for each crate how many crates the longest chain above it has."""
+    found = {}
+    # (lowest first, so that each crate comes behind those below it)
+    for it in reversed(crates):
+        found[it] = max((found[one] + 1 for one in crates if it in one.below() and one in found), default=0)
+    return found
+
+
+def prove(crate, jobs, give_way):
     """Returns the crate, whether it is proved and built, what rt said, and the seconds that it took."""
     began = time.time()
     with tempfile.TemporaryDirectory(prefix="first-", dir=f"{source.TOP}/out") as room:
         copy_of(crate, room)
         folder = f"{room}/crates/{crate.name}"
         how = {"stdin": subprocess.DEVNULL, "stdout": subprocess.PIPE, "stderr": subprocess.STDOUT, "text": True}
-        ran = subprocess.run(["rt", "lib", "--jobs", str(jobs)], cwd=folder, **how, errors="replace", check=False)
+        ran = subprocess.run(["nice", "-n", str(give_way), "rt", "lib", "--jobs", str(jobs)], cwd=folder, **how, errors="replace", check=False)
         if os.path.isdir(f"{folder}/out"):
             shutil.move(f"{folder}/out", f"{crate.folder}/out")
     return crate, ran.returncode == 0 and crate.is_built(), ran.stdout, time.time() - began
@@ -58,14 +67,15 @@ def prove_all(crates):
     processors = len(os.sched_getaffinity(0))
     at_once = max(1, min(processors, free_memory() // HELD))
     waiting, done = [it for it in crates if not it.is_built()], len([it for it in crates if it.is_built()])
-    began, running, failed = time.time(), set(), False
+    began, running, failed, above = time.time(), set(), False, heights(crates)
     with ThreadPoolExecutor(at_once) as pool:
         while (waiting and not failed) or running:
-            # (the crates that most others wait for come first)
+            # (the crate below the longest chain comes first, and all others give way to it)
             ready = [it for it in waiting if all(one.is_built() for one in it.below())] if not failed else []
-            for it in sorted(ready, key=lambda it: -sum(it in one.below() for one in waiting))[: at_once - len(running)]:
+            for it in sorted(ready, key=lambda it: -above[it])[: at_once - len(running)]:
+                is_first = all(above[one] <= above[it] for one in crates if not one.is_built())
                 waiting.remove(it)
-                running.add(pool.submit(prove, it, min(processors, 4)))
+                running.add(pool.submit(prove, it, min(processors, 4), 0 if is_first else 5))
             ended, running = wait(running, return_when=FIRST_COMPLETED)
             for it in ended:
                 crate, is_proved, said, seconds = it.result()
