@@ -1,12 +1,15 @@
 -- The state of the book with the history that made it. The sets are those of a shelf, by version.
-use Rattle.std.specs.Prelude.{ℕ, ◌≡◌, ◌+◌, ◌-◌, ◌<◌, ◌≤◌, ◌==◌, if◌then◌else◌, false, List, [], ◌∷◌, ◌++◌, length, slice_index_or, Option, None}
+use Rattle.std.specs.Prelude.{ℕ, ◌≡◌, ◌+◌, ◌-◌, ◌<◌, ◌≤◌, ◌==◌, if◌then◌else◌, false, List, [], ◌∷◌, ◌++◌, length, slice_index_or, Option, None, Some}
 use Rattle.std.specs.List.{slice_get}
-use Rattle.std.specs.Option.{option_map}
+use Rattle.std.specs.Option.{option_flatten, option_map}
 use Rattle.mgn_params.specs.Shelves.{set_at}
 use Rattle.mgn_params.specs.Tables.{Tables}
+use Rattle.mgn_machine.specs.declared.command.Command.{Command}
 use Rattle.mgn_machine.specs.declared.entry.Entry.{Entry}
 use Rattle.mgn_machine.specs.declared.reply.Reply.TheVariants.{Done as Settled, Figures, NewSet, Statement, Totals, Refused}
 use Rattle.mgn_machine.specs.declared.reply.Reply.{Reply}
+use Rattle.mgn_machine.specs.declared.request.Recorded.{Recorded}
+use Rattle.mgn_machine.specs.declared.request.Recorded.TheVariants.{Asked, InForce, SetRefused}
 use Rattle.mgn_machine.specs.declared.request.Request.{Request}
 use Rattle.mgn_machine.specs.declared.request.Request.TheVariants.{Do, Switch}
 use Rattle.mgn_machine.specs.Step.{step}
@@ -78,6 +81,16 @@ reply_at history place = option_map (λ (e : Entry). e.reply) (entry_at history 
 -- the number of its session
 abbrev pub session_at : List Entry → ℕ → Option ℕ
 session_at history place = option_map (λ (e : Entry). e.session) (entry_at history place)
+
+-- what is recorded as a command, none where it is a switch
+abbrev pub command_of : Recorded → Option Command
+command_of (Asked command) = Some command
+command_of (InForce version) = None
+command_of (SetRefused set) = None
+
+-- its command, none also where it is of a switch
+abbrev pub command_at : List Entry → ℕ → Option Command
+command_at history place = option_flatten (option_map (λ (e : Entry). command_of e.request) (entry_at history place))
 
 -- Inside the book.
 

@@ -8,7 +8,7 @@ ghost use Rattle.mgn_machine.specs.History.{calls};
 ghost use Rattle.mgn_unit.specs.NewSets.{ArePrepared};
 ghost use Rattle.mgn_register.specs.BookStates.{account_unit, statement_found};
 ghost use Rattle.mgn_register.specs.Plans.{Foresees, IsPossible, plan_of};
-ghost use Rattle.mgn_book.specs.BookViews.{Committed, Leaves, Shelves, Stands, opening, reply_at, session_at};
+ghost use Rattle.mgn_book.specs.BookViews.{Committed, Leaves, Shelves, Stands, command_at, opening, reply_at, session_at};
 
 use crate::history::History;
 use crate::in_force::switch_set;
@@ -106,6 +106,17 @@ impl Book {
             return None;
         }
         self.history.session(place as usize - 1)
+    }
+
+    /// The command of the entry at a place of the history, which counts from 1; none where there is no such entry, or
+    /// where its request is a switch. It takes no memory.
+    pub fn command(&self, place: u64) -> Option<Command>
+        ensures { result ≡ command_at self.now.history place }
+    {
+        if place == 0 {
+            return None;
+        }
+        self.history.command(place as usize - 1)
     }
 
     /// The version of the set in force.

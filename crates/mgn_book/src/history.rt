@@ -1,11 +1,12 @@
 ghost use Rattle.std.specs.Prelude.{◌≡◌, ◌<◌, ◌≤◌, ◌++◌, ◌∷◌, [], length, slice_index_or, vec_capacity, vec_len, IfOk, IfSome, IsOk, MatchOption, OnErr, OnOk, ℕ, true};
 ghost use Rattle.std.specs.List.{slice_get};
-ghost use Rattle.std.specs.Option.{option_map};
+ghost use Rattle.std.specs.Option.{option_flatten, option_map};
 ghost use Rattle.mgn_machine.specs.declared.entry.Entry.{Entry};
 ghost use Rattle.mgn_machine.specs.declared.request.Recorded.TheVariants.{Asked, InForce};
 ghost use Rattle.mgn_machine.specs.Brief.{is_brief};
 ghost use Rattle.mgn_machine.specs.History.{entry};
 ghost use Rattle.mgn_params.specs.Tables.{no_tables};
+ghost use Rattle.mgn_book.specs.BookViews.{command_of};
 ghost use Rattle.mgn_book.specs.History.{Grows, kept_apart, recorded_of, replies_needed, reply_of, sets_needed};
 
 use mgn_ids::SessionNo;
@@ -90,6 +91,17 @@ impl History {
     {
         let stored = self.entries.get(index)?;
         Some(stored.session)
+    }
+
+    /// The command of the entry of an index, none past the last and where a switch was asked.
+    pub fn command(&self, index: usize) -> Option<Command>
+        ensures { result ≡
+            option_flatten (option_map (λ (e : Entry). command_of e.request) (slice_get self.now.entries index)) }
+    {
+        match self.entries.get(index)?.request {
+            StoredRequest::Asked(command) => Some(command),
+            StoredRequest::InForce(_) | StoredRequest::SetRefused(_) => None,
+        }
     }
 
     /// The reply of the entry of an index, none past the last; the only error is that of `Reply::copy`.
