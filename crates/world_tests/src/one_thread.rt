@@ -44,6 +44,10 @@ impl OneThread {
         Ok(OneThread { alloc, shelf, book })
     }
 
+    pub fn alloc(&self) -> Global {
+        self.alloc
+    }
+
     pub fn len(&self) -> usize {
         self.book.len()
     }

@@ -2,6 +2,7 @@
 
 use crate::drawing::{Drawing, Passed, Sets};
 use crate::one_thread::{OneThread, text};
+use mgn_book::Book;
 use mgn_machine::{Refusal, Reply};
 use mgn_world::World;
 use mgn_world::stages::{Deed, Step};
@@ -44,6 +45,12 @@ impl Counts {
         }
     }
 
+    fn count_stale(&mut self, is_stale: bool) {
+        if is_stale {
+            self.stale = self.stale.saturating_add(1);
+        }
+    }
+
     fn count_refusal(&mut self, why: Refusal) {
         self.refused = self.refused.saturating_add(1);
         match why {
@@ -54,25 +61,35 @@ impl Counts {
     }
 }
 
-// Each reply of a list is that of the book of one thread, at its place, and this book has no more.
-fn check(
+// The reply at a place of a list's book is that of the book of one thread, at this place.
+fn check_entry(
     rt: &impl Abort,
-    alloc: Global,
-    sets: &Sets,
+    book: &Book,
+    place: u64,
     drawing: &Drawing,
-    world: &World,
+    other: &mut OneThread,
     counts: &mut Counts,
 ) -> Result<(), Fail> {
-    let book = world.book();
-    let mut other = OneThread::new(alloc, sets.first()?)?;
+    let Some(reply) = book.reply(place)? else {
+        return Err(Fail::new("no reply"));
+    };
+    counts.count(&reply);
+    let told = text(other.alloc(), place, reply)?;
+    let expected = other.follow(book, place, drawing)?;
+    assert!(rt; told.as_slice() == expected.as_slice(), "at {place}");
+    Ok(())
+}
+
+// All replies of a list are those of the book of one thread, which has no more.
+fn check(
+    rt: &impl Abort,
+    book: &Book,
+    drawing: &Drawing,
+    mut other: OneThread,
+    counts: &mut Counts,
+) -> Result<(), Fail> {
     for place in 1..=book.len() as u64 {
-        let Some(reply) = book.reply(place)? else {
-            return Err(Fail::new("no reply"));
-        };
-        counts.count(&reply);
-        let told = text(alloc, place, reply)?;
-        let expected = other.follow(book, place, drawing)?;
-        assert!(rt; told.as_slice() == expected.as_slice(), "at {place}");
+        check_entry(rt, book, place, drawing, &mut other, counts)?;
     }
     assert_eq!(rt; other.len(), book.len());
     Ok(())
@@ -115,21 +132,31 @@ fn is_stale(alloc: Global, sets: &Sets, number: u64, passed: Passed) -> Result<b
     )
 }
 
+// Draws the list of a number, takes its steps, and compares. Counts what came up.
+fn check_list(
+    rt: &impl Abort,
+    alloc: Global,
+    sets: &Sets,
+    number: u64,
+    counts: &mut Counts,
+) -> Result<(), Fail> {
+    let mut drawing = Drawing::new(alloc, sets, number, usize::MAX)?;
+    let world = World::run(alloc, sets.first()?, drawing.take_steps())?;
+    let other = OneThread::new(alloc, sets.first()?)?;
+    check(rt, world.book(), &drawing, other, counts)?;
+    match drawing.passed() {
+        Some(passed) => counts.count_stale(is_stale(alloc, sets, number, passed)?),
+        None => {}
+    }
+    Ok(())
+}
+
 #[test]
 fn random_lists_are_their_commits(rt: HostRuntime) -> Result<(), Fail> {
-    let alloc = rt.alloc();
-    let sets = Sets::new(alloc)?;
+    let sets = Sets::new(rt.alloc())?;
     let mut counts = Counts::NONE;
     for number in 0..LISTS {
-        let mut drawing = Drawing::new(alloc, &sets, number, usize::MAX)?;
-        let steps = drawing.take_steps();
-        let world = World::run(alloc, sets.first()?, steps)?;
-        check(&rt, alloc, &sets, &drawing, &world, &mut counts)?;
-        if let Some(passed) = drawing.passed() {
-            if is_stale(alloc, &sets, number, passed)? {
-                counts.stale = counts.stale.saturating_add(1);
-            }
-        }
+        check_list(&rt, rt.alloc(), &sets, number, &mut counts)?;
     }
     assert!(rt; counts.commits > 50_000 && counts.done > 20_000 && counts.refused > 10_000);
     assert!(rt; counts.without_room > 500 && counts.sets > 3_000);
