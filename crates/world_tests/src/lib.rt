@@ -2,4 +2,12 @@
 #![tactic(auto)]
 
 #[cfg(test)]
+mod commands;
+#[cfg(test)]
+mod drawing;
+#[cfg(test)]
 mod lists;
+#[cfg(test)]
+mod one_thread;
+#[cfg(test)]
+mod random;
