@@ -8,6 +8,10 @@ mod change;
 #[cfg(test)]
 mod day;
 #[cfg(test)]
+mod random;
+#[cfg(test)]
 mod row;
 #[cfg(test)]
 mod script;
+#[cfg(test)]
+mod shelved;

@@ -16,11 +16,14 @@ struct Worked {
     alloc: Global,
 }
 
-fn text_of(name: &[u8]) -> Option<&'static str> {
+/// The text of such a file, by its name.
+pub(crate) fn text_of(name: &[u8]) -> Option<&'static str> {
     if name == b"ONE".as_slice() {
         Some(one())
     } else if name == b"TWO".as_slice() {
         Some(two())
+    } else if name == b"FUT".as_slice() {
+        Some(fut())
     } else if name == b"BROKEN".as_slice() {
         Some("H,1,BROKEN\nG,AAA,0\nM,AAA,1,9\n")
     } else {
@@ -41,8 +44,8 @@ impl SetSource for Worked {
     }
 }
 
-// How many lines of a session a book answered, and what it wrote.
-fn answered(
+/// How many lines of a session a book answered, and what it wrote.
+pub(crate) fn answered(
     alloc: Global,
     plain: &mut Plain,
     session: &[u8],
