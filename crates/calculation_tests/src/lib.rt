@@ -5,6 +5,8 @@
 #[cfg(test)]
 mod credits;
 #[cfg(test)]
+mod desks;
+#[cfg(test)]
 mod figures;
 #[cfg(test)]
 mod options;

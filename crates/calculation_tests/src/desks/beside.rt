@@ -1,0 +1,311 @@
+//! A desk beside the four lists of nets that it is to show.
+
+ghost use Rattle.std.specs.Prelude.{◌≡◌, ◌<◌, ◌≤◌, ◌*◌, ◌^◌, ◌+ℤ◌, length, slice_set, unsigned_abs, All, IfOk};
+ghost use Rattle.mgn_span.specs.Positions.{IsNet};
+ghost use Rattle.mgn_span.specs.Scan.{value_at};
+ghost use Rattle.mgn_desk.specs.Desks.{CanMoveMarked, IsMarkedBy};
+
+use crate::sets::flat_nets;
+use mgn_desk::{Desk, Moves, Requirements, UnitNets};
+use mgn_num::{Cents, Quantity};
+use mgn_params::{ParamSet, Version, Work};
+use mgn_plain::requirement;
+use std::alloc::{AllocError, Global};
+use std::marker::Model;
+use std::process::Abort;
+use std::test::Fail;
+
+/// What a net is at most in size.
+pub(super) const LARGEST_NET: i64 = 10_000_000;
+
+/// The nets of one contract in the four portfolios of a unit.
+#[derive(Clone, Copy)]
+pub(super) struct FourNets {
+    pub lots: i64,
+    pub buys: i64,
+    pub sales: i64,
+    pub all: i64,
+}
+
+// A net, which is within its limit.
+fn some_net(rt: &impl Abort, contracts: i64) -> Quantity
+    ensures { IsNet result }
+{
+    assert!(rt; -LARGEST_NET <= contracts && contracts <= LARGEST_NET);
+    Quantity::new(contracts)
+}
+
+// A list of nets, one for each contract of a set. Contracts see the nets.
+#[derive(Drop)]
+struct NetList {
+    nets: Vec<Quantity>,
+}
+
+impl Model for NetList {
+    ghost use Rattle.mgn_span.specs.Positions.{IsNet};
+    ghost use Rattle.std.specs.Prelude.{All, List, ℤ};
+
+    ghost Value = { List ℤ };
+
+    ghost view = { λ n. n.nets.items };
+
+    ghost invariant = { λ n. All IsNet n.nets.items };
+}
+
+impl NetList {
+    // Nets of 0.
+    fn new(alloc: Global, set: &ParamSet) -> Result<NetList, AllocError>
+        ensures { IfOk result (λ nets. length nets ≡ length set.now.contracts) }
+    {
+        let nets = flat_nets(alloc, set)?;
+        Ok(NetList { nets })
+    }
+
+    fn as_slice(&self) -> &[Quantity]
+        ensures nets { result.now ≡ self.now }
+        ensures limits { All IsNet result.now }
+    {
+        self.nets.as_slice()
+    }
+
+    // The net of a contract.
+    fn at(&self, contract: usize) -> Quantity
+        requires { contract < length self.now }
+        ensures { IsNet result }
+    {
+        self.nets[contract]
+    }
+
+    // Writes the net of a contract.
+    fn write(&mut self, contract: usize, net: Quantity)
+        requires contract { contract < length self.old }
+        requires net { IsNet net }
+        ensures { length self.new ≡ length self.old }
+    {
+        self.nets[contract] = net;
+    }
+
+    // Takes over the nets of another list.
+    fn copy_from(&mut self, other: &NetList)
+        requires { length self.old ≡ length other.now }
+        ensures { self.new ≡ other.now }
+    {
+        self.nets.copy_from_slice(&other.nets);
+    }
+}
+
+// A net less another one.
+fn difference(new: Quantity, old: Quantity) -> Quantity
+    requires new { IsNet new }
+    requires old { IsNet old }
+    ensures { unsigned_abs result ≤ 2 * 10 ^ 7 }
+{
+    new.plus(old.negated())
+}
+
+// Whether the net of a contract stays within its limit with a quantity more.
+fn expect_room(rt: &impl Abort, nets: &[Quantity], contract: usize, quantity: Quantity)
+    requires nets { All IsNet nets.now }
+    requires contract { contract < length nets.now }
+    ensures { IsNet (value_at nets.now contract +ℤ quantity) }
+{
+    assert!(rt; quantity.size() <= 20_000_000);
+    let net = nets[contract].plus(quantity);
+    assert!(rt; net.size() <= 10_000_000);
+}
+
+// Whether the nets shown are those of a list.
+fn expect_same(rt: &impl Abort, shown: &[Quantity], nets: &NetList) {
+    assert!(rt; shown == nets.as_slice());
+}
+
+// How many portfolios are moved.
+fn count_moved(moves: &Moves) -> u64 {
+    let quantities = [moves.lots, moves.buys, moves.sales, moves.all];
+    quantities
+        .iter()
+        .filter(|quantity| quantity.size() != 0)
+        .count() as u64
+}
+
+/// A marked desk with the four lists. Contracts see the set.
+#[derive(Drop)]
+pub(super) struct Beside<'a> {
+    set: &'a ParamSet,
+    desk: Desk,
+    lots: NetList,
+    buys: NetList,
+    sales: NetList,
+    all: NetList,
+}
+
+impl<'a> Model for Beside<'a> {
+    ghost use Rattle.mgn_desk.specs.Desks.{IsMarkedBy};
+    ghost use Rattle.mgn_params.specs.Tables.{Tables};
+    ghost use Rattle.std.specs.Prelude.{◌≡◌, length};
+
+    ghost Value = { Tables };
+
+    ghost view = { λ b. b.set.now };
+
+    ghost invariant = { λ b. IsMarkedBy b.set.now b.desk.marked
+        × (length b.lots ≡ length b.set.now.contracts)
+        × (length b.buys ≡ length b.set.now.contracts)
+        × (length b.sales ≡ length b.set.now.contracts)
+        × (length b.all ≡ length b.set.now.contracts) };
+}
+
+// Whether the nets of a desk stay within their limits after moves.
+#[tactic(auto, using(mgn_desk::proofs::DeskLemmas::can_move_marked))]
+fn expect_rooms(rt: &impl Abort, set: &ParamSet, desk: &Desk, moves: &Moves)
+    requires marked { IsMarkedBy set.now desk.now.marked }
+    requires contract { moves.now.contract < length set.now.contracts }
+    ensures { CanMoveMarked moves.now desk.now.marked }
+{
+    let nets = desk.nets();
+    expect_room(rt, nets.lots, moves.contract, moves.lots);
+    expect_room(rt, nets.buys, moves.contract, moves.buys);
+    expect_room(rt, nets.sales, moves.contract, moves.sales);
+    expect_room(rt, nets.all, moves.contract, moves.all);
+}
+
+impl<'a> Beside<'a> {
+    /// A desk with nets of 0.
+    pub(super) fn new(alloc: Global, set: &'a ParamSet) -> Result<Beside<'a>, AllocError> {
+        let lots = NetList::new(alloc, set)?;
+        let buys = NetList::new(alloc, set)?;
+        let sales = NetList::new(alloc, set)?;
+        let all = NetList::new(alloc, set)?;
+        let mut desk = Desk::empty(0);
+        let nets = UnitNets {
+            lots: lots.as_slice(),
+            buys: buys.as_slice(),
+            sales: sales.as_slice(),
+            all: all.as_slice(),
+        };
+        desk.mark(alloc, Version::new(0), set, &nets)?;
+        Ok(Beside {
+            set,
+            desk,
+            lots,
+            buys,
+            sales,
+            all,
+        })
+    }
+
+    /// Marks the desk anew with the lists.
+    pub(super) fn mark(&mut self, alloc: Global) -> Result<(), AllocError> {
+        let nets = UnitNets {
+            lots: self.lots.as_slice(),
+            buys: self.buys.as_slice(),
+            sales: self.sales.as_slice(),
+            all: self.all.as_slice(),
+        };
+        self.desk.mark(alloc, Version::new(0), self.set, &nets)
+    }
+
+    /// The same once all lists are as that of the lots.
+    pub(super) fn mark_as_lots(&mut self, alloc: Global) -> Result<(), AllocError> {
+        self.buys.copy_from(&self.lots);
+        self.sales.copy_from(&self.lots);
+        self.all.copy_from(&self.lots);
+        self.mark(alloc)
+    }
+
+    /// The nets of a contract.
+    pub(super) fn nets_of(&self, rt: &impl Abort, contract: usize) -> FourNets {
+        assert!(rt; contract < self.set.contract_count());
+        FourNets {
+            lots: self.lots.at(contract).contracts(),
+            buys: self.buys.at(contract).contracts(),
+            sales: self.sales.at(contract).contracts(),
+            all: self.all.at(contract).contracts(),
+        }
+    }
+
+    // What brings the nets of a contract to these.
+    fn moves_to(&self, rt: &impl Abort, contract: usize, nets: &FourNets) -> Moves
+        requires { contract < length self.now.contracts }
+        ensures { result.contract ≡ contract }
+    {
+        Moves {
+            contract,
+            lots: difference(some_net(rt, nets.lots), self.lots.at(contract)),
+            buys: difference(some_net(rt, nets.buys), self.buys.at(contract)),
+            sales: difference(some_net(rt, nets.sales), self.sales.at(contract)),
+            all: difference(some_net(rt, nets.all), self.all.at(contract)),
+        }
+    }
+
+    // Writes the nets of a contract in the lists.
+    fn write(&mut self, rt: &impl Abort, contract: usize, nets: &FourNets) {
+        assert!(rt; contract < self.set.contract_count());
+        self.lots.write(contract, some_net(rt, nets.lots));
+        self.buys.write(contract, some_net(rt, nets.buys));
+        self.sales.write(contract, some_net(rt, nets.sales));
+        self.all.write(contract, some_net(rt, nets.all));
+    }
+
+    /// Brings the nets of a contract to these, the desk by the moves that lead there. It reads an array for each portfolio
+    /// that moves.
+    pub(super) fn bring(&mut self, rt: &impl Abort, contract: usize, nets: &FourNets) -> Moves {
+        assert!(rt; contract < self.set.contract_count());
+        let moves = self.moves_to(rt, contract, nets);
+        let mut work = Work::new();
+        expect_rooms(rt, self.set, &self.desk, &moves);
+        self.desk.apply(self.set, &moves, &mut work);
+        assert_eq!(rt; work.arrays(), count_moved(&moves));
+        self.write(rt, contract, nets);
+        moves
+    }
+
+    /// Takes moves back, which leads to these nets.
+    pub(super) fn take_back(&mut self, rt: &impl Abort, moves: &Moves, nets: &FourNets) {
+        assert!(rt; moves.contract < self.set.contract_count());
+        let mut work = Work::new();
+        expect_rooms(rt, self.set, &self.desk, &moves.opposite());
+        self.desk.take_back(self.set, moves, &mut work);
+        assert_eq!(rt; work.arrays(), count_moved(moves));
+        self.write(rt, moves.contract, nets);
+    }
+
+    // What a list requires, worked out anew.
+    fn anew(&self, alloc: Global, nets: &NetList) -> Result<Cents, AllocError>
+        requires { length nets.now ≡ length self.now.contracts }
+    {
+        requirement(alloc, self.set, nets.as_slice(), &mut Work::new())
+    }
+
+    // The same of the four lists.
+    fn all_anew(&self, alloc: Global) -> Result<Requirements, AllocError> {
+        Ok(Requirements {
+            lots: self.anew(alloc, &self.lots)?,
+            buys: self.anew(alloc, &self.buys)?,
+            sales: self.anew(alloc, &self.sales)?,
+            all: self.anew(alloc, &self.all)?,
+        })
+    }
+
+    // Whether the desk shows the lists.
+    fn nets_agree(&self, rt: &impl Abort) {
+        let nets = self.desk.nets();
+        expect_same(rt, nets.lots, &self.lots);
+        expect_same(rt, nets.buys, &self.buys);
+        expect_same(rt, nets.sales, &self.sales);
+        expect_same(rt, nets.all, &self.all);
+    }
+
+    // Whether it requires so much.
+    fn expect_requirements(&self, rt: &impl Abort, anew: &Requirements) {
+        assert_eq!(rt; self.desk.requirements(), *anew);
+    }
+
+    /// Compares the desk's nets with the lists, and what it requires with what they do. Tells the latter.
+    pub(super) fn agree(&self, rt: &impl Abort, alloc: Global) -> Result<Requirements, Fail> {
+        self.nets_agree(rt);
+        let anew = self.all_anew(alloc)?;
+        self.expect_requirements(rt, &anew);
+        Ok(anew)
+    }
+}
