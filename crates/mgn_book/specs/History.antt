@@ -1,71 +1,165 @@
--- How a book keeps its history: replies of figures, totals and statements, and the sets that were refused, stand in lists
--- of their own.
-use Rattle.std.specs.Prelude.{◌≡◌, ℕ, ◌+◌, ◌++◌, ◌≤◌, All, Bool, List, [], ◌∷◌, slice_index_or}
+-- How a book keeps its history: an entry has the places of its names in lists that have each name once. Replies other than a
+-- refusal and a plain `OK`, and the sets that were refused, stand in lists of their own.
+use Rattle.std.specs.Prelude.{◌≡◌, ℕ, ◌+◌, ◌*◌, ◌++◌, ◌<◌, ◌≤◌, All, Bool, true, false, List, [], ◌∷◌, length, slice_index_or}
 use Rattle.mgn_params.specs.Tables.{Tables, no_tables}
+use Rattle.mgn_machine.specs.declared.command.Command.TheVariants as command
 use Rattle.mgn_machine.specs.declared.entry.Entry.{Entry}
 use Rattle.mgn_machine.specs.declared.reply.Reply.{Reply}
 use Rattle.mgn_machine.specs.declared.reply.Reply.TheVariants.{Done, Figures, NewSet, Refused, Statement, Totals}
 use Rattle.mgn_machine.specs.declared.request.Recorded.{Recorded}
 use Rattle.mgn_machine.specs.declared.request.Recorded.TheVariants.{Asked, InForce, SetRefused}
 use Rattle.mgn_machine.specs.History.{entry}
-use Rattle.mgn_book.specs.declared.history.StoredEntry.{StoredEntry}
-use Rattle.mgn_book.specs.declared.history.StoredReply.{StoredReply}
-use Rattle.mgn_book.specs.declared.history.StoredReply.TheVariants.{Done as StoredDone, At, NewSet as StoredSet, Refused as StoredRefused}
-use Rattle.mgn_book.specs.declared.history.StoredRequest.{StoredRequest}
-use Rattle.mgn_book.specs.declared.history.StoredRequest.TheVariants.{Asked as StoredCommand, InForce as StoredVersion, SetRefused as RefusedAt}
+use Rattle.mgn_book.specs.declared.stored.StoredEntry.{StoredEntry}
+use Rattle.mgn_book.specs.declared.stored.StoredReply.{StoredReply}
+use Rattle.mgn_book.specs.declared.stored.StoredReply.TheVariants.{Done as StoredDone, At, Refused as StoredRefused}
+use Rattle.mgn_book.specs.declared.stored.StoredRequest.{StoredRequest}
+use Rattle.mgn_book.specs.declared.stored.StoredRequest.TheVariants as stored
 
 -- what contracts see of a history: its entries, and whether the next one needs no memory but for a refused set
 pub record EntryList : Type 0 where
   pub entries : List Entry
   pub reserved : Bool
 
+-- what they see of the names that entries have: for how many more there is room, too
+pub record NameLists : Type 0 where
+  pub accounts : List (List ℕ)
+  pub account_room : ℕ
+  pub contracts : List (List ℕ)
+  pub contract_room : ℕ
+
+-- something was added to a list, or nothing
+abbrev pub Grows : {X : Type 0} → List X → List X → Type 0
+Grows {X = X} old new = (more : List X) × (new ≡ old ++ more)
+
+-- the names stay where they are
+abbrev pub KeepsNames : NameLists → NameLists → Type 0
+KeepsNames old new = Grows old.accounts new.accounts × Grows old.contracts new.contracts
+
+-- there is room for the names of one command
+abbrev pub HasRoom : NameLists → Type 0
+HasRoom n = (2 ≤ n.account_room) × (1 ≤ n.contract_room)
+
+-- there are no more names than so many commands have
+abbrev pub AreFew : ℕ → NameLists → Type 0
+AreFew commands n = (length n.accounts ≤ 2 * commands) × (length n.contracts ≤ commands)
+
+-- at most those of one command were added
+abbrev pub AddsFew : NameLists → NameLists → Type 0
+AddsFew old new =
+    (length new.accounts ≤ length old.accounts + 2) × (length new.contracts ≤ length old.contracts + 1)
+
+abbrev pub name_at : List (List ℕ) → ℕ → List ℕ
+name_at names place = slice_index_or names place []
+
 -- what a reply adds to the list of replies that are kept apart
 abbrev pub kept_apart : Reply → List Reply
 kept_apart Done = []
 kept_apart (Figures figures) = Figures figures ∷ []
 kept_apart (Totals totals) = Totals totals ∷ []
-kept_apart (NewSet told) = []
+kept_apart (NewSet told) = NewSet told ∷ []
 kept_apart (Statement told) = Statement told ∷ []
 kept_apart (Refused why) = []
-
--- sets were added to a list, or none
-abbrev pub Grows : List Tables → List Tables → Type 0
-Grows old new = (more : List Tables) × (new ≡ old ++ more)
 
 -- the reply that is stored
 abbrev pub reply_of : List Reply → StoredReply → Reply
 reply_of apart StoredDone = Done
 reply_of apart (At place) = slice_index_or apart place Done
-reply_of apart (StoredSet told) = NewSet told
 reply_of apart (StoredRefused why) = Refused why
 
 -- the request that is stored
-abbrev pub recorded_of : List Tables → StoredRequest → Recorded
-recorded_of refused (StoredCommand command) = Asked command
-recorded_of refused (StoredVersion version) = InForce version
-recorded_of refused (RefusedAt place) = SetRefused (slice_index_or refused place (no_tables []))
+abbrev pub recorded_of : NameLists → List Tables → StoredRequest → Recorded
+recorded_of n sets (stored.NewOrigin origin mode) = Asked (command.NewOrigin origin mode)
+recorded_of n sets (stored.NewAccount account origin) = Asked (command.NewAccount (name_at n.accounts account) origin)
+recorded_of n sets (stored.Trade account contract quantity premium lot) = Asked (command.Trade record {
+  account = name_at n.accounts account;
+  lot = lot;
+  contract = name_at n.contracts contract;
+  quantity = quantity;
+  premium = premium;
+})
+recorded_of n sets (stored.Bust account lot) = Asked (command.Bust (name_at n.accounts account) lot)
+recorded_of n sets (stored.Hold account contract quantity limit order) = Asked (command.Hold record {
+  account = name_at n.accounts account;
+  order = order;
+  contract = name_at n.contracts contract;
+  quantity = quantity;
+  limit = limit;
+})
+recorded_of n sets (stored.Fill account order lot quantity premium) = Asked (command.Fill record {
+  account = name_at n.accounts account;
+  order = order;
+  lot = lot;
+  quantity = quantity;
+  premium = premium;
+})
+recorded_of n sets (stored.Release account order) = Asked (command.Release (name_at n.accounts account) order)
+recorded_of n sets (stored.Transfer from to contract quantity lot) = Asked (command.Transfer record {
+  lot = lot;
+  from = name_at n.accounts from;
+  to = name_at n.accounts to;
+  contract = name_at n.contracts contract;
+  quantity = quantity;
+})
+recorded_of n sets (stored.Post class account units) = Asked (command.Post (name_at n.accounts account) class units)
+recorded_of n sets (stored.Draw class account units) = Asked (command.Draw (name_at n.accounts account) class units)
+recorded_of n sets (stored.Ask account) = Asked (command.Ask (name_at n.accounts account))
+recorded_of n sets (stored.Total origin) = Asked (command.Total origin)
+recorded_of n sets (stored.Statement account) = Asked (command.Statement (name_at n.accounts account))
+recorded_of n sets stored.EndDay = Asked command.EndDay
+recorded_of n sets (stored.InForce version) = InForce version
+recorded_of n sets (stored.SetRefused place) = SetRefused (slice_index_or sets place (no_tables []))
+
+-- the names of a stored request are there
+abbrev pub IsNamed : NameLists → StoredRequest → Type 0
+IsNamed n (stored.NewOrigin origin mode) = Unit {0}
+IsNamed n (stored.NewAccount account origin) = account < length n.accounts
+IsNamed n (stored.Trade account contract quantity premium lot) = (account < length n.accounts) × (contract < length n.contracts)
+IsNamed n (stored.Bust account lot) = account < length n.accounts
+IsNamed n (stored.Hold account contract quantity limit order) = (account < length n.accounts) × (contract < length n.contracts)
+IsNamed n (stored.Fill account order lot quantity premium) = account < length n.accounts
+IsNamed n (stored.Release account order) = account < length n.accounts
+IsNamed n (stored.Transfer from to contract quantity lot) =
+    (from < length n.accounts) × (to < length n.accounts) × (contract < length n.contracts)
+IsNamed n (stored.Post class account units) = account < length n.accounts
+IsNamed n (stored.Draw class account units) = account < length n.accounts
+IsNamed n (stored.Ask account) = account < length n.accounts
+IsNamed n (stored.Total origin) = Unit {0}
+IsNamed n (stored.Statement account) = account < length n.accounts
+IsNamed n stored.EndDay = Unit {0}
+IsNamed n (stored.InForce version) = Unit {0}
+IsNamed n (stored.SetRefused place) = Unit {0}
+
+-- of a trade, an order or a transfer
+abbrev pub is_order : StoredRequest → Bool
+is_order (stored.Trade account contract quantity premium lot) = true
+is_order (stored.Hold account contract quantity limit order) = true
+is_order (stored.Fill account order lot quantity premium) = true
+is_order (stored.Transfer from to contract quantity lot) = true
+is_order _ = false
 
 -- how long the list of replies must be for a reply, and that of refused sets for a request
 abbrev pub replies_needed : StoredReply → ℕ
 replies_needed StoredDone = 0
 replies_needed (At place) = place + 1
-replies_needed (StoredSet told) = 0
 replies_needed (StoredRefused why) = 0
 
 abbrev pub sets_needed : StoredRequest → ℕ
-sets_needed (StoredCommand command) = 0
-sets_needed (StoredVersion version) = 0
-sets_needed (RefusedAt place) = place + 1
+sets_needed (stored.SetRefused place) = place + 1
+sets_needed _ = 0
 
 -- the entry of what is stored
-abbrev pub entry_of : List Reply → List Tables → StoredEntry → Entry
-entry_of apart refused stored =
-    entry stored.session stored.number (recorded_of refused stored.request) (reply_of apart stored.reply)
+abbrev pub entry_of : List Reply → NameLists → List Tables → StoredEntry → Entry
+entry_of apart n sets stored =
+    entry stored.session stored.number (recorded_of n sets stored.request) (reply_of apart stored.reply)
 
--- both lists are long enough for what is stored
-pub record IsShown (apart refused : ℕ) (stored : StoredEntry) : Type 0 where
+-- the lists are long enough for what is stored
+pub record IsShown (apart : ℕ) (n : NameLists) (sets : ℕ) (stored : StoredEntry) : Type 0 where
   pub reply : replies_needed stored.reply ≤ apart
-  pub request : sets_needed stored.request ≤ refused
+  pub names : IsNamed n stored.request
+  pub request : sets_needed stored.request ≤ sets
 
-abbrev pub AreShown : ℕ → ℕ → List StoredEntry → Type 0
-AreShown apart refused entries = All (IsShown apart refused) entries
+-- that holds of each entry, and each list has no more than the entries need
+pub record AreShown (apart : ℕ) (n : NameLists) (sets : ℕ) (entries : List StoredEntry) : Type 0 where
+  pub each : All (IsShown apart n sets) entries
+  pub replies : apart ≤ length entries
+  pub names : AreFew (length entries) n

@@ -9,7 +9,7 @@ ghost use Rattle.mgn_book.specs.Switches.{IsSwitched};
 
 use crate::history::History;
 use mgn_ids::SessionNo;
-use mgn_machine::{NewSet, Recorded, Refusal, Reply};
+use mgn_machine::{NewSet, Refusal, Reply};
 use mgn_params::{ParamSet, PutFault, Shelf};
 use mgn_register::{Fault, Register};
 use mgn_unit::{PreparedUnit, Row};
@@ -26,6 +26,7 @@ fn enter_set<S: Shelf>(
     shelf: &mut S,
 ) -> Result<Reply, Fault>
     requires reserved { history.old.reserved ≡ true }
+    requires few_entries { length history.old.entries < 1000000 }
     requires number { number ≤ 1000000 }
     requires shown { length (S.sets shelf.old) ≡ register.old.state.version + 1 }
     requires few { register.old.state.version < 64 }
@@ -56,15 +57,8 @@ fn enter_set<S: Shelf>(
         version: version.number(),
         on_call: register.put_in_force(rows, version),
     };
-    match history.push_switch(
-        session,
-        number,
-        Recorded::InForce(version),
-        Reply::NewSet(told),
-    ) {
-        Ok(()) => Ok(Reply::NewSet(told)),
-        Err(_) => unreachable!(),
-    }
+    history.push_in_force(session, number, version, told);
+    Ok(Reply::NewSet(told))
 }
 
 // Keeps a set that may not come into force.
@@ -76,6 +70,7 @@ fn refuse_set(
     why: Refusal,
 ) -> Result<Reply, Fault>
     requires reserved { history.old.reserved ≡ true }
+    requires few_entries { length history.old.entries < 1000000 }
     requires number { number ≤ 1000000 }
     ensures reply { IfOk result (λ reply. reply ≡ Reply.Refused why) }
     ensures entry { IfOk result (λ reply.
@@ -83,8 +78,7 @@ fn refuse_set(
     ensures fault { IfErr result (λ fault. fault ≡ Fault.Memory) }
     ensures same_history { OnErr result (history.new.entries ≡ history.old.entries) }
 {
-    let request = Recorded::SetRefused(set);
-    history.push_switch(session, number, request, Reply::Refused(why))?;
+    history.push_refused(session, number, set, why)?;
     Ok(Reply::Refused(why))
 }
 
@@ -101,6 +95,7 @@ pub(crate) fn switch_set<S: Shelf>(
     prepared: &[Option<PreparedUnit>],
 ) -> Result<Reply, Fault>
     requires reserved { history.old.reserved ≡ true }
+    requires few_entries { length history.old.entries < 1000000 }
     requires number { number ≤ 1000000 }
     requires shown { length (S.sets shelf.old) ≡ register.old.state.version + 1 }
     requires prepared { ArePrepared set prepared.now }

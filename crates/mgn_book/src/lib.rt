@@ -6,6 +6,8 @@ mod by_desks;
 mod history;
 mod in_force;
 pub mod laws;
+mod names;
+mod stored;
 
 pub use book::{Book, Outcome};
 pub use by_desks::Decision;

@@ -1,0 +1,319 @@
+//! What an entry of the history is stored as.
+
+ghost use Rattle.std.specs.Prelude.{◌≡◌, ◌+◌, ◌*◌, ◌++◌, ◌<◌, ◌≤◌, ◌^◌, length, vec_capacity, vec_len, IfOk, IsOk, List, true};
+ghost use Rattle.mgn_machine.specs.Brief.{is_brief};
+ghost use Rattle.mgn_machine.specs.declared.request.Recorded.TheVariants.{Asked};
+ghost use Rattle.mgn_params.specs.Tables.{Tables};
+ghost use Rattle.mgn_book.specs.BookViews.{command_of};
+ghost use Rattle.mgn_book.specs.History.{AddsFew, AreFew, HasRoom, IsNamed, is_order, KeepsNames, kept_apart, recorded_of, replies_needed, reply_of, sets_needed};
+
+use crate::names::Names;
+use mgn_ids::{ClassName, LotId, LotQuantity, OrderId, OriginName, Premium, SessionNo, Units};
+use mgn_machine::{Command, Fill, Hold, Mode, Refusal, Reply, Trade, Transfer};
+use mgn_params::Version;
+use std::alloc::AllocError;
+
+// A request, with the places of its names, and of a refused set, in lists of these. Fields lie as they are listed here, so
+// that none takes more than 32 bytes.
+#[derive(Clone, Copy)]
+pub(crate) enum StoredRequest {
+    NewOrigin(OriginName, Mode),
+    NewAccount(u32, OriginName),
+    Trade {
+        account: u32,
+        contract: u32,
+        quantity: LotQuantity,
+        premium: Premium,
+        lot: LotId,
+    },
+    Bust(u32, LotId),
+    Hold {
+        account: u32,
+        contract: u32,
+        quantity: LotQuantity,
+        limit: Premium,
+        order: OrderId,
+    },
+    Fill {
+        account: u32,
+        order: OrderId,
+        lot: LotId,
+        quantity: LotQuantity,
+        premium: Premium,
+    },
+    Release(u32, OrderId),
+    Transfer {
+        from: u32,
+        to: u32,
+        contract: u32,
+        quantity: LotQuantity,
+        lot: LotId,
+    },
+    Post(ClassName, u32, Units),
+    Draw(ClassName, u32, Units),
+    Ask(u32),
+    Total(OriginName),
+    Statement(u32),
+    EndDay,
+    InForce(Version),
+    SetRefused(usize),
+}
+
+// A reply, or its place in a list of those that take more memory.
+#[derive(Clone, Copy)]
+pub(crate) enum StoredReply {
+    Done,
+    At(u32),
+    Refused(Refusal),
+}
+
+// An entry without what few entries have or many share, and what would take more memory than all the rest of it: names,
+// figures, totals, a statement, a set that was refused.
+#[derive(Clone, Copy)]
+pub(crate) struct StoredEntry {
+    pub session: SessionNo,
+    pub number: u32,
+    pub request: StoredRequest,
+    pub reply: StoredReply,
+}
+
+const _: () = prove!(size_of::<StoredEntry>() == 48);
+
+fn store_trade(names: &mut Names, trade: &Trade) -> StoredRequest
+    requires room { HasRoom names.old }
+    requires few { AreFew 1000000 names.old }
+    ensures kept { KeepsNames names.old names.new }
+    ensures named { IsNamed names.new result }
+    ensures request { (sets : List Tables) →
+        recorded_of names.new sets result ≡ Asked (Command.Trade trade.now) }
+    ensures no_set { sets_needed result ≡ 0 }
+    ensures few { AddsFew names.old names.new }
+{
+    StoredRequest::Trade {
+        account: names.place_of_account(trade.account),
+        contract: names.place_of_contract(trade.contract),
+        quantity: trade.quantity,
+        premium: trade.premium,
+        lot: trade.lot,
+    }
+}
+
+fn store_hold(names: &mut Names, hold: &Hold) -> StoredRequest
+    requires room { HasRoom names.old }
+    requires few { AreFew 1000000 names.old }
+    ensures kept { KeepsNames names.old names.new }
+    ensures named { IsNamed names.new result }
+    ensures request { (sets : List Tables) →
+        recorded_of names.new sets result ≡ Asked (Command.Hold hold.now) }
+    ensures no_set { sets_needed result ≡ 0 }
+    ensures few { AddsFew names.old names.new }
+{
+    StoredRequest::Hold {
+        account: names.place_of_account(hold.account),
+        contract: names.place_of_contract(hold.contract),
+        quantity: hold.quantity,
+        limit: hold.limit,
+        order: hold.order,
+    }
+}
+
+fn store_fill(names: &mut Names, fill: &Fill) -> StoredRequest
+    requires room { HasRoom names.old }
+    requires few { AreFew 1000000 names.old }
+    ensures kept { KeepsNames names.old names.new }
+    ensures named { IsNamed names.new result }
+    ensures request { (sets : List Tables) →
+        recorded_of names.new sets result ≡ Asked (Command.Fill fill.now) }
+    ensures no_set { sets_needed result ≡ 0 }
+    ensures few { AddsFew names.old names.new }
+{
+    StoredRequest::Fill {
+        account: names.place_of_account(fill.account),
+        order: fill.order,
+        lot: fill.lot,
+        quantity: fill.quantity,
+        premium: fill.premium,
+    }
+}
+
+fn store_transfer(names: &mut Names, transfer: &Transfer) -> StoredRequest
+    requires room { HasRoom names.old }
+    requires few { AreFew 1000000 names.old }
+    ensures kept { KeepsNames names.old names.new }
+    ensures named { IsNamed names.new result }
+    ensures request { (sets : List Tables) →
+        recorded_of names.new sets result ≡ Asked (Command.Transfer transfer.now) }
+    ensures no_set { sets_needed result ≡ 0 }
+    ensures few { AddsFew names.old names.new }
+{
+    StoredRequest::Transfer {
+        from: names.place_of_account(transfer.from),
+        to: names.place_of_account(transfer.to),
+        contract: names.place_of_contract(transfer.contract),
+        quantity: transfer.quantity,
+        lot: transfer.lot,
+    }
+}
+
+/// A command with the places of its names, which are added where they are not there.
+pub(crate) fn store_command(names: &mut Names, command: &Command) -> StoredRequest
+    requires room { HasRoom names.old }
+    requires few { AreFew 1000000 names.old }
+    ensures kept { KeepsNames names.old names.new }
+    ensures named { IsNamed names.new result }
+    ensures request { (sets : List Tables) → recorded_of names.new sets result ≡ Asked command.now }
+    ensures no_set { sets_needed result ≡ 0 }
+    ensures few { AddsFew names.old names.new }
+{
+    match *command {
+        Command::NewOrigin(origin, mode) => StoredRequest::NewOrigin(origin, mode),
+        Command::NewAccount(account, origin) => {
+            StoredRequest::NewAccount(names.place_of_account(account), origin)
+        }
+        Command::Trade(trade) => store_trade(names, &trade),
+        Command::Bust(account, lot) => StoredRequest::Bust(names.place_of_account(account), lot),
+        Command::Hold(hold) => store_hold(names, &hold),
+        Command::Fill(fill) => store_fill(names, &fill),
+        Command::Release(account, order) => {
+            StoredRequest::Release(names.place_of_account(account), order)
+        }
+        Command::Transfer(transfer) => store_transfer(names, &transfer),
+        Command::Post(account, class, units) => {
+            StoredRequest::Post(class, names.place_of_account(account), units)
+        }
+        Command::Draw(account, class, units) => {
+            StoredRequest::Draw(class, names.place_of_account(account), units)
+        }
+        Command::Ask(account) => StoredRequest::Ask(names.place_of_account(account)),
+        Command::Total(origin) => StoredRequest::Total(origin),
+        Command::Statement(account) => StoredRequest::Statement(names.place_of_account(account)),
+        Command::EndDay => StoredRequest::EndDay,
+    }
+}
+
+// The command of a request that is of a trade, an order or a transfer.
+fn order_in(names: &Names, stored: StoredRequest) -> Command
+    requires named { IsNamed names.now stored }
+    requires order { is_order stored ≡ true }
+    ensures { (sets : List Tables) → Asked result ≡ recorded_of names.now sets stored }
+{
+    match stored {
+        StoredRequest::Trade {
+            account,
+            contract,
+            quantity,
+            premium,
+            lot,
+        } => Command::Trade(Trade {
+            account: names.account(account),
+            lot,
+            contract: names.contract(contract),
+            quantity,
+            premium,
+        }),
+        StoredRequest::Hold {
+            account,
+            contract,
+            quantity,
+            limit,
+            order,
+        } => Command::Hold(Hold {
+            account: names.account(account),
+            order,
+            contract: names.contract(contract),
+            quantity,
+            limit,
+        }),
+        StoredRequest::Fill {
+            account,
+            order,
+            lot,
+            quantity,
+            premium,
+        } => Command::Fill(Fill {
+            account: names.account(account),
+            order,
+            lot,
+            quantity,
+            premium,
+        }),
+        StoredRequest::Transfer {
+            from,
+            to,
+            contract,
+            quantity,
+            lot,
+        } => Command::Transfer(Transfer {
+            lot,
+            from: names.account(from),
+            to: names.account(to),
+            contract: names.contract(contract),
+            quantity,
+        }),
+        _ => unreachable!(),
+    }
+}
+
+/// The command that is stored, none where a switch is.
+pub(crate) fn command_in(names: &Names, stored: StoredRequest) -> Option<Command>
+    requires { IsNamed names.now stored }
+    ensures { (sets : List Tables) → result ≡ command_of (recorded_of names.now sets stored) }
+{
+    match stored {
+        StoredRequest::NewOrigin(origin, mode) => Some(Command::NewOrigin(origin, mode)),
+        StoredRequest::NewAccount(account, origin) => {
+            Some(Command::NewAccount(names.account(account), origin))
+        }
+        StoredRequest::Bust(account, lot) => Some(Command::Bust(names.account(account), lot)),
+        StoredRequest::Release(account, order) => {
+            Some(Command::Release(names.account(account), order))
+        }
+        StoredRequest::Post(class, account, units) => {
+            Some(Command::Post(names.account(account), class, units))
+        }
+        StoredRequest::Draw(class, account, units) => {
+            Some(Command::Draw(names.account(account), class, units))
+        }
+        StoredRequest::Ask(account) => Some(Command::Ask(names.account(account))),
+        StoredRequest::Total(origin) => Some(Command::Total(origin)),
+        StoredRequest::Statement(account) => Some(Command::Statement(names.account(account))),
+        StoredRequest::EndDay => Some(Command::EndDay),
+        StoredRequest::InForce(_) | StoredRequest::SetRefused(_) => None,
+        StoredRequest::Trade { .. }
+        | StoredRequest::Hold { .. }
+        | StoredRequest::Fill { .. }
+        | StoredRequest::Transfer { .. } => Some(order_in(names, stored)),
+    }
+}
+
+/// Puts a reply at the end of the list of those that are kept apart, if it is one of them.
+pub(crate) fn store_reply(apart: &mut Vec<Reply>, reply: Reply) -> StoredReply
+    requires room { vec_len apart.old < vec_capacity apart.old }
+    requires few { length apart.old.items ≤ 1000000 }
+    ensures grown { apart.new.items ≡ apart.old.items ++ kept_apart reply }
+    ensures needed { replies_needed result ≤ length apart.new.items }
+    ensures reply { reply_of apart.new.items result ≡ reply }
+{
+    match reply {
+        Reply::Done => StoredReply::Done,
+        Reply::Refused(why) => StoredReply::Refused(why),
+        long => {
+            let place = apart.len() as u32;
+            apart.push_reserved(long);
+            StoredReply::At(place)
+        }
+    }
+}
+
+/// A copy of the reply that is stored. The only error is that of `Reply::copy`.
+pub(crate) fn reply_in(apart: &[Reply], stored: StoredReply) -> Result<Reply, AllocError>
+    requires { replies_needed stored ≤ length apart.now }
+    ensures equal { IfOk result (λ copy. copy ≡ reply_of apart.now stored) }
+    ensures brief { is_brief (reply_of apart.now stored) ≡ true → IsOk result }
+{
+    match stored {
+        StoredReply::Done => Ok(Reply::Done),
+        StoredReply::Refused(why) => Ok(Reply::Refused(why)),
+        StoredReply::At(place) => apart[place as usize].copy(),
+    }
+}
