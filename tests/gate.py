@@ -206,6 +206,7 @@ class Gate:
         proved, tried = self.chosen()
         self.part("memory faults are handed up", [*python, "tests/memory_rule.py"])
         self.part("definitions", [*python, "tests/definitions.py", "--brief"])
+        self.part("definitions of the world", [*python, "tests/definitions.py", "--brief", "mgn_world::run"])
         self.part("sets that tests read", ["tests/sets.sh"], r"(\d+) sets compared, (\d+) differ")
         if tried == {*self.repository.lines}:
             self.part("edits.py on itself", [*python, "tests/edits_selftest.py"], r"(\d+) edits, (\d+) wrong")
