@@ -5,9 +5,9 @@ use Rattle.std.specs.Prelude.{ℕ, ℤ, pos, negsuc, neg_ℤ, suc, ◌-◌, ◌�
 abbrev pub IsAmount : ℤ → Type 0
 IsAmount z = unsigned_abs z ≤ 10 ^ 36
 
--- contracts: at most 10^12 in size
+-- contracts: at most 10^9 in size, so that 32 bits hold them
 abbrev pub IsQuantity : ℤ → Type 0
-IsQuantity z = unsigned_abs z ≤ 10 ^ 12
+IsQuantity z = unsigned_abs z ≤ 10 ^ 9
 
 -- a number brought nearer to 0 by a size, where it stops
 abbrev pub nearer_zero : ℤ → ℕ → ℤ

@@ -79,7 +79,7 @@ impl Cents {
         }
     }
 
-    /// A quantity of contracts at an amount for each: at most 10^12 contracts at 10^18 cents.
+    /// A quantity of contracts at an amount for each: at most 10^9 contracts at 10^18 cents.
     pub fn product(quantity: Quantity, each: i64) -> Cents
         ensures { result ≡ quantity *ℤ each }
     {

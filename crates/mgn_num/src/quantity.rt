@@ -2,11 +2,11 @@ ghost use Rattle.std.specs.Prelude.{◌≡◌, ◌≤◌, ◌^◌, ◌<ℤ◌, �
 
 use std::marker::Model;
 
-/// A signed number of contracts, at most 10^12 in size: above 0 bought or long, below 0 sold or short.
+/// A signed number of contracts, at most 10^9 in size: above 0 bought or long, below 0 sold or short.
 /// Contracts see the number.
 #[derive(Clone, Copy, PartialEq, Eq, PartialOrd, Ord, Debug)]
 pub struct Quantity {
-    contracts: i64,
+    contracts: i32,
 }
 
 impl Model for Quantity {
@@ -33,7 +33,9 @@ impl Quantity {
         requires { IsQuantity contracts }
         ensures { result ≡ contracts }
     {
-        Quantity { contracts }
+        Quantity {
+            contracts: contracts as i32,
+        }
     }
 
     /// The number of contracts.
@@ -41,7 +43,7 @@ impl Quantity {
         ensures value { result ≡ self }
         ensures small { IsQuantity result }
     {
-        self.contracts
+        i64::from(self.contracts)
     }
 
     /// The sum of two quantities.
@@ -66,9 +68,9 @@ impl Quantity {
     /// The number of contracts without its sign.
     pub fn size(self) -> u64
         ensures value { result ≡ unsigned_abs self }
-        ensures small { result ≤ 10 ^ 12 }
+        ensures small { result ≤ 10 ^ 9 }
     {
-        self.contracts.unsigned_abs()
+        u64::from(self.contracts.unsigned_abs())
     }
 
     /// Whether it is bought or long.
