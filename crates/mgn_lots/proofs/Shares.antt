@@ -1,15 +1,15 @@
 -- What single lots count for, and what a change of one of them does to the net and the gross of a contract.
-use Rattle.std.proofs.Common.{◌≡◌, ℕ, zero, suc, ◌+◌, ◌*◌, ◌≤◌, ◌<◌, ◌^◌, List, [], ◌∷◌, ◌++◌, length, set, get_or, refl, ap, ◌∙◌, arith, true, false, Bool, All}
+use Rattle.std.proofs.Common.{◌≡◌, ℕ, zero, suc, ◌+◌, ◌≤◌, ◌<◌, List, [], ◌∷◌, ◌++◌, length, set, get_or, refl, ap, ◌∙◌, arith, true, false, Bool}
 use Rattle.std.specs.Prelude.{pos, ◌+ℤ◌, unsigned_abs}
 use Rattle.std.specs.Str.{bytes_eq}
 use Rattle.std.specs.List.{sum_by}
 use Rattle.std.proofs.lemmas.Int.{ints}
-use Rattle.std.proofs.lemmas.List.Sums.{sum_by-cons, sum_by_push, sum_by-set, sum_by-le}
+use Rattle.std.proofs.lemmas.List.Sums.{sum_by-cons, sum_by_push, sum_by-set}
 use Rattle.std.proofs.lemmas.Slice.Eq.{bytes_eq-Decides}
 use Rattle.mgn_num.proofs.SignedLemmas.{signed_sum_by-set}
 use Rattle.mgn_num.proofs.SignedEdits.{signed_sum_by-push, size-signed_sum_by}
 use Rattle.mgn_lots.specs.declared.lot.Lot.{Lot}
-use Rattle.mgn_lots.specs.Lots.{IsLot, is_live, live_quantity, lot_share, net, gross, busted}
+use Rattle.mgn_lots.specs.Lots.{is_live, live_quantity, lot_share, net, gross, busted}
 
 -- sums
 
@@ -32,18 +32,8 @@ live_quantity-le x = by (is_live x.mark) refl
     by true e = rw e (omega arith)
     by false e = rw e (omega arith)
 
-pub lot_share-le : (contract : List ℕ) (x : Lot) → unsigned_abs (lot_share contract x) ≤ unsigned_abs x.quantity
-lot_share-le contract x = by (bytes_eq x.contract contract) refl
-  where
-    by : (b : Bool) → bytes_eq x.contract contract ≡ b → unsigned_abs (lot_share contract x) ≤ unsigned_abs x.quantity
-    by true e = rw e (live_quantity-le x)
-    by false e = rw e (omega arith)
-
 pub lot_share-own : (x : Lot) → lot_share x.contract x ≡ live_quantity x
 lot_share-own x = rw (bytes_eq-same x.contract) refl
-
-pub lot_share-other : (contract : List ℕ) (x : Lot) → bytes_eq x.contract contract ≡ false → lot_share contract x ≡ pos 0
-lot_share-other contract x other = rw other refl
 
 pub lot_share-busted : (contract : List ℕ) (x : Lot) → lot_share contract (busted x) ≡ pos 0
 lot_share-busted contract x = by (bytes_eq x.contract contract) refl
@@ -57,10 +47,6 @@ lot_share-busted contract x = by (bytes_eq x.contract contract) refl
 -- the net of a contract is no larger than its gross
 pub net-le-gross : (contract : List ℕ) (lots : List Lot) → unsigned_abs (net contract lots) ≤ gross contract lots
 net-le-gross contract lots = size-signed_sum_by (lot_share contract) lots
-
-pub gross-le : (contract : List ℕ) (lots : List Lot) → All IsLot lots → gross contract lots ≤ length lots * 10 ^ 6
-gross-le contract lots limits =
-    sum_by-le (λ (x : Lot). unsigned_abs (lot_share contract x)) (10 ^ 6) lots (λ i d inside. omega (arith, lot_share-le contract (get_or lots i d), (limits i d inside).most))
 
 -- a lot more
 pub net-push : (contract : List ℕ) (lots : List Lot) (x : Lot) → net contract (lots ++ x ∷ []) ≡ net contract lots +ℤ lot_share contract x

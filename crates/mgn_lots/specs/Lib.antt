@@ -1,3 +1,3 @@
 pub mod Lots
 pub mod LotList
-pub mod Positions
+pub mod Kept

@@ -1,9 +1,8 @@
-//! The lots of an account: a list in order of entry with the net and the gross size of each contract.
+//! The lots of an account: a list in order of entry, in which a lot is found by one hash of its number.
 #![tactic(auto)]
 
 pub mod lot;
 pub mod lots;
-pub mod position;
 pub mod transfer;
 
 pub use lot::{Lot, Mark};

@@ -1,4 +1,4 @@
-ghost use Rattle.std.specs.Prelude.{◌≡◌};
+ghost use Rattle.std.specs.Prelude.{◌≡◌, ◌≤◌, unsigned_abs};
 
 use mgn_ids::{ContractName, LotId};
 use mgn_num::Quantity;
@@ -33,17 +33,19 @@ impl Mark {
 pub struct Lot {
     /// Its number, used once in an account.
     pub number: LotId,
-    /// The contract by its name, since a later set of parameters may number its contracts otherwise.
-    pub contract: ContractName,
     /// 1 to 1,000,000 contracts in size, above 0 bought and below 0 sold.
     pub quantity: Quantity,
     /// Cents for each contract, 0 to 10^8.
     pub premium: u32,
+    /// The contract by its name, since a later set of parameters may number its contracts otherwise.
+    pub contract: ContractName,
     pub mark: Mark,
 }
 
+const _: () = prove!(size_of::<Lot>() == 40);
+
 impl Lot {
-    ghost use Rattle.mgn_lots.specs.Lots.{live_quantity};
+    ghost use Rattle.mgn_lots.specs.Lots.{live_quantity, lot_share};
 
     /// The quantity for which the lot counts, in contracts: 0 where it is busted.
     pub fn live_quantity(&self) -> Quantity
@@ -51,6 +53,18 @@ impl Lot {
     {
         if self.mark.is_live() {
             self.quantity
+        } else {
+            Quantity::ZERO
+        }
+    }
+
+    // The quantity for which it counts in a contract: 0 where it is of another one, or busted.
+    pub(crate) fn share(&self, contract: &ContractName) -> Quantity
+        ensures share { result ≡ lot_share contract.now self.now }
+        ensures small { unsigned_abs result ≤ unsigned_abs self.now.quantity }
+    {
+        if &self.contract == contract {
+            self.live_quantity()
         } else {
             Quantity::ZERO
         }

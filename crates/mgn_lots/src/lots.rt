@@ -1,47 +1,38 @@
-ghost use Rattle.std.specs.Prelude.{◌≡◌, ◌<◌, ◌≤◌, ◌+◌, ◌^◌, ◌+ℤ◌, ◌-ℤ◌, unsigned_abs, ◌++◌, ◌∷◌, [], Some, length, slice_set, OnOk, OnErr, IfSome, IsOk, IsSome, true, false};
-ghost use Rattle.std.specs.Str.{bytes_eq};
-ghost use Rattle.indexmap.specs.IndexMap.{get, spare, Updates};
-ghost use Rattle.mgn_num.specs.Amount.{IsQuantity};
+ghost use Rattle.std.specs.Prelude.{◌≡◌, ◌<◌, ◌++◌, ◌∷◌, [], length, slice_set, OnOk, OnErr, IfSome, IsOk, true, false};
 ghost use Rattle.mgn_lots.specs.Lots.{IsLot, lot_at, busted, has_number, is_full, place_of_lot, net, gross, is_live};
-ghost use Rattle.mgn_lots.specs.Positions.{or_flat, position_of, position_with, position_without};
 
 use crate::lot::{Lot, Mark};
-use crate::position::Position;
-use indexmap::{IndexMap, IndexSet};
+use indexmap::IndexSet;
 use mgn_ids::{ContractName, LotId};
-use mgn_num::Quantity;
 use std::alloc::{AllocError, Global};
 use std::marker::Model;
 
 /// How many lots an account may have, busted ones included.
 pub const MOST_LOTS: usize = 65_536;
 
-/// The lots of an account, in order of entry. A lot is found by one hash of its number, and the net and the gross of a
-/// contract by one hash of its name, however many lots there are. Contracts see the list of the lots, and whether
+/// The lots of an account, in order of entry. A lot is found by one hash of its number, however many lots there are;
+/// the net and the gross of a contract take a walk over all of them. Contracts see the list of the lots, and whether
 /// memory for the next one is reserved.
 #[derive(Drop)]
 pub struct Lots {
     lots: Vec<Lot>,
     numbers: IndexSet<LotId>,
-    positions: IndexMap<ContractName, Position>,
-    // Each of the three has room for one more, whatever its contract, and none has used it since.
+    // Both have room for one more, and neither has used it since.
     reserved: bool,
 }
 
 impl Model for Lots {
     ghost use Rattle.std.specs.Prelude.{vec_len, vec_capacity};
-    ghost use Rattle.std.specs.Str.{bytes_eq};
-    ghost use Rattle.indexmap.specs.IndexSet.{spare as spare_numbers};
-    ghost use Rattle.indexmap.specs.IndexMap.{get, spare as spare_positions};
+    ghost use Rattle.indexmap.specs.IndexSet.{spare};
     ghost use Rattle.mgn_lots.specs.LotList.{LotList};
-    ghost use Rattle.mgn_lots.specs.Positions.{IsLots, HasRoom};
+    ghost use Rattle.mgn_lots.specs.Kept.{IsLots, HasRoom};
 
     ghost Value = { LotList };
 
     ghost view = { λ l. record { lots = l.lots.items; reserved = l.reserved } };
 
-    ghost invariant = { λ l. IsLots l.lots.items l.numbers.keys (get bytes_eq l.positions) l.reserved
-        (HasRoom (vec_len l.lots) (vec_capacity l.lots) (spare_numbers l.numbers) (spare_positions l.positions)) };
+    ghost invariant = { λ l. IsLots l.lots.items l.numbers.keys l.reserved
+        (HasRoom (vec_len l.lots) (vec_capacity l.lots) (spare l.numbers)) };
 }
 
 impl Lots {
@@ -53,7 +44,6 @@ impl Lots {
         Lots {
             lots: Vec::new(alloc),
             numbers: IndexSet::new(alloc),
-            positions: IndexMap::new(alloc),
             reserved: false,
         }
     }
@@ -103,28 +93,32 @@ impl Lots {
         &self.lots[place]
     }
 
-    /// The net of a contract, in contracts: the sum of the quantities of its live lots.
-    pub fn net(&self, contract: &ContractName) -> Quantity
+    /// The net of a contract, in contracts: the sum of the quantities of its live lots. Busted ones count for nothing.
+    /// It walks over all lots, so it takes as long as there are lots.
+    pub fn net(&self, contract: &ContractName) -> i64
         ensures { result ≡ net contract.now self.now.lots }
     {
-        self.position(contract).net
+        let mut net = 0;
+        for lot in self.lots.as_slice() {
+            net += lot.share(contract).contracts();
+        }
+        net
     }
 
-    /// The gross of a contract: the sum of the sizes of its live lots, in contracts.
+    /// The gross of a contract, in contracts: the sum of the sizes of its live lots. Busted ones count for nothing. It
+    /// walks over all lots, so it takes as long as there are lots.
     pub fn gross(&self, contract: &ContractName) -> u64
         ensures { result ≡ gross contract.now self.now.lots }
     {
-        self.position(contract).gross
+        let mut gross = 0;
+        for lot in self.lots.as_slice() {
+            gross += lot.share(contract).size();
+        }
+        gross
     }
 
-    fn position(&self, contract: &ContractName) -> Position
-        ensures { result ≡ position_of contract.now self.now.lots }
-    {
-        position_in(&self.positions, contract)
-    }
-
-    /// Reserves memory for one more lot, whatever its contract: the next one is then added without any. Where memory is
-    /// refused nothing has changed; where it is reserved already none is taken.
+    /// Reserves memory for one more lot: the next one is then added without any. Where memory is refused nothing has
+    /// changed; where it is reserved already none is taken.
     pub fn reserve(&mut self) -> Result<(), AllocError>
         ensures lots { self.new.lots ≡ self.old.lots }
         ensures ok { OnOk result (self.new.reserved ≡ true) }
@@ -133,7 +127,6 @@ impl Lots {
     {
         self.lots.reserve(1)?;
         self.numbers.reserve(1)?;
-        self.positions.reserve(1)?;
         self.reserved = true;
         Ok(())
     }
@@ -182,7 +175,6 @@ impl Lots {
         self.reserved = false;
         self.lots.push_reserved(*lot);
         let _ = self.numbers.insert(lot.number);
-        add_to_position(&mut self.positions, lot.contract, lot.live_quantity());
     }
 
     /// Marks the live lot at a place busted: it counts for nothing from now on, and its number stays taken. Takes no
@@ -193,55 +185,6 @@ impl Lots {
         ensures lots { self.new.lots ≡ slice_set self.old.lots place (busted (lot_at self.old.lots place)) }
         ensures reserved { self.new.reserved ≡ self.old.reserved }
     {
-        let lot = &mut self.lots[place];
-        lot.mark = Mark::Busted;
-        take_from_position(&mut self.positions, lot.contract, lot.quantity);
-    }
-}
-
-// What is kept for a contract, or nothing.
-fn position_in(positions: &IndexMap<ContractName, Position>, contract: &ContractName) -> Position
-    ensures { result ≡ or_flat (get bytes_eq positions.now contract.now) }
-{
-    match positions.get(contract) {
-        Some(position) => *position,
-        None => Position::flat(),
-    }
-}
-
-// A quantity more in a contract, which is found by one hash where it has a position already.
-fn add_to_position(
-    positions: &mut IndexMap<ContractName, Position>,
-    contract: ContractName,
-    quantity: Quantity,
-)
-    requires room { 0 < spare positions.old }
-    requires net { IsQuantity ((or_flat (get bytes_eq positions.old contract)).net +ℤ quantity) }
-    requires gross { (or_flat (get bytes_eq positions.old contract)).gross + unsigned_abs quantity < 2 ^ 64 }
-    ensures { Updates bytes_eq positions.old positions.new contract
-        (Some (position_with (or_flat (get bytes_eq positions.old contract)) quantity)) }
-{
-    if let Some(position) = positions.get_mut(&contract) {
-        *position = position.with(quantity);
-        return;
-    }
-    let _ = positions.insert(contract, Position::flat().with(quantity));
-}
-
-// A quantity less in a contract that has a position, which is found by one hash.
-fn take_from_position(
-    positions: &mut IndexMap<ContractName, Position>,
-    contract: ContractName,
-    quantity: Quantity,
-)
-    requires kept { IsSome (get bytes_eq positions.old contract) }
-    requires net { IsQuantity ((or_flat (get bytes_eq positions.old contract)).net -ℤ quantity) }
-    requires gross { unsigned_abs quantity ≤ (or_flat (get bytes_eq positions.old contract)).gross }
-    ensures updates { Updates bytes_eq positions.old positions.new contract
-        (Some (position_without (or_flat (get bytes_eq positions.old contract)) quantity)) }
-    ensures room { spare positions.new ≡ spare positions.old }
-{
-    if let Some(position) = positions.get_mut(&contract) {
-        *position = position.without(quantity);
+        self.lots[place].mark = Mark::Busted;
     }
 }

@@ -56,11 +56,7 @@ fn bust(lots: &mut Lots, number: LotId) -> bool {
 
 // How many lots there are, and what those of a contract come to.
 fn figures(lots: &Lots, contract: &ContractName) -> (usize, i64, u64) {
-    (
-        lots.len(),
-        lots.net(contract).contracts(),
-        lots.gross(contract),
-    )
+    (lots.len(), lots.net(contract), lots.gross(contract))
 }
 
 // Adds a bought and a sold lot, and busts the bought one.
