@@ -1,4 +1,5 @@
--- Lemmas on limits and names.
+-- Lemmas on limits, names and rows.
 pub mod LimitsLemmas
 pub mod NameLemmas
+pub mod RowGrowth
 pub mod RowEquality

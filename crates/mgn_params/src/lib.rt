@@ -2,6 +2,7 @@
 #![tactic(auto)]
 
 mod array;
+mod commodity_rows;
 mod set;
 mod shelf;
 mod tables;

@@ -1,9 +1,10 @@
 ghost use Rattle.std.specs.Prelude.{◌≡◌, ◌+◌, ◌-◌, ◌<◌, ◌≤◌, ◌^◌, ◌==◌, length, min, position, IfSome, count_by};
-ghost use Rattle.std.specs.List.{list_any};
+ghost use Rattle.std.specs.List.{filter, find, list_any};
 ghost use Rattle.std.specs.Str.{bytes_eq};
 ghost use Rattle.mgn_params.specs.Limits.{IsWithinLimits, class_names, commodity_names, contract_names};
 ghost use Rattle.mgn_params.specs.Tables.{is_month, class_at, commodity_at, contract_at, credit_spread_at, month_at, spot_at, spread_at};
 
+use crate::commodity_rows::CommodityRows;
 use crate::tables::{Class, Commodity, Contract, CreditSpread, Month, SpotCharge, Spread};
 use crate::work::Work;
 use mgn_ids::{ClassName, CommodityName, ContractName, Places, SetName};
@@ -30,6 +31,7 @@ pub struct ParamSet {
     commodity_places: Places<CommodityName>,
     contract_places: Places<ContractName>,
     class_places: Places<ClassName>,
+    commodity_rows: Vec<CommodityRows>,
 }
 
 impl Model for ParamSet {
@@ -237,6 +239,14 @@ impl ParamSet {
         self.spreads.as_slice()
     }
 
+    /// The intracommodity spreads of the commodity at a place, in file order. No search.
+    pub fn spreads_in(&self, g: usize) -> &[Spread]
+        requires { g < length self.now.commodities }
+        ensures { result.now ≡ filter (λ s. s.commodity == g) self.now.spreads }
+    {
+        self.commodity_rows[g].spreads()
+    }
+
     /// The intercommodity spreads in file order.
     pub fn credits(&self) -> &[CreditSpread]
         ensures { result.now ≡ self.now.credits }
@@ -256,6 +266,14 @@ impl ParamSet {
         ensures { result.now ≡ self.now.spots }
     {
         self.spots.as_slice()
+    }
+
+    /// The spot month charge of the commodity at a place, if it has one. No search.
+    pub fn spot_in(&self, g: usize) -> Option<SpotCharge>
+        requires { g < length self.now.commodities }
+        ensures { result ≡ find (λ s. s.commodity == g) self.now.spots }
+    {
+        self.commodity_rows[g].spot()
     }
 
     /// The risk array of the contract at a place, which no other call hands out. Each read is counted.

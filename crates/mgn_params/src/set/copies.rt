@@ -3,6 +3,7 @@ ghost use Rattle.std.specs.List.{IsDistinct};
 ghost use Rattle.std.specs.Str.{bytes_eq};
 ghost use Rattle.mgn_params.specs.Limits.{class_names, commodity_names, contract_names};
 
+use crate::commodity_rows::CommodityRows;
 use crate::set::ParamSet;
 use crate::tables::{Class, Commodity, Contract};
 use mgn_ids::{ClassName, CommodityName, ContractName, Places};
@@ -47,6 +48,16 @@ fn places_of_classes(alloc: Global, classes: &[Class]) -> Result<Places<ClassNam
     Ok(places)
 }
 
+fn copies_of_rows(alloc: Global, rows: &[CommodityRows]) -> Result<Vec<CommodityRows>, AllocError>
+    ensures { IfOk result (λ copies. copies.items ≡ rows.now) }
+{
+    let mut copies = Vec::new(alloc);
+    for row in rows {
+        copies.push(row.copy(alloc)?)?;
+    }
+    Ok(copies)
+}
+
 impl ParamSet {
     /// An equal set.
     pub fn copy(&self, alloc: Global) -> Result<ParamSet, AllocError>
@@ -64,6 +75,7 @@ impl ParamSet {
             commodity_places: places_of_commodities(alloc, self.commodities.as_slice())?,
             contract_places: places_of_contracts(alloc, self.contracts.as_slice())?,
             class_places: places_of_classes(alloc, self.classes.as_slice())?,
+            commodity_rows: copies_of_rows(alloc, self.commodity_rows.as_slice())?,
         })
     }
 }

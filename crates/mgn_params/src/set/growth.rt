@@ -2,6 +2,7 @@ ghost use Rattle.std.specs.Prelude.{◌≡◌, ◌++◌, ◌∷◌, [], OnOk, On
 ghost use Rattle.mgn_params.specs.Limits.{IsNextClass, IsNextCommodity, IsNextContract, IsNextCreditSpread, IsNextMonth, IsNextSpot, IsNextSpread};
 ghost use Rattle.mgn_params.specs.Tables.{no_tables};
 
+use crate::commodity_rows::CommodityRows;
 use crate::set::ParamSet;
 use crate::tables::{Class, Commodity, Contract, CreditSpread, Month, SpotCharge, Spread};
 use mgn_ids::{Places, SetName};
@@ -24,6 +25,7 @@ impl ParamSet {
             commodity_places: Places::new(alloc),
             contract_places: Places::new(alloc),
             class_places: Places::new(alloc),
+            commodity_rows: Vec::new(alloc),
         }
     }
 
@@ -33,9 +35,12 @@ impl ParamSet {
         ensures ok { OnOk result (self.new ≡ record self.old { commodities = self.old.commodities ++ commodity ∷ [] }) }
         ensures err { OnErr result (self.new ≡ self.old) }
     {
+        let alloc = *self.commodity_rows.allocator();
         self.commodities.reserve(1)?;
+        self.commodity_rows.reserve(1)?;
         self.commodity_places.push(commodity.name)?;
         self.commodities.push_reserved(commodity);
+        self.commodity_rows.push_reserved(CommodityRows::new(alloc));
         Ok(())
     }
 
@@ -67,7 +72,9 @@ impl ParamSet {
         ensures ok { OnOk result (self.new ≡ record self.old { spreads = self.old.spreads ++ spread ∷ [] }) }
         ensures err { OnErr result (self.new ≡ self.old) }
     {
-        self.spreads.push(spread)?;
+        self.spreads.reserve(1)?;
+        self.commodity_rows[spread.commodity].push_spread(spread)?;
+        self.spreads.push_reserved(spread);
         Ok(())
     }
 
@@ -101,6 +108,7 @@ impl ParamSet {
         ensures err { OnErr result (self.new ≡ self.old) }
     {
         self.spots.push(spot)?;
+        self.commodity_rows[spot.commodity].set_spot(spot);
         Ok(())
     }
 }

@@ -12,4 +12,5 @@ invariant_of-self-2 c =
       commodity_places = c.self.invariant.commodity_places;
       contract_places = c.self.invariant.contract_places;
       class_places = rw (grown, map-append, ← c.self.invariant.class_places) c.in_ok-push.ensures.ok;
+      rows = c.self.invariant.rows;
     }

@@ -11,4 +11,5 @@ invariant_of-self-2 c =
       commodity_places = c.self.invariant.commodity_places;
       contract_places = c.self.invariant.contract_places;
       class_places = c.self.invariant.class_places;
+      rows = c.self.invariant.rows;
     }
