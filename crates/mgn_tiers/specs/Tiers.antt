@@ -1,36 +1,36 @@
 -- The month deltas that changes add up to, and what is kept by them for each commodity of a set.
-use Rattle.std.specs.Prelude.{ℕ, ◌≡◌, ◌+◌, ◌-◌, ◌<◌, ◌≤◌, ℤ, slice_index, slice_set, List, [], length, replicate, slice_index_or, None, All}
+use Rattle.std.specs.Prelude.{ℕ, ◌≡◌, ◌+◌, ◌-◌, ◌<◌, ◌≤◌, ℤ, slice_index, slice_set, List, length, replicate, slice_index_or, All}
 use Rattle.mgn_span.specs.Deltas.{negative_part, positive_part}
 use Rattle.mgn_span.specs.MonthDeltas.{net_delta_by, starts_by}
 use Rattle.mgn_span.specs.Scan.{value_at}
 use Rattle.mgn_span.specs.Spot.{spot_of}
 use Rattle.mgn_span.specs.Stages.{stages_of}
+use Rattle.mgn_params.specs.declared.tables.Month.{Month}
 use Rattle.mgn_params.specs.Tables.{Tables}
-use Rattle.mgn_tiers.specs.Runs.{Run}
+use Rattle.mgn_tiers.specs.Runs.{Run, run_from}
 use Rattle.mgn_tiers.specs.Sizes.{IsStart}
 use Rattle.mgn_span.specs.Sizes.{IsDelta}
 
--- the deltas of the months, and for each commodity the net delta and the formed stages
+-- the deltas of the months, and for each commodity the net delta and the charges
 pub record Tiers : Type 0 where
   pub deltas : List ℤ
   pub net_deltas : List ℤ
   pub runs : List Run
 
--- no stages, and legs that start with nothing
+-- legs that start with nothing, and charges of 0
 abbrev pub no_run : Run
-no_run = record { starts = replicate 16 0; stages = []; formed = 0; spot = None }
+no_run = record { starts = replicate 16 0; charged = 0; spot_charged = 0 }
 
 abbrev pub run_at : List Run → ℕ → Run
 run_at runs g = slice_index_or runs g no_run
 
--- all stages of a commodity, formed of what the month deltas give its legs
+-- the charges of a commodity by what its legs start with
+abbrev pub run_of : Tables → ℕ → List ℕ → Run
+run_of set g starts = run_from starts (stages_of set.spreads g) (spot_of set.spots g)
+
+-- and by what the month deltas give its legs
 abbrev pub run_by : Tables → List ℤ → ℕ → Run
-run_by set deltas g = record {
-  starts = starts_by set.months deltas g;
-  stages = stages_of set.spreads g;
-  formed = length (stages_of set.spreads g);
-  spot = spot_of set.spots g;
-}
+run_by set deltas g = run_of set g (starts_by set.months deltas g)
 
 -- everything is kept for a set: one delta for each of its months, and for each of its commodities what these come to
 pub record AreTiersOf (set : Tables) (t : Tiers) : Type 0 where
@@ -44,15 +44,14 @@ pub record AreTiersOf (set : Tables) (t : Tiers) : Type 0 where
 -- a run has what a month of a tier counted for in its legs, and room for another delta
 pub record HasRoom (run : Run) (tier : ℕ) (old new : ℤ) : Type 0 where
   pub tier_low : tier < 8
-  pub formed : run.formed ≡ length run.stages
   pub long : positive_part old ≤ slice_index run.starts tier
   pub short : negative_part old ≤ slice_index run.starts (8 + tier)
   pub small_long : IsStart (slice_index run.starts tier - positive_part old + positive_part new)
   pub small_short : IsStart (slice_index run.starts (8 + tier) - negative_part old + negative_part new)
 
--- the run after that
-abbrev pub moved : Run → ℕ → ℤ → ℤ → Run
-moved run tier old new =
-    let long = slice_index run.starts tier - positive_part old + positive_part new in
-    let short = slice_index run.starts (8 + tier) - negative_part old + negative_part new in
-    record run { starts = slice_set (slice_set run.starts tier long) (8 + tier) short }
+-- the run of a month's commodity after that
+abbrev pub moved : Tables → Month → Run → ℤ → ℤ → Run
+moved set month run old new =
+    let long = slice_index run.starts month.tier - positive_part old + positive_part new in
+    let short = slice_index run.starts (8 + month.tier) - negative_part old + negative_part new in
+    run_of set month.commodity (slice_set (slice_set run.starts month.tier long) (8 + month.tier) short)

@@ -3,7 +3,6 @@
 #![tactic(auto)]
 
 mod delta;
-mod kept;
 mod rows;
 mod run;
 mod spot;

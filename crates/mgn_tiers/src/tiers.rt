@@ -6,7 +6,7 @@ ghost use Rattle.mgn_tiers.specs.Tiers.{AreTiersOf};
 ghost use Rattle.mgn_span.specs.Sizes.{IsDelta};
 
 use crate::delta::Delta;
-use crate::rows::{copy_runs, delta_at, filled, move_delta, runs_of};
+use crate::rows::{delta_at, filled, move_delta};
 use crate::run::StageRun;
 use mgn_num::{Cents, TenThousandths};
 use mgn_params::ParamSet;
@@ -45,7 +45,7 @@ impl TierStages {
         Ok(TierStages {
             deltas: filled(alloc, set.month_count(), Delta::ZERO)?,
             net_deltas: filled(alloc, set.commodity_count(), Delta::ZERO)?,
-            runs: runs_of(alloc, set)?,
+            runs: filled(alloc, set.commodity_count(), StageRun::NOTHING)?,
         })
     }
 
@@ -66,7 +66,7 @@ impl TierStages {
         let net = delta_at(&self.net_deltas, place.commodity).plus(delta);
         self.deltas[month] = new;
         self.net_deltas[place.commodity] = net;
-        move_delta(&mut self.runs[place.commodity], place.tier, old, new);
+        move_delta(&mut self.runs[place.commodity], set, place, old, new);
     }
 
     /// Takes over what is kept for the same set under other deltas. Takes no memory.
@@ -76,7 +76,7 @@ impl TierStages {
     {
         self.deltas.copy_from_slice(&others.deltas);
         self.net_deltas.copy_from_slice(&others.net_deltas);
-        copy_runs(&mut self.runs, &others.runs);
+        self.runs.copy_from_slice(&others.runs);
     }
 
     /// The delta of the month at a place, in ten-thousandths: what the changes so far add up to.

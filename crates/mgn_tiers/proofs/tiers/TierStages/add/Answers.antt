@@ -10,8 +10,8 @@ use Rattle.mgn_tiers.proofs.TierLemmas.{has_room, tiers_moved}
 use Rattle.mgn_tiers.proofs.tiers.TierStages.add.Goals as goal
 use Rattle.mgn_span.specs.Sizes.{IsDelta}
 
-pub move_delta-requires : goal.move_delta-requires
-move_delta-requires c =
+pub move_delta-requires-clause-room : goal.move_delta-requires-clause-room
+move_delta-requires-clause-room c =
     let are = subst (λ (t : Tiers). AreTiersOf c.args.set.now t) (sym c.self.view_is) c.requires.of_set in
     let small = subst (λ (t : Tiers). IsDelta (value_at t.deltas c.args.month +ℤ c.args.delta)) (sym c.self.view_is) c.requires.month_delta in
     let old : c.delta_at-old.result ≡ value_at c.self.inside.deltas.items c.args.month = c.delta_at-old.ensures ∙ ap (λ (ds : List ℤ). value_at ds c.args.month) c.deref.ensures.value in

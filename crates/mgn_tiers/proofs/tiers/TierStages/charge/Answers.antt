@@ -1,7 +1,6 @@
 use Rattle.std.proofs.Common.{rules, ◌≡◌, ◌<◌, ◌∙◌, ap, arith, length, pos, subst, sym}
 use Rattle.std.proofs.lemmas.List.{get_or_read}
 use Rattle.mgn_span.specs.MonthDeltas.{intra_charge_by}
-use Rattle.mgn_span.specs.Stages.{charges_of}
 use Rattle.mgn_tiers.specs.Runs.{Run}
 use Rattle.mgn_tiers.specs.Tiers.{AreTiersOf, Tiers, no_run, run_by}
 use Rattle.mgn_tiers.proofs.tiers.TierStages.charge.Goals as goal
@@ -15,5 +14,5 @@ returns-clause-value c = λ set' are.
     let low : c.args.g < length set'.commodities = omega (arith, inside, here.one_run_each) in
     let is : c.new.result ≡ pos c.charge.result = search rules in
     let run : c.index.result.now ≡ run_by set' c.self.inside.deltas.items c.args.g = get_or_read c.self.inside.runs.items c.args.g c.index.result.now inside c.index.ensures no_run ∙ here.runs_are c.args.g low in
-    let charged = c.charge.ensures.charge ∙ ap (λ (r : Run). charges_of r.starts r.stages) run in
+    let charged = c.charge.ensures.charge ∙ ap (λ (r : Run). r.charged) run in
     subst (λ (t : Tiers). c.new.result ≡ pos (intra_charge_by set' t.deltas c.args.g)) c.self.view_is (is ∙ ap pos charged)
