@@ -1,4 +1,4 @@
-ghost use Rattle.std.specs.Prelude.{◌≡◌, ◌+◌, ◌*◌, ◌<◌, ◌≤◌, ◌^◌, ℕ, replicate, slice_index, slice_set, IfSome};
+ghost use Rattle.std.specs.Prelude.{◌≡◌, ◌+◌, ◌*◌, ◌<◌, ◌≤◌, ◌^◌, ℕ, slice_index, slice_set, IfSome};
 ghost use Rattle.std.specs.List.{flat_map};
 ghost use Rattle.mgn_params.specs.Limits.{IsSpread};
 ghost use Rattle.mgn_span.specs.Spot.{spot_charge_from};
@@ -93,8 +93,6 @@ fn spot_charge_of(starts: &[u64; 16], left: &[u64; 16], spot: Option<SpotCharge>
 }
 
 impl StageRun {
-    ghost use Rattle.mgn_tiers.specs.Runs.{IsRun};
-
     /// Legs that start with nothing, and charges of 0.
     pub const NOTHING: StageRun = StageRun {
         starts: [0; 16],
