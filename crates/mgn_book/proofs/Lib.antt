@@ -1,5 +1,5 @@
 -- Histories and switches of a book.
 pub mod FilledAtLimit
 pub mod Histories
-pub mod StoredReplies
+pub mod StoredEntries
 pub mod Switches

@@ -1,17 +1,14 @@
 -- How a book keeps its history: an entry has the places of its names in lists that have each name once. Replies other than a
--- refusal and a plain `OK`, and the sets that were refused, stand in lists of their own.
-use Rattle.std.specs.Prelude.{◌≡◌, ℕ, ◌+◌, ◌*◌, ◌++◌, ◌<◌, ◌≤◌, All, Bool, true, false, List, [], ◌∷◌, length, slice_index_or}
+-- refusal and a plain `OK`, and the sets that were refused, stand in lists of their own too.
+use Rattle.std.specs.Prelude.{ℕ, ◌+◌, ◌*◌, ◌<◌, ◌≤◌, All, Bool, true, false, List, [], length, slice_index_or}
 use Rattle.mgn_params.specs.Tables.{Tables, no_tables}
 use Rattle.mgn_machine.specs.declared.command.Command.TheVariants as command
 use Rattle.mgn_machine.specs.declared.entry.Entry.{Entry}
-use Rattle.mgn_machine.specs.declared.reply.Reply.{Reply}
-use Rattle.mgn_machine.specs.declared.reply.Reply.TheVariants.{Done, Figures, NewSet, Refused, Statement, Totals}
 use Rattle.mgn_machine.specs.declared.request.Recorded.{Recorded}
 use Rattle.mgn_machine.specs.declared.request.Recorded.TheVariants.{Asked, InForce, SetRefused}
 use Rattle.mgn_machine.specs.History.{entry}
+use Rattle.mgn_book.specs.Replies.{AreFewReplies, Grows, IsKept, ReplyLists, reply_of}
 use Rattle.mgn_book.specs.declared.stored.StoredEntry.{StoredEntry}
-use Rattle.mgn_book.specs.declared.stored.StoredReply.{StoredReply}
-use Rattle.mgn_book.specs.declared.stored.StoredReply.TheVariants.{Done as StoredDone, At, Refused as StoredRefused}
 use Rattle.mgn_book.specs.declared.stored.StoredRequest.{StoredRequest}
 use Rattle.mgn_book.specs.declared.stored.StoredRequest.TheVariants as stored
 
@@ -26,10 +23,6 @@ pub record NameLists : Type 0 where
   pub account_room : ℕ
   pub contracts : List (List ℕ)
   pub contract_room : ℕ
-
--- something was added to a list, or nothing
-abbrev pub Grows : {X : Type 0} → List X → List X → Type 0
-Grows {X = X} old new = (more : List X) × (new ≡ old ++ more)
 
 -- the names stay where they are
 abbrev pub KeepsNames : NameLists → NameLists → Type 0
@@ -50,21 +43,6 @@ AddsFew old new =
 
 abbrev pub name_at : List (List ℕ) → ℕ → List ℕ
 name_at names place = slice_index_or names place []
-
--- what a reply adds to the list of replies that are kept apart
-abbrev pub kept_apart : Reply → List Reply
-kept_apart Done = []
-kept_apart (Figures figures) = Figures figures ∷ []
-kept_apart (Totals totals) = Totals totals ∷ []
-kept_apart (NewSet told) = NewSet told ∷ []
-kept_apart (Statement told) = Statement told ∷ []
-kept_apart (Refused why) = []
-
--- the reply that is stored
-abbrev pub reply_of : List Reply → StoredReply → Reply
-reply_of apart StoredDone = Done
-reply_of apart (At place) = slice_index_or apart place Done
-reply_of apart (StoredRefused why) = Refused why
 
 -- the request that is stored
 abbrev pub recorded_of : NameLists → List Tables → StoredRequest → Recorded
@@ -137,29 +115,24 @@ is_order (stored.Fill account order lot quantity premium) = true
 is_order (stored.Transfer from to contract quantity lot) = true
 is_order _ = false
 
--- how long the list of replies must be for a reply, and that of refused sets for a request
-abbrev pub replies_needed : StoredReply → ℕ
-replies_needed StoredDone = 0
-replies_needed (At place) = place + 1
-replies_needed (StoredRefused why) = 0
-
+-- how long the list of refused sets must be for a request
 abbrev pub sets_needed : StoredRequest → ℕ
 sets_needed (stored.SetRefused place) = place + 1
 sets_needed _ = 0
 
 -- the entry of what is stored
-abbrev pub entry_of : List Reply → NameLists → List Tables → StoredEntry → Entry
-entry_of apart n sets stored =
-    entry stored.session stored.number (recorded_of n sets stored.request) (reply_of apart stored.reply)
+abbrev pub entry_of : ReplyLists → NameLists → List Tables → StoredEntry → Entry
+entry_of replies n sets stored =
+    entry stored.session stored.number (recorded_of n sets stored.request) (reply_of replies stored.reply)
 
 -- the lists are long enough for what is stored
-pub record IsShown (apart : ℕ) (n : NameLists) (sets : ℕ) (stored : StoredEntry) : Type 0 where
-  pub reply : replies_needed stored.reply ≤ apart
+pub record IsShown (replies : ReplyLists) (n : NameLists) (sets : ℕ) (stored : StoredEntry) : Type 0 where
+  pub reply : IsKept replies stored.reply
   pub names : IsNamed n stored.request
   pub request : sets_needed stored.request ≤ sets
 
 -- that holds of each entry, and each list has no more than the entries need
-pub record AreShown (apart : ℕ) (n : NameLists) (sets : ℕ) (entries : List StoredEntry) : Type 0 where
-  pub each : All (IsShown apart n sets) entries
-  pub replies : apart ≤ length entries
+pub record AreShown (replies : ReplyLists) (n : NameLists) (sets : ℕ) (entries : List StoredEntry) : Type 0 where
+  pub each : All (IsShown replies n sets) entries
+  pub replies_few : AreFewReplies (length entries) replies
   pub names : AreFew (length entries) n

@@ -3,4 +3,5 @@ pub mod BookViews
 pub mod DeskCommits
 pub mod FilledAtLimit
 pub mod History
+pub mod Replies
 pub mod Switches

@@ -7,12 +7,11 @@ ghost use Rattle.mgn_machine.specs.Brief.{is_brief};
 ghost use Rattle.mgn_machine.specs.History.{entry};
 ghost use Rattle.mgn_params.specs.Tables.{no_tables};
 ghost use Rattle.mgn_book.specs.BookViews.{command_of};
-ghost use Rattle.mgn_book.specs.History.{Grows};
+ghost use Rattle.mgn_book.specs.Replies.{Grows};
 
 use crate::names::Names;
-use crate::stored::{
-    StoredEntry, StoredReply, StoredRequest, command_in, reply_in, store_command, store_reply,
-};
+use crate::replies::{Replies, StoredReply};
+use crate::stored::{StoredEntry, StoredRequest, command_in, store_command};
 use mgn_ids::SessionNo;
 use mgn_machine::{Command, NewSet, Refusal, Reply};
 use mgn_params::{ParamSet, Version};
@@ -25,7 +24,7 @@ use std::marker::Model;
 pub(crate) struct History {
     entries: Vec<StoredEntry>,
     names: Names,
-    apart: Vec<Reply>,
+    replies: Replies,
     refused: Vec<ParamSet>,
 }
 
@@ -36,12 +35,12 @@ impl Model for History {
     ghost Value = { EntryList };
 
     ghost view = { λ h. record {
-      entries = map (entry_of h.apart.items h.names h.refused.items) h.entries.items;
-      reserved = nat_lt (vec_len h.entries) (vec_capacity h.entries) && nat_lt (vec_len h.apart) (vec_capacity h.apart)
+      entries = map (entry_of h.replies h.names h.refused.items) h.entries.items;
+      reserved = nat_lt (vec_len h.entries) (vec_capacity h.entries) && h.replies.has_room
           && nat_le 2 h.names.account_room && nat_le 1 h.names.contract_room;
     } };
 
-    ghost invariant = { λ h. AreShown (length h.apart.items) h.names (length h.refused.items) h.entries.items };
+    ghost invariant = { λ h. AreShown h.replies h.names (length h.refused.items) h.entries.items };
 }
 
 impl History {
@@ -52,7 +51,7 @@ impl History {
         History {
             entries: Vec::new(alloc),
             names: Names::new(alloc),
-            apart: Vec::new(alloc),
+            replies: Replies::new(alloc),
             refused: Vec::new(alloc),
         }
     }
@@ -89,7 +88,7 @@ impl History {
             (λ e. is_brief e.reply ≡ true → IsOk result) }
     {
         match self.entries.get(index) {
-            Some(stored) => Ok(Some(reply_in(self.apart.as_slice(), stored.reply)?)),
+            Some(stored) => Ok(Some(self.replies.reply(stored.reply)?)),
             None => Ok(None),
         }
     }
@@ -101,7 +100,7 @@ impl History {
     {
         self.entries.reserve(1)?;
         self.names.reserve()?;
-        self.apart.reserve(1)
+        self.replies.reserve()
     }
 
     /// Writes the entry of a command for which memory is reserved.
@@ -112,7 +111,7 @@ impl History {
         ensures { self.new.entries ≡ self.old.entries ++ entry session number (Asked command.now) reply ∷ [] }
     {
         let request = store_command(&mut self.names, command);
-        let reply = store_reply(&mut self.apart, reply);
+        let reply = self.replies.store(reply);
         self.entries.push_reserved(StoredEntry {
             session,
             number: number as u32,
@@ -129,7 +128,7 @@ impl History {
         ensures { self.new.entries ≡
             self.old.entries ++ entry session number (InForce version) (Reply.NewSet told) ∷ [] }
     {
-        let reply = store_reply(&mut self.apart, Reply::NewSet(told));
+        let reply = self.replies.store(Reply::NewSet(told));
         self.entries.push_reserved(StoredEntry {
             session,
             number: number as u32,

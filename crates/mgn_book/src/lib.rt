@@ -7,6 +7,7 @@ mod history;
 mod in_force;
 pub mod laws;
 mod names;
+mod replies;
 mod stored;
 
 pub use book::{Book, Outcome};

@@ -1,5 +1,6 @@
 ghost use Rattle.std.specs.Prelude.{◌≡◌, ◌+◌, ◌<◌, ◌≤◌, ◌^◌, [], length, OnOk};
-ghost use Rattle.mgn_book.specs.History.{Grows, HasRoom, KeepsNames, name_at};
+ghost use Rattle.mgn_book.specs.History.{HasRoom, KeepsNames, name_at};
+ghost use Rattle.mgn_book.specs.Replies.{Grows};
 
 use indexmap::IndexSet;
 use mgn_ids::{AccountName, ContractName};

@@ -1,17 +1,16 @@
 //! What an entry of the history is stored as.
 
-ghost use Rattle.std.specs.Prelude.{◌≡◌, ◌+◌, ◌*◌, ◌++◌, ◌<◌, ◌≤◌, ◌^◌, length, vec_capacity, vec_len, IfOk, IsOk, List, true};
-ghost use Rattle.mgn_machine.specs.Brief.{is_brief};
+ghost use Rattle.std.specs.Prelude.{◌≡◌, ◌<◌, ◌≤◌, List, true};
 ghost use Rattle.mgn_machine.specs.declared.request.Recorded.TheVariants.{Asked};
 ghost use Rattle.mgn_params.specs.Tables.{Tables};
 ghost use Rattle.mgn_book.specs.BookViews.{command_of};
-ghost use Rattle.mgn_book.specs.History.{AddsFew, AreFew, HasRoom, IsNamed, is_order, KeepsNames, kept_apart, recorded_of, replies_needed, reply_of, sets_needed};
+ghost use Rattle.mgn_book.specs.History.{AddsFew, AreFew, HasRoom, IsNamed, is_order, KeepsNames, recorded_of, sets_needed};
 
 use crate::names::Names;
+use crate::replies::StoredReply;
 use mgn_ids::{ClassName, LotId, LotQuantity, OrderId, OriginName, Premium, SessionNo, Units};
-use mgn_machine::{Command, Fill, Hold, Mode, Refusal, Reply, Trade, Transfer};
+use mgn_machine::{Command, Fill, Hold, Mode, Trade, Transfer};
 use mgn_params::Version;
-use std::alloc::AllocError;
 
 // A request, with the places of its names, and of a refused set, in lists of these. Fields lie as they are listed here, so
 // that none takes more than 32 bytes.
@@ -57,14 +56,6 @@ pub(crate) enum StoredRequest {
     EndDay,
     InForce(Version),
     SetRefused(usize),
-}
-
-// A reply, or its place in a list of those that take more memory.
-#[derive(Clone, Copy)]
-pub(crate) enum StoredReply {
-    Done,
-    At(u32),
-    Refused(Refusal),
 }
 
 // An entry without what few entries have or many share, and what would take more memory than all the rest of it: names,
@@ -283,37 +274,5 @@ pub(crate) fn command_in(names: &Names, stored: StoredRequest) -> Option<Command
         | StoredRequest::Hold { .. }
         | StoredRequest::Fill { .. }
         | StoredRequest::Transfer { .. } => Some(order_in(names, stored)),
-    }
-}
-
-/// Puts a reply at the end of the list of those that are kept apart, if it is one of them.
-pub(crate) fn store_reply(apart: &mut Vec<Reply>, reply: Reply) -> StoredReply
-    requires room { vec_len apart.old < vec_capacity apart.old }
-    requires few { length apart.old.items ≤ 1000000 }
-    ensures grown { apart.new.items ≡ apart.old.items ++ kept_apart reply }
-    ensures needed { replies_needed result ≤ length apart.new.items }
-    ensures reply { reply_of apart.new.items result ≡ reply }
-{
-    match reply {
-        Reply::Done => StoredReply::Done,
-        Reply::Refused(why) => StoredReply::Refused(why),
-        long => {
-            let place = apart.len() as u32;
-            apart.push_reserved(long);
-            StoredReply::At(place)
-        }
-    }
-}
-
-/// A copy of the reply that is stored. The only error is that of `Reply::copy`.
-pub(crate) fn reply_in(apart: &[Reply], stored: StoredReply) -> Result<Reply, AllocError>
-    requires { replies_needed stored ≤ length apart.now }
-    ensures equal { IfOk result (λ copy. copy ≡ reply_of apart.now stored) }
-    ensures brief { is_brief (reply_of apart.now stored) ≡ true → IsOk result }
-{
-    match stored {
-        StoredReply::Done => Ok(Reply::Done),
-        StoredReply::Refused(why) => Ok(Reply::Refused(why)),
-        StoredReply::At(place) => apart[place as usize].copy(),
     }
 }

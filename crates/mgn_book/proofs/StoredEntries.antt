@@ -5,31 +5,30 @@ use Rattle.std.proofs.lemmas.List.Elements.{All-push}
 use Rattle.mgn_params.specs.Tables.{Tables, no_tables}
 use Rattle.mgn_machine.specs.declared.entry.Entry.{Entry}
 use Rattle.mgn_machine.specs.declared.reply.Reply.{Reply}
-use Rattle.mgn_machine.specs.declared.reply.Reply.TheVariants.{Done as Settled}
-use Rattle.mgn_machine.specs.declared.reply.Reply.TheVariants as reply
+use Rattle.mgn_machine.specs.declared.reply.Figures.{Figures}
+use Rattle.mgn_machine.specs.declared.reply.Reply.TheVariants as Answer
 use Rattle.mgn_machine.specs.declared.request.Recorded.{Recorded}
 use Rattle.mgn_machine.specs.declared.command.Command.TheVariants as command
 use Rattle.mgn_machine.specs.declared.request.Recorded.TheVariants.{Asked, SetRefused as RefusedSet}
 use Rattle.mgn_machine.specs.History.{entry}
 use Rattle.mgn_book.specs.declared.stored.StoredEntry.{StoredEntry}
-use Rattle.mgn_book.specs.declared.stored.StoredReply.{StoredReply}
-use Rattle.mgn_book.specs.declared.stored.StoredReply.TheVariants.{Done, At, Refused}
+use Rattle.mgn_book.specs.declared.replies.StoredReply.{StoredReply}
+use Rattle.mgn_book.specs.declared.replies.StoredReply.TheVariants as reply
 use Rattle.mgn_book.specs.declared.stored.StoredRequest.{StoredRequest}
 use Rattle.mgn_book.specs.declared.stored.StoredRequest.TheVariants as stored
-use Rattle.mgn_book.specs.History.{AreFew, AreShown, Grows, IsNamed, IsShown, KeepsNames, NameLists, entry_of, kept_apart, name_at, replies_needed, sets_needed, recorded_of, reply_of}
+use Rattle.mgn_book.specs.History.{AreFew, AreShown, IsNamed, IsShown, KeepsNames, NameLists, entry_of, name_at, sets_needed, recorded_of}
+use Rattle.mgn_book.specs.Replies.{AreFewReplies, Grows, IsKept, KeepsReplies, ReplyLists, no_figures, reply_of}
 
-reply_of-grown : (apart more : List Reply) (reply : StoredReply) → replies_needed reply ≤ length apart → reply_of (apart ++ more) reply ≡ reply_of apart reply
-reply_of-grown apart more Done h = refl
-reply_of-grown apart more (At place) h = get_or_append_left apart more Settled place (omega arith)
-reply_of-grown apart more (Refused why) h = refl
-
-pub one-at-most : (reply : Reply) → length (kept_apart reply) ≤ 1
-one-at-most Settled = omega arith
-one-at-most (reply.Figures figures) = omega arith
-one-at-most (reply.Totals totals) = omega arith
-one-at-most (reply.NewSet told) = omega arith
-one-at-most (reply.Statement told) = omega arith
-one-at-most (reply.Refused why) = omega arith
+-- a reply stays what it was
+reply_of-grown : (old new : ReplyLists) (reply : StoredReply) → KeepsReplies old new → IsKept old reply → reply_of new reply ≡ reply_of old reply
+reply_of-grown old new reply.Done grown h = refl
+reply_of-grown old new (reply.Figures place) grown h =
+    ap (λ (fs : List Figures). Answer.Figures (get_or fs place no_figures)) grown.0.1
+    ∙ ap Answer.Figures (get_or_append_left old.figures grown.0.0 no_figures place h)
+reply_of-grown old new (reply.At place) grown h =
+    ap (λ (rs : List Reply). get_or rs place Answer.Done) grown.1.1
+    ∙ get_or_append_left old.others grown.1.0 Answer.Done place h
+reply_of-grown old new (reply.Refused why) grown h = refl
 
 -- a name stays at its place
 pub name_at-grown : (old new : List (List ℕ)) (place : ℕ) → Grows old new → place < length old → name_at new place ≡ name_at old place
@@ -41,6 +40,17 @@ longer old new grown = omega (arith, ap length grown.1, length-append old grown.
 -- names to which nothing is added
 pub kept-names : (names : NameLists) → KeepsNames names names
 kept-names names = (([], sym (append-nil names.accounts)), ([], sym (append-nil names.contracts)))
+
+-- what is kept stays so
+kept-grown : (old new : ReplyLists) (reply : StoredReply) → KeepsReplies old new → IsKept old reply → IsKept new reply
+kept-grown old new reply.Done grown h = h
+kept-grown old new (reply.Figures place) grown h = omega (arith, h, longer old.figures new.figures grown.0)
+kept-grown old new (reply.At place) grown h = omega (arith, h, longer old.others new.others grown.1)
+kept-grown old new (reply.Refused why) grown h = h
+
+-- replies to which nothing is added
+pub kept-replies : (replies : ReplyLists) → KeepsReplies replies replies
+kept-replies replies = (([], sym (append-nil replies.figures)), ([], sym (append-nil replies.others)))
 
 -- what is named stays so
 pub named-grown : (old new : NameLists) (request : StoredRequest) → KeepsNames old new → IsNamed old request → IsNamed new request
@@ -88,38 +98,38 @@ recorded_of-grown old new sets more (stored.InForce version) grown h s = refl
 recorded_of-grown old new sets more (stored.SetRefused place) grown h s = ap RefusedSet (get_or_append_left sets more (no_tables []) place (omega arith))
 
 -- the entries that the lists are long enough for
-pub entries-grown : (apart more : List Reply) (old new : NameLists) (refused others : List Tables) (entries : List StoredEntry) → KeepsNames old new → All (IsShown (length apart) old (length refused)) entries
-    → map (entry_of (apart ++ more) new (refused ++ others)) entries ≡ map (entry_of apart old refused) entries
-entries-grown apart more old new refused others [] grown shown = refl
-entries-grown apart more old new refused others (first ∷ rest) grown shown =
+pub entries-grown : (before after : ReplyLists) (old new : NameLists) (refused others : List Tables) (entries : List StoredEntry) → KeepsReplies before after → KeepsNames old new → All (IsShown before old (length refused)) entries
+    → map (entry_of after new (refused ++ others)) entries ≡ map (entry_of before old refused) entries
+entries-grown before after old new refused others [] kept grown shown = refl
+entries-grown before after old new refused others (first ∷ rest) kept grown shown =
     let first_shown = shown zero first (omega arith) in
-    let request = ap (λ (r : Recorded). entry first.session first.number r (reply_of (apart ++ more) first.reply)) (recorded_of-grown old new refused others first.request grown first_shown.names first_shown.request) in
-    let reply = ap (λ (r : Reply). entry first.session first.number (recorded_of old refused first.request) r) (reply_of-grown apart more first.reply first_shown.reply) in
-    let own = request ∙ reply in
-    let later = entries-grown apart more old new refused others rest grown (λ k d inside. shown (suc k) d (omega arith)) in
+    let request = ap (λ (r : Recorded). entry first.session first.number r (reply_of after first.reply)) (recorded_of-grown old new refused others first.request grown first_shown.names first_shown.request) in
+    let replied = ap (λ (r : Reply). entry first.session first.number (recorded_of old refused first.request) r) (reply_of-grown before after first.reply kept first_shown.reply) in
+    let own = request ∙ replied in
+    let later = entries-grown before after old new refused others rest kept grown (λ k d inside. shown (suc k) d (omega arith)) in
     λ i. own i ∷ later i
 
 -- and with one entry more
-pub entries-pushed : (apart more : List Reply) (old new : NameLists) (refused others : List Tables) (entries : List StoredEntry) (e : StoredEntry) (request : Recorded) (reply : Reply) → KeepsNames old new → All (IsShown (length apart) old (length refused)) entries
-    → recorded_of new (refused ++ others) e.request ≡ request → reply_of (apart ++ more) e.reply ≡ reply
-    → map (entry_of (apart ++ more) new (refused ++ others)) (entries ++ e ∷ []) ≡ map (entry_of apart old refused) entries ++ entry e.session e.number request reply ∷ []
-entries-pushed apart more old new refused others entries e request reply grown shown asked replied =
-    map-append (entry_of (apart ++ more) new (refused ++ others)) entries (e ∷ [])
-    ∙ ap (λ (es : List Entry). es ++ entry_of (apart ++ more) new (refused ++ others) e ∷ []) (entries-grown apart more old new refused others entries grown shown)
-    ∙ ap (λ (r : Recorded). map (entry_of apart old refused) entries ++ entry e.session e.number r (reply_of (apart ++ more) e.reply) ∷ []) asked
-    ∙ ap (λ (r : Reply). map (entry_of apart old refused) entries ++ entry e.session e.number request r ∷ []) replied
+pub entries-pushed : (before after : ReplyLists) (old new : NameLists) (refused others : List Tables) (entries : List StoredEntry) (e : StoredEntry) (request : Recorded) (answer : Reply) → KeepsReplies before after → KeepsNames old new → All (IsShown before old (length refused)) entries
+    → recorded_of new (refused ++ others) e.request ≡ request → reply_of after e.reply ≡ answer
+    → map (entry_of after new (refused ++ others)) (entries ++ e ∷ []) ≡ map (entry_of before old refused) entries ++ entry e.session e.number request answer ∷ []
+entries-pushed before after old new refused others entries e request answer kept grown shown asked replied =
+    map-append (entry_of after new (refused ++ others)) entries (e ∷ [])
+    ∙ ap (λ (es : List Entry). es ++ entry_of after new (refused ++ others) e ∷ []) (entries-grown before after old new refused others entries kept grown shown)
+    ∙ ap (λ (r : Recorded). map (entry_of before old refused) entries ++ entry e.session e.number r (reply_of after e.reply) ∷ []) asked
+    ∙ ap (λ (r : Reply). map (entry_of before old refused) entries ++ entry e.session e.number request r ∷ []) replied
 
 -- longer lists are long enough too
-shown-longer : (apart more : ℕ) (old new : NameLists) (refused others : ℕ) (e : StoredEntry) → KeepsNames old new → apart ≤ more → refused ≤ others → IsShown apart old refused e → IsShown more new others e
-shown-longer apart more old new refused others e grown longer_replies longer_sets shown = record {
-  reply = omega (arith, shown.reply, longer_replies);
+shown-longer : (before after : ReplyLists) (old new : NameLists) (refused others : ℕ) (e : StoredEntry) → KeepsReplies before after → KeepsNames old new → refused ≤ others → IsShown before old refused e → IsShown after new others e
+shown-longer before after old new refused others e kept grown longer_sets shown = record {
+  reply = kept-grown before after e.reply kept shown.reply;
   names = named-grown old new e.request grown shown.names;
   request = omega (arith, shown.request, longer_sets);
 }
 
-pub shown-more : (apart more : ℕ) (old new : NameLists) (refused others : ℕ) (entries : List StoredEntry) (e : StoredEntry) → AreShown apart old refused entries → KeepsNames old new → apart ≤ more → refused ≤ others → IsShown more new others e → more ≤ length entries + 1 → AreFew (length entries + 1) new → AreShown more new others (entries ++ e ∷ [])
-shown-more apart more old new refused others entries e shown grown longer_replies longer_sets own few few_names = record {
-  each = All-push (IsShown more new others) entries e (λ i d inside. shown-longer apart more old new refused others (get_or entries i d) grown longer_replies longer_sets (shown.each i d inside)) own;
-  replies = omega (arith, few, length-append entries (e ∷ []));
+pub shown-more : (before after : ReplyLists) (old new : NameLists) (refused others : ℕ) (entries : List StoredEntry) (e : StoredEntry) → AreShown before old refused entries → KeepsReplies before after → KeepsNames old new → refused ≤ others → IsShown after new others e → AreFewReplies (length entries + 1) after → AreFew (length entries + 1) new → AreShown after new others (entries ++ e ∷ [])
+shown-more before after old new refused others entries e shown kept grown longer_sets own few few_names = record {
+  each = All-push (IsShown after new others) entries e (λ i d inside. shown-longer before after old new refused others (get_or entries i d) kept grown longer_sets (shown.each i d inside)) own;
+  replies_few = (omega (arith, few.0, length-append entries (e ∷ [])), omega (arith, few.1, length-append entries (e ∷ [])));
   names = (omega (arith, few_names.0, length-append entries (e ∷ [])), omega (arith, few_names.1, length-append entries (e ∷ [])));
 }
