@@ -1,5 +1,5 @@
 -- The world after commits of the kept one.
-use Rattle.std.proofs.Common.{◌≡◌, ◌<◌, ◌+◌, ◌∙◌, ◌++◌, ℕ, Bool, true, false, Option, None, Some, List, [], ◌∷◌, length, length-append, map, replicate, sym, ap, subst, refl, arith}
+use Rattle.std.proofs.Common.{◌≡◌, ◌≢◌, ◌<◌, ◌+◌, ◌∙◌, ◌++◌, ℕ, Bool, true, false, Option, None, Some, List, [], ◌∷◌, length, length-append, map, replicate, sym, ap, subst, refl, arith}
 use Rattle.std.specs.Prelude.{◌&&◌, if◌then◌else◌, nat_lt, slice_index_or, slice_set}
 use Rattle.std.specs.List.{range_with_len}
 use Rattle.std.proofs.lemmas.List.{ext_get_or, get_or-map, length-map}
@@ -21,7 +21,7 @@ use Rattle.mgn_book.specs.BookViews.{BookView, Committed, Stands, sets_after}
 use Rattle.mgn_book.specs.declared.book.Outcome.TheVariants.{Done as Settled}
 use Rattle.mgn_world.specs.declared.stages.Call.{Call}
 use Rattle.mgn_world.specs.declared.stages.Stage.{Stage}
-use Rattle.mgn_world.specs.declared.stages.Stage.TheVariants.{Idle, Applied, Ended, Failed, Gathered}
+use Rattle.mgn_world.specs.declared.stages.Stage.TheVariants.{Idle, Held, Looked, Applied, Ended, Failed, Gathered}
 use Rattle.mgn_world.specs.declared.world.World.{World as Kept}
 use Rattle.mgn_world.specs.Decisions.{IsApplied}
 use Rattle.mgn_world.specs.DeskMoves.{desk_shown}
@@ -73,6 +73,16 @@ gathers_is w p t version g stages sound is now gathered put =
     ∙ (λ j. with_stage (shown w) p (Gathered (gathered j)))
     ∙ (λ j. with_stage (shown w) p (Gathered record { set = t; version = now j; nets = rows_nets (set_at w.shelf w.book.book.state.version) w.book.book sound.book.kept j; prepared = replicate (sym sound.book.kept.units j) false }))
     ∙ ap (gathers (shown w) p t) (sym is)
+
+-- a session whose call is under way gathers nothing
+pub gathers_not : (w : World) (p : ℕ) (t : Tables) (x st : Stage) → st ≡ x → x ≢ Idle → w ≡ gathers w p t st
+gathers_not w p t x Idle is other = absurd (other (sym is))
+gathers_not w p t x (Held k) is other = refl
+gathers_not w p t x (Looked k l) is other = refl
+gathers_not w p t x (Applied k l) is other = refl
+gathers_not w p t x (Failed k l again) is other = refl
+gathers_not w p t x (Ended k) is other = refl
+gathers_not w p t x (Gathered g) is other = refl
 
 pub gathered_sound : (w : Kept) (t : Tables) (version : ℕ) (g : Gathering) → IsSound w → version ≡ w.book.book.state.version → g ≡ record { set = t; version = version; nets = map (λ (row : Row). shown_nets (copied row)) w.book.book.rows; prepared = replicate (length w.book.book.rows) false } → IsGathered w.shelf g
 gathered_sound w t version g sound now gathered = subst (IsGathered w.shelf) (sym (gathered ∙ (λ j. record { set = t; version = now j; nets = map (λ (row : Row). shown_nets (copied row)) w.book.book.rows; prepared = replicate (length w.book.book.rows) false }))) record {
