@@ -8,6 +8,7 @@ use crate::conversation::Conversation;
 use crate::exec::Exec;
 use crate::fault::SessionFault;
 use crate::source::{SetSource, SourceFault};
+use memchr::memchr;
 use mgn_ids::SetName;
 use mgn_machine::{Answer, Refusal, Request};
 use mgn_setfile::{Cause, read_set};
@@ -82,7 +83,7 @@ fn keep(line: &mut Vec<u8>, piece: &[u8]) -> Result<(), Memory>
 fn find_end(text: &[u8]) -> Option<usize>
     ensures { result ≡ position (λ b. b == 10) text.now }
 {
-    text.iter().position(|byte| *byte == b'\n')
+    memchr(b'\n', text)
 }
 
 // Answers the line that ends with `last`, of which `line` has what came before.

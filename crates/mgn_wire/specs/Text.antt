@@ -2,11 +2,9 @@
 use Rattle.std.specs.Prelude.{ℕ, List, [], ◌++◌, Option, Some, None, codes}
 use Rattle.mgn_machine.specs.declared.reply.Refusal.{Refusal}
 use Rattle.mgn_machine.specs.declared.reply.Refusal.TheVariants.{NoAccount, NoOrigin, Duplicate, NoContract, NoTrade, NoClass, NoRoom, Limit, Premium, Over, OtherOrigin, Moved, Missing, Sets, Closed, Memory, Full, NoOrder}
-use Rattle.mgn_machine.specs.declared.reply.Figures.{Figures}
 use Rattle.mgn_machine.specs.declared.reply.NewSet.{NewSet}
 use Rattle.mgn_machine.specs.declared.reply.Reply.{Reply}
 use Rattle.mgn_machine.specs.declared.reply.Reply.TheVariants as reply
-use Rattle.mgn_machine.specs.declared.reply.Answer.{Answer}
 use Rattle.mgn_machine.specs.declared.reply.Totals.{Totals}
 use Rattle.mgn_wire.specs.declared.fault.LineFault.{LineFault}
 use Rattle.mgn_wire.specs.declared.fault.LineFault.TheVariants.{Long, Syntax, Range}

@@ -1,13 +1,14 @@
 ghost use Rattle.std.specs.Prelude.{◌≡◌, ◌==◌, ◌≤◌, position, length, take, map, option_map, ◌∷◌};
 ghost use Rattle.mgn_wire.specs.Word.{words_of, words_left, mode_in};
 
+use memchr::memchr;
 use mgn_ids::IdFault;
 use mgn_machine::Mode;
 
 fn find_space(text: &[u8]) -> Option<usize>
     ensures { result ≡ position (λ b. b == 32) text.now }
 {
-    text.iter().position(|byte| *byte == b' ')
+    memchr(b' ', text)
 }
 
 // The first word, and what stands behind the space after it.
