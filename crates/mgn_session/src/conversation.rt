@@ -6,6 +6,7 @@ ghost use Rattle.mgn_session.specs.Device.{device_of, failed_of, has_ended, is_d
 ghost use Rattle.mgn_session.specs.Conversation.{HasFailedToRead, HasFailedToSend, HasRead, HasReplied, HasSent, IsQuiet, line_ends, seen};
 
 use crate::counted::Counted;
+use crate::ends::count_ends;
 use crate::fault::SessionFault;
 use mgn_wire::{LineReply, Memory, reply_text};
 use std::alloc::Global;
@@ -34,12 +35,6 @@ impl<R: Read, W: Write> Model for Conversation<R, W> {
     ghost Value = { ConversationView };
 
     ghost view = { λ talk. seen R.remaining W.contents talk.reader talk.writer talk.waiting.items talk.owed };
-}
-
-fn count_ends(text: &[u8]) -> usize
-    ensures { result ≡ line_ends text.now }
-{
-    text.iter().filter(|byte| **byte == b'\n').count()
 }
 
 // Writes the text, and gives how much of it was taken.

@@ -3,6 +3,7 @@
 
 pub mod conversation;
 pub mod counted;
+mod ends;
 pub mod exec;
 pub mod fault;
 mod line_buffer;

@@ -5,10 +5,10 @@ ghost use Rattle.mgn_session.specs.Session.{Answers, Calls, Switches, has_end};
 ghost use Rattle.mgn_session.specs.SessionInside.{IsCutOff, IsUnderWay};
 
 use crate::conversation::Conversation;
+use crate::ends::find_end;
 use crate::exec::Exec;
 use crate::fault::SessionFault;
 use crate::source::{SetSource, SourceFault};
-use memchr::memchr;
 use mgn_ids::SetName;
 use mgn_machine::{Answer, Refusal, Request};
 use mgn_setfile::{Cause, read_set};
@@ -77,13 +77,6 @@ fn keep(line: &mut Vec<u8>, piece: &[u8]) -> Result<(), Memory>
         Ok(()) => Ok(()),
         Err(_) => Err(Memory),
     }
-}
-
-// Where the first line of a text ends, if one does.
-fn find_end(text: &[u8]) -> Option<usize>
-    ensures { result ≡ position (λ b. b == 10) text.now }
-{
-    memchr(b'\n', text)
 }
 
 // Answers the line that ends with `last`, of which `line` has what came before.
