@@ -107,13 +107,17 @@ IsNamed n stored.EndDay = Unit {0}
 IsNamed n (stored.InForce version) = Unit {0}
 IsNamed n (stored.SetRefused place) = Unit {0}
 
--- of a trade, an order or a transfer
+-- of a trade or a held order
 abbrev pub is_order : StoredRequest → Bool
 is_order (stored.Trade account contract quantity premium lot) = true
 is_order (stored.Hold account contract quantity limit order) = true
-is_order (stored.Fill account order lot quantity premium) = true
-is_order (stored.Transfer from to contract quantity lot) = true
 is_order _ = false
+
+-- of a fill or a transfer
+abbrev pub is_fill_or_transfer : StoredRequest → Bool
+is_fill_or_transfer (stored.Fill account order lot quantity premium) = true
+is_fill_or_transfer (stored.Transfer from to contract quantity lot) = true
+is_fill_or_transfer _ = false
 
 -- how long the list of refused sets must be for a request
 abbrev pub sets_needed : StoredRequest → ℕ

@@ -1,6 +1,6 @@
 //! What replies of the history are stored as.
 
-ghost use Rattle.std.specs.Prelude.{◌≡◌, ◌+◌, ◌<◌, ◌≤◌, ◌^◌, [], length, nat_lt, ◌&&◌, vec_capacity, vec_len, IfOk, IfSome, IsOk, OnOk, true};
+ghost use Rattle.std.specs.Prelude.{◌≡◌, ◌≤◌, [], length, IfOk, IfSome, IsOk, OnOk, true};
 ghost use Rattle.mgn_machine.specs.Brief.{is_brief};
 ghost use Rattle.mgn_book.specs.Replies.{AddsFewReplies, IsKept, KeepsReplies, reply_of};
 

@@ -4,7 +4,7 @@ ghost use Rattle.std.specs.Prelude.{◌≡◌, ◌<◌, ◌≤◌, List, true};
 ghost use Rattle.mgn_machine.specs.declared.request.Recorded.TheVariants.{Asked};
 ghost use Rattle.mgn_params.specs.Tables.{Tables};
 ghost use Rattle.mgn_book.specs.BookViews.{command_of};
-ghost use Rattle.mgn_book.specs.History.{AddsFew, AreFew, HasRoom, IsNamed, is_order, KeepsNames, recorded_of, sets_needed};
+ghost use Rattle.mgn_book.specs.History.{AddsFew, AreFew, HasRoom, IsNamed, is_fill_or_transfer, is_order, KeepsNames, recorded_of, sets_needed};
 
 use crate::names::Names;
 use crate::replies::StoredReply;
@@ -182,7 +182,7 @@ pub(crate) fn store_command(names: &mut Names, command: &Command) -> StoredReque
     }
 }
 
-// The command of a request that is of a trade, an order or a transfer.
+// The command of a request that is of a trade or a held order.
 fn order_in(names: &Names, stored: StoredRequest) -> Command
     requires named { IsNamed names.now stored }
     requires order { is_order stored ≡ true }
@@ -215,6 +215,17 @@ fn order_in(names: &Names, stored: StoredRequest) -> Command
             quantity,
             limit,
         }),
+        _ => unreachable!(),
+    }
+}
+
+// The command of a request that is of a fill or a transfer.
+fn fill_or_transfer_in(names: &Names, stored: StoredRequest) -> Command
+    requires named { IsNamed names.now stored }
+    requires kind { is_fill_or_transfer stored ≡ true }
+    ensures { (sets : List Tables) → Asked result ≡ recorded_of names.now sets stored }
+{
+    match stored {
         StoredRequest::Fill {
             account,
             order,
@@ -270,9 +281,9 @@ pub(crate) fn command_in(names: &Names, stored: StoredRequest) -> Option<Command
         StoredRequest::Statement(account) => Some(Command::Statement(names.account(account))),
         StoredRequest::EndDay => Some(Command::EndDay),
         StoredRequest::InForce(_) | StoredRequest::SetRefused(_) => None,
-        StoredRequest::Trade { .. }
-        | StoredRequest::Hold { .. }
-        | StoredRequest::Fill { .. }
-        | StoredRequest::Transfer { .. } => Some(order_in(names, stored)),
+        StoredRequest::Trade { .. } | StoredRequest::Hold { .. } => Some(order_in(names, stored)),
+        StoredRequest::Fill { .. } | StoredRequest::Transfer { .. } => {
+            Some(fill_or_transfer_in(names, stored))
+        }
     }
 }

@@ -1,9 +1,9 @@
-ghost use Rattle.std.specs.Prelude.{◌≡◌, ◌<◌, ◌≤◌, ◌++◌, [], ℕ, drop, length, take, IfOk, IfErr, OnOk, OnErr, false, ◌==◌};
+ghost use Rattle.std.specs.Prelude.{◌≡◌, ◌<◌, ◌≤◌, ◌++◌, [], ℕ, drop, length, take, IfOk, IfErr, OnOk, OnErr, false};
 ghost use Rattle.std.specs.Io.{ReadsAtMost};
 ghost use Rattle.std.specs.Io.KnownBytes.{Appends};
 ghost use Rattle.mgn_wire.specs.Text.{text_of};
 ghost use Rattle.mgn_session.specs.Device.{device_of, failed_of, has_ended, is_dirty, one_more};
-ghost use Rattle.mgn_session.specs.Conversation.{HasFailedToRead, HasFailedToSend, HasRead, HasReplied, HasSent, IsQuiet, line_ends, seen};
+ghost use Rattle.mgn_session.specs.Conversation.{HasFailedToRead, HasFailedToSend, HasRead, HasReplied, HasSent, IsQuiet, seen};
 
 use crate::counted::Counted;
 use crate::ends::count_ends;

@@ -1,4 +1,4 @@
-ghost use Rattle.std.specs.Prelude.{◌≡◌, ◌⊎◌, ◌+◌, ◌<◌, ◌≤◌, ◌∷◌, [], ◌++◌, ℕ, List, take, length, Ok, IfOk, IfErr, OnOk, OnErr, position, ◌==◌, false};
+ghost use Rattle.std.specs.Prelude.{◌≡◌, ◌⊎◌, ◌+◌, ◌<◌, ◌≤◌, ◌∷◌, [], ◌++◌, ℕ, List, take, length, Ok, IfOk, IfErr, OnOk, OnErr, false};
 ghost use Rattle.mgn_wire.specs.Line.{line_of};
 ghost use Rattle.mgn_session.specs.Conversation.{ConversationView, KeepsDevices, line_ends};
 ghost use Rattle.mgn_session.specs.Session.{Answers, Calls, Switches, has_end};
