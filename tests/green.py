@@ -14,11 +14,11 @@ OLDEST = timedelta(days=10)
 # The scripts that say what was tried: where one changes, every crate counts as changed.
 SCRIPTS = ("tests/edits.py", "tests/green.py", "tests/source.py")
 HEADING = """# Written by `tests/gate.sh --all` and `tests/gate.sh --crate` alone, a line for each crate that passed with its tests and edits:
-# the hashes of its own files, of the definitions of the crates below it, and of its files and those of all crates below it; and
-# when it was tried."""
+# the hashes of its own files, of the definitions of the crates below it, and of its files and those of all crates below it; when it
+# was tried; and with which release of the toolchain."""
 WHEN = "%Y-%m-%dT%H:%MZ"
-# own, definitions and whole: the three hashes; when: it was tried
-Line = namedtuple("Line", "own definitions whole when")
+# own, definitions and whole: the three hashes; when it was tried, and with which release of the toolchain
+Line = namedtuple("Line", "own definitions whole when release")
 
 
 def tracked(top):
@@ -31,6 +31,12 @@ def tracked(top):
         folders[:] = [it for it in folders if it not in (".git", "out")]
         found += [os.path.relpath(f"{at}/{it}", top) for it in names]
     return sorted(found)
+
+
+def version():
+    """Returns the toolchain's release, and the sum of the logic that its proofs stand on."""
+    release, *logic = subprocess.run(["rt", "version"], capture_output=True, text=True).stdout.split()
+    return release, " ".join(logic)
 
 
 def hash_of(parts):
@@ -71,7 +77,7 @@ class Repository:
     def hashes(self):
         """Returns the three hashes of each crate."""
         scripts = [source.bytes_of(f"{self.top}/{it}") for it in (*SCRIPTS, "HANDLES") if os.path.isfile(f"{self.top}/{it}")]
-        common = hash_of([subprocess.run(["rt", "version"], capture_output=True).stdout, *scripts])
+        common = hash_of([version()[1], *scripts])
         own, stated = {}, {}
         for name, line in self.lines.items():
             pairs = [part for it in self.files_of(name) for part in (it, source.bytes_of(f"{self.top}/{it}"))]
@@ -119,15 +125,16 @@ def greens(top):
     if os.path.isfile(f"{top}/{GREEN}"):
         with open(f"{top}/{GREEN}", encoding="utf-8") as it:
             rows = [line.split() for line in it if line.strip() and not line.startswith("#")]
-        for name, *hashes, when in rows:
-            found[name] = Line(*hashes, datetime.strptime(when, WHEN).replace(tzinfo=timezone.utc))
+        for name, own, definitions, whole, when, release in rows:
+            found[name] = Line(own, definitions, whole, datetime.strptime(when, WHEN).replace(tzinfo=timezone.utc), release)
     return found
 
 
 def write(top, hashes, tried):
     """Writes that these crates passed now, and keeps what is told of the others that there still are."""
-    told, now = greens(top), datetime.now(timezone.utc)
-    told |= {it: Line(*hashes[it], now) for it in tried}
-    rows = [f"{it} {told[it].own} {told[it].definitions} {told[it].whole} {told[it].when:{WHEN}}" for it in hashes if it in told]
+    told, now, (release, _) = greens(top), datetime.now(timezone.utc), version()
+    told |= {it: Line(*hashes[it], now, release) for it in tried}
+    rows = [f"{it} {one.own} {one.definitions} {one.whole} {one.when:{WHEN}} {one.release}" for it, one in told.items() if it in hashes]
+    rows.sort(key=lambda it: [*hashes].index(it.split()[0]))
     with open(f"{top}/{GREEN}", "w", encoding="utf-8") as it:
         it.write("\n".join([HEADING, *rows]) + "\n")
