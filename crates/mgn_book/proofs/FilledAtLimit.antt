@@ -1,19 +1,17 @@
 -- What a FILL at the limit of its hold leaves as it was.
-use Rattle.std.proofs.Common.{◌≡◌, ℕ, ◌<◌, List, [], length, refl, sym, ap, ◌∙◌, arith, Bool, true, false}
+use Rattle.std.proofs.Common.{◌≡◌, ℕ, refl, sym, ap, ◌∙◌, arith, Bool, true, false}
 use Rattle.std.specs.Prelude.{ℤ, nat_eq, not, Some, Result, Ok, Err}
-use Rattle.std.specs.Str.{bytes_eq}
 use Rattle.std.proofs.lemmas.Int.{ints}
-use Rattle.std.proofs.lemmas.List.{length-map}
 use Rattle.std.proofs.lemmas.List.Quantifiers.{position-Some}
 use Rattle.mgn_params.specs.Tables.{Tables}
 use Rattle.mgn_holds.specs.declared.held.Held.{Held}
 use Rattle.mgn_holds.specs.Holds.{is_buy, hold_at, place_of_order, covers}
 use Rattle.mgn_machine.specs.declared.command.Fill.{Fill}
 use Rattle.mgn_machine.specs.declared.reply.Refusal.{Refusal}
-use Rattle.mgn_machine.specs.declared.reply.Refusal.TheVariants.{NoOrder, NoAccount}
-use Rattle.mgn_machine.specs.State.{State, AccountState, account_at, put}
+use Rattle.mgn_machine.specs.declared.reply.Refusal.TheVariants.{NoOrder}
+use Rattle.mgn_machine.specs.State.{State, account_at, put}
 use Rattle.mgn_machine.specs.Portfolios.{Portfolio}
-use Rattle.mgn_machine.specs.Refusals.{◌>>=◌, refuse_if, found, account_names, place_of}
+use Rattle.mgn_machine.specs.Refusals.{◌>>=◌, found, place_of}
 use Rattle.mgn_machine.specs.Room.{requirement_of, room_of, worth_of}
 use Rattle.mgn_machine.specs.Holding.{fill_places, fill_of}
 use Rattle.mgn_unit.specs.Laws.{counts}
@@ -21,24 +19,13 @@ use Rattle.mgn_unit.specs.Rows.{portfolio_of, portfolio_room}
 use Rattle.mgn_unit.specs.declared.row.PortfolioRow.{PortfolioRow}
 use Rattle.mgn_unit.proofs.AtLimit.{fill_at_limit-keeps}
 use Rattle.mgn_book.specs.FilledAtLimit.{FillsAtLimit}
-use Rattle.mgn_register.proofs.Kept.{found-Some}
+use Rattle.mgn_register.proofs.Found.{first_done, place-inside, test_passed}
 
 -- Chains of refusals that came to an end.
-
--- what the first of two gave
-first_done : {A B : Type 0} (r : Result A Refusal) (f : A → Result B Refusal) (y : B) → r >>= f ≡ Ok y → (x : A) × ((r ≡ Ok x) × (f x ≡ Ok y))
-first_done (Ok x) f y e = (x, (refl, e))
-first_done (Err why) f y e = cc
 
 -- what comes after a first that is known
 then_done : {A B : Type 0} (r : Result A Refusal) (f : A → Result B Refusal) (x : A) (y : B) → r ≡ Ok x → r >>= f ≡ Ok y → f x ≡ Ok y
 then_done {A = A} r f x y is e = sym (ap (λ (z : Result A Refusal). z >>= f) is) ∙ e
-
--- a test that refused nothing
-test_passed : {B : Type 0} (test : Bool) (why : Refusal) (f : Unit {0} → Result B Refusal) (y : B) → refuse_if test why >>= f ≡ Ok y → (test ≡ false) × (f tt ≡ Ok y)
-unfolding refuse_if
-test_passed true why f y e = cc
-test_passed false why f y e = (refl, e)
 
 -- what was done is one thing
 same_done : {A : Type 0} (r : Result A Refusal) (x y : A) → r ≡ Ok x → r ≡ Ok y → x ≡ y
@@ -68,11 +55,6 @@ covered-side x q = by (is_buy x.quantity) refl
     by : (b : Bool) → is_buy x.quantity ≡ b → covers x q ≡ true → is_buy q ≡ is_buy x.quantity
     by true e c = grind (arith, ints)
     by false e c = grind (arith, ints)
-
-place-inside : (s : State) (account : List ℕ) (k : ℕ) → place_of s account ≡ Ok k → k < length s.accounts
-unfolding place_of
-place-inside s account k place =
-    omega (arith, (position-Some (bytes_eq account) (account_names s.accounts) k [] (found-Some _ NoAccount k place)).0, length-map s.accounts (λ (a : AccountState). a.name))
 
 -- each portfolio that counts the hold stays as it was
 pub fill_done-keeps : (set' : Tables) (old new : State) (p : Portfolio) (u : ℕ) → FillsAtLimit set' old new p → portfolio_of set' new.accounts u p ≡ portfolio_of set' old.accounts u p

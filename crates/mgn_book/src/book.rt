@@ -183,11 +183,20 @@ impl Book {
             let set = set_at (S.sets shelf.now) state.version in
             Leaves set (plan_of set state command.now) self.old.book.rows result self.new.book.rows }
     {
-        self.commit_known(alloc, session, number, command, shelf, &Known::NOTHING)
+        let plan = self.plan(shelf, command);
+        self.commit_known(
+            alloc,
+            session,
+            number,
+            command,
+            shelf,
+            &plan,
+            &Known::NOTHING,
+        )
     }
 
-    /// The same where it may be known what the units of the command's plan require once it is done: then nothing is worked
-    /// out for them.
+    /// The same by the command's plan, so that what it found is not looked for again. What its units require once it is
+    /// done may be known: then nothing is worked out for them.
     pub fn commit_known<S: Shelf>(
         &mut self,
         alloc: Global,
@@ -195,10 +204,13 @@ impl Book {
         number: u64,
         command: &Command,
         shelf: &S,
+        plan: &Plan,
         known: &Known,
     ) -> Outcome
         requires stands { Stands (S.sets shelf.now) self.old }
         requires number { number ≡ calls session self.old.history + 1 }
+        requires plan { let state = self.old.book.state in
+            plan.now ≡ plan_of (set_at (S.sets shelf.now) state.version) state command.now }
         requires known { let state = self.old.book.state in
             let set = set_at (S.sets shelf.now) state.version in
             Foresees set self.old.book.rows (plan_of set state command.now) known.now }
@@ -217,7 +229,7 @@ impl Book {
         let Some(set) = shelf.get(self.register.version()) else {
             unreachable!();
         };
-        let reply = match step(&mut self.register, alloc, set, command, known) {
+        let reply = match step(&mut self.register, alloc, set, command, plan, known) {
             Ok(reply) => reply,
             Err(Fault::Memory) => return Outcome::Memory,
             Err(Fault::Refused(_)) => unreachable!(),

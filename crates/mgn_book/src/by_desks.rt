@@ -74,7 +74,7 @@ impl Book {
         let Some(known) = known_by(desks, version, set, self.rows(), &plan) else {
             return Decision::Apart;
         };
-        match self.commit_known(alloc, session, number, command, shelf, &known) {
+        match self.commit_known(alloc, session, number, command, shelf, &plan, &known) {
             Outcome::Done(place, reply) => Decision::Done(place, reply),
             Outcome::Full => unreachable!(),
             Outcome::Memory => Decision::Memory,

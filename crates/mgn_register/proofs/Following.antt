@@ -1,5 +1,5 @@
 -- The nets of units after a command, by its plan.
-use Rattle.std.proofs.Common.{◌≡◌, ◌≢◌, ◌<◌, ◌≤◌, ◌+◌, ◌∙◌, ◌⊎◌, ⊎_elim, ℕ, List, [], ◌∷◌, ◌++◌, length, length-append, get_or, set, sym, ap, subst, refl, arith, eq-eqb, ne_eqb, OnOk, IfOk, Result, Ok, Err}
+use Rattle.std.proofs.Common.{◌≡◌, ◌≢◌, ◌<◌, ◌∙◌, ⊎_elim, ℕ, List, [], ◌∷◌, ◌++◌, length, length-append, get_or, set, sym, ap, subst, refl, arith, eq-eqb, ne_eqb, OnOk, IfOk, Result, Ok, Err}
 use Rattle.std.proofs.lemmas.Bool.{cases_eq}
 use Rattle.std.proofs.lemmas.List.{get_or-set_same, get_or-set_other, get_or_append_left, get_or_default, length-set}
 use Rattle.mgn_params.specs.Tables.{Tables}
@@ -88,7 +88,7 @@ pub follows-planned : (set' : Tables) (f g : BookState) (plan : BookState → Pl
 follows-planned set' f g plan k n a change was row same there found unit inside here planned changed =
     subst (λ (h : BookState). FollowsPlan set' (plan g) h.rows (set f.rows n row)) same
     (subst (λ (p : Plan). FollowsPlan set' p f.rows (set f.rows n row)) (sym own)
-    (follows-one set' f.rows record { unit = n; change = change } row inside (ap nets_in changed ∙ ap (λ (r : Row). moved_nets change (nets_in r)) (here ∙ get_or_default f.rows n was (no_row set') inside))))
+    (follows-one set' f.rows record { account = k; unit = n; change = change } row inside (ap nets_in changed ∙ ap (λ (r : Row). moved_nets change (nets_in r)) (here ∙ get_or_default f.rows n was (no_row set') inside))))
   where
     unit_is : (account_at g.state.accounts k).unit ≡ n
     unit_is =
@@ -96,8 +96,8 @@ follows-planned set' f g plan k n a change was row same there found unit inside 
         ∙ ap (λ (x : AccountState). x.unit) (sym (found ∙ get_or_default f.state.accounts k a no_account there))
         ∙ sym unit
 
-    own : plan g ≡ One record { unit = n; change = change }
-    own = planned ∙ (λ j. One record { unit = unit_is j; change = change })
+    own : plan g ≡ One record { account = k; unit = n; change = change }
+    own = planned ∙ (λ j. One record { account = k; unit = unit_is j; change = change })
 
 -- from a change to its answer
 pub leaves_by : {X : Type 0} (set' : Tables) (plan : Plan) (want : Result State Refusal) (done : Result X Fault) (old new : BookState) → Steps want done old new → OnOk done (FollowsPlan set' plan old.rows new.rows) → IfOk (answer_of done) (λ reply. LeavesNets set' plan reply old.rows new.rows)
@@ -120,7 +120,7 @@ within-follows set' accounts now rows after giver taker plan (Ok done) none insi
 within-follows set' accounts now rows after giver taker plan (Err why) none inside entered = tt
 
 abbrev pub change_of : Party → UnitChange
-change_of p = record { unit = p.unit; change = p.change }
+change_of p = record { account = p.place; unit = p.unit; change = p.change }
 
 pub across-follows : (set' : Tables) (accounts now : List AccountState) (rows after : List Row) (giver taker : Party) (plan : Plan) (result : Result (Unit {0}) Fault) → plan ≡ Two (change_of giver) (change_of taker) → giver.unit < length rows → taker.unit < length rows → taker.unit ≢ giver.unit
     → EnteredAcross set' accounts rows giver taker result now after → OnOk result (FollowsPlan set' plan rows after)

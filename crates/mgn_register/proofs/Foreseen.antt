@@ -2,7 +2,6 @@
 use Rattle.std.specs.Prelude.{List}
 use Rattle.mgn_params.specs.Tables.{Tables}
 use Rattle.mgn_unit.specs.declared.row.Row.{Row}
-use Rattle.mgn_register.specs.declared.plans.Known.{Known}
 use Rattle.mgn_register.specs.declared.plans.Plan.{Plan}
 use Rattle.mgn_register.specs.declared.plans.Plan.TheVariants.{Nothing, One, Two}
 use Rattle.mgn_register.specs.Plans.{Foresees, nothing_known}

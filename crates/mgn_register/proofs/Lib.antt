@@ -2,6 +2,7 @@
 pub mod Answered
 pub mod Busts
 pub mod Following
+pub mod Found
 pub mod Foreseen
 pub mod Holding
 pub mod Kept

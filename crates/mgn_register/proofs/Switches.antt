@@ -1,5 +1,5 @@
 -- Rows and refusals where another set comes into force.
-use Rattle.std.proofs.Common.{All, IfOk, IfSome, OnOk, Result, Ok, Err, length-append, ◌≡◌, ◌+◌, ◌-◌, ◌<◌, ◌≤◌, ◌∙◌, ℕ, zero, suc, Bool, true, false, List, [], ◌∷◌, ◌++◌, length, get_or, sym, ap, arith, refl, subst, filter, cond, ⊎_elim}
+use Rattle.std.proofs.Common.{◌≡◌, ◌+◌, ◌-◌, ◌<◌, ◌≤◌, ◌∙◌, ℕ, Bool, List, [], ◌∷◌, ◌++◌, length, get_or, sym, ap, arith, subst, filter, ⊎_elim}
 use Rattle.std.specs.Prelude.{◌&&◌, ℤ}
 use Rattle.std.specs.List.{list_all}
 use Rattle.std.proofs.lemmas.List.Sums.{length-filter}
@@ -7,23 +7,15 @@ use Rattle.std.proofs.lemmas.Bool.{cases_lt}
 use Rattle.std.proofs.lemmas.List.{get_or_append_left, get_or-append_right}
 use Rattle.mgn_coll.specs.Posted.{is_priced_by}
 use Rattle.mgn_params.specs.Limits.{IsWithinLimits}
-use Rattle.mgn_params.specs.Shelves.{set_at}
-use Rattle.mgn_params.specs.Tables.{Tables, no_tables}
-use Rattle.mgn_machine.specs.declared.origin.Origin.{Origin}
-use Rattle.mgn_machine.specs.declared.reply.Refusal.{Refusal}
-use Rattle.mgn_machine.specs.declared.reply.Reply.{Reply}
-use Rattle.mgn_machine.specs.declared.reply.Reply.TheVariants.{NewSet, Refused as Not}
-use Rattle.mgn_machine.specs.declared.request.Request.TheVariants.{Switch}
-use Rattle.mgn_machine.specs.NewSet.{covers, on_call, set_fits}
-use Rattle.mgn_machine.specs.Step.{switched}
+use Rattle.mgn_params.specs.Tables.{Tables}
+use Rattle.mgn_machine.specs.NewSet.{covers, on_call}
 use Rattle.mgn_machine.specs.State.{AccountState}
 use Rattle.mgn_unit.specs.declared.row.Row.{Row}
 use Rattle.mgn_unit.specs.NewSets.{AreWorths, is_covered, row_on_call, row_under, unit_gain}
-use Rattle.mgn_unit.specs.Rows.{IsRow, row_of, row_with_worth}
+use Rattle.mgn_unit.specs.Rows.{IsRow, row_with_worth}
 use Rattle.mgn_unit.proofs.Carried.{on_call-by_rows, row-under, worths-under}
-use Rattle.mgn_unit.proofs.Covered.{AreRowsOf, covers-by_rows, covers-known}
-use Rattle.mgn_register.specs.BookStates.{BookState, IsKept, IsUnitRow, book_state}
-use Rattle.mgn_register.specs.declared.fault.Fault.{Fault}
+use Rattle.mgn_unit.proofs.Covered.{AreRowsOf, covers-by_rows}
+use Rattle.mgn_register.specs.BookStates.{BookState, IsKept, IsUnitRow}
 
 -- the rows that are kept are those of the accounts' units
 are-rows : (set' : Tables) (f : BookState) → IsKept set' f → AreRowsOf set' f.state.accounts f.rows

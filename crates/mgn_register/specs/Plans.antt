@@ -31,7 +31,7 @@ use Rattle.mgn_register.specs.TransferRows.{row_at}
 
 -- a change in the row of the unit of the account at a place
 abbrev pub in_unit_of : State → ℕ → Change → UnitChange
-in_unit_of s k change = record { unit = (account_at s.accounts k).unit; change = change }
+in_unit_of s k change = record { account = k; unit = (account_at s.accounts k).unit; change = change }
 
 abbrev pub trade_plan : State → Trade → Result (ℕ × ℕ) Refusal → Plan
 trade_plan s t (Ok at) = One (in_unit_of s at.0 (lot_change at.1 t.quantity t.premium))

@@ -11,7 +11,7 @@ ghost use Rattle.mgn_register.specs.Plans.{FollowsPlan, Foresees, bust_plan, tra
 ghost use Rattle.mgn_register.specs.declared.plans.Plan.TheVariants.{Nothing};
 
 use crate::fault::Fault;
-use crate::plans::Known;
+use crate::plans::{Known, Plan};
 use crate::register::Register;
 use mgn_ids::{AccountName, ClassName, ContractName, LotId, LotQuantity, Premium, Units};
 use mgn_lots::{Lot, Mark};
@@ -46,9 +46,12 @@ impl Register {
         alloc: Global,
         set: &ParamSet,
         trade: &Trade,
+        plan: &Plan,
         known: &Known,
     ) -> Result<(), Fault>
         requires kept { IsKept set.now self.old }
+        requires plan { plan.now ≡
+            trade_plan self.old.state trade.now (trade_places set.now self.old.state trade.now) }
         requires known { Foresees set.now self.old.rows
             (trade_plan self.old.state trade.now (trade_places set.now self.old.state trade.now)) known.now }
         ensures kept { IsKept set.now self.new }
@@ -58,7 +61,7 @@ impl Register {
             self.old.rows self.new.rows) }
     {
         set.limits();
-        let (place, i) = self.trade_places(set, trade)?;
+        let (place, i) = self.planned_trade(set, trade, plan)?;
         let change = Change::of_lot(i, trade.quantity, trade.premium);
         let lot = traded_lot(trade.lot, trade.contract, trade.quantity, trade.premium);
         let owner = &mut self.accounts[place];

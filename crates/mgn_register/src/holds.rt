@@ -13,7 +13,7 @@ ghost use Rattle.mgn_register.specs.RoomAsked.{AsksRoom};
 
 use crate::changes::{price, traded_lot};
 use crate::fault::Fault;
-use crate::plans::Known;
+use crate::plans::{Known, Plan};
 use crate::register::{Register, contract_of, is_over, known_contract, premium_fits, refuse_if};
 use mgn_holds::Held;
 use mgn_ids::{AccountName, OrderId, Premium};
@@ -117,9 +117,12 @@ impl Register {
         alloc: Global,
         set: &ParamSet,
         hold: &Hold,
+        plan: &Plan,
         known: &Known,
     ) -> Result<(), Fault>
         requires kept { IsKept set.now self.old }
+        requires plan { plan.now ≡
+            hold_plan self.old.state hold.now (hold_places set.now self.old.state hold.now) }
         requires known { Foresees set.now self.old.rows
             (hold_plan self.old.state hold.now (hold_places set.now self.old.state hold.now)) known.now }
         ensures kept { IsKept set.now self.new }
@@ -129,7 +132,7 @@ impl Register {
             self.old.rows self.new.rows) }
     {
         set.limits();
-        let (place, i) = self.hold_places(set, hold)?;
+        let (place, i) = self.planned_hold(set, hold, plan)?;
         let change = Change::of_hold(i, hold.quantity, hold.limit);
         let held = new_hold(hold);
         let owner = &mut self.accounts[place];

@@ -1,6 +1,8 @@
-ghost use Rattle.std.specs.Prelude.{◌≡◌, ◌<◌, length};
+ghost use Rattle.std.specs.Prelude.{◌≡◌, ◌<◌, length, IfOk, Ok, false};
+ghost use Rattle.mgn_holds.specs.Holds.{has_order, is_full as holds_full};
+ghost use Rattle.mgn_lots.specs.Lots.{has_number, is_full};
 ghost use Rattle.mgn_machine.specs.Holding.{fill_places, hold_places, release_places};
-ghost use Rattle.mgn_machine.specs.Refusals.{bust_places, trade_places};
+ghost use Rattle.mgn_machine.specs.Refusals.{bust_places, contract_of, is_over, trade_places};
 ghost use Rattle.mgn_machine.specs.State.{account_at};
 ghost use Rattle.mgn_machine.specs.Transfers.{move_places};
 ghost use Rattle.mgn_register.specs.BookStates.{IsKept};
@@ -8,13 +10,15 @@ ghost use Rattle.mgn_register.specs.Plans.{IsPossible, bust_plan, fill_plan, hol
 
 use crate::register::Register;
 use mgn_ids::{AccountName, LotId, OrderId};
-use mgn_machine::{Command, Fill, Hold, Trade, Transfer};
+use mgn_machine::{Command, Fill, Hold, Refusal, Trade, Transfer};
 use mgn_params::ParamSet;
 use mgn_unit::{Change, Priced};
 
 /// What a command changes in the row of a margin unit.
 #[derive(Clone, Copy)]
 pub struct UnitChange {
+    /// The place of the account whose lots or holds change.
+    pub account: usize,
     /// The unit's number.
     pub unit: usize,
     /// What changes in its row, in one contract.
@@ -64,6 +68,7 @@ impl Register {
         ensures { result ≡ in_unit_of self.now.state place change }
     {
         UnitChange {
+            account: place,
             unit: self.accounts[place].unit(),
             change,
         }
@@ -79,6 +84,58 @@ impl Register {
             return Plan::Nothing;
         };
         Plan::One(self.in_unit_of(place, Change::of_lot(i, trade.quantity, trade.premium)))
+    }
+
+    // Where the account and the contract of a new lot stand, if it is not refused, by its plan.
+    pub(crate) fn planned_trade(
+        &self,
+        set: &ParamSet,
+        trade: &Trade,
+        plan: &Plan,
+    ) -> Result<(usize, usize), Refusal>
+        requires kept { IsKept set.now self.now }
+        requires plan { plan.now ≡
+            trade_plan self.now.state trade.now (trade_places set.now self.now.state trade.now) }
+        ensures places { result ≡ trade_places set.now self.now.state trade.now }
+        ensures account { IfOk result (λ at. at.0 < length self.now.state.accounts) }
+        ensures contract { IfOk result (λ at. at.1 < length set.now.contracts) }
+        ensures stands { IfOk result (λ at. contract_of set.now trade.now.contract ≡ Ok at.1) }
+        ensures fresh { IfOk result (λ at.
+            has_number (account_at self.now.state.accounts at.0).lots trade.now.lot ≡ false) }
+        ensures few { IfOk result (λ at. is_full (account_at self.now.state.accounts at.0).lots ≡ false) }
+        ensures room { IfOk result (λ at.
+            is_over self.now.state at.0 trade.now.contract trade.now.quantity ≡ false) }
+    {
+        match plan {
+            Plan::One(found) => Ok((found.account, found.change.contract)),
+            Plan::Nothing | Plan::Two(..) => self.trade_places(set, trade),
+        }
+    }
+
+    // The same of a new hold.
+    pub(crate) fn planned_hold(
+        &self,
+        set: &ParamSet,
+        hold: &Hold,
+        plan: &Plan,
+    ) -> Result<(usize, usize), Refusal>
+        requires kept { IsKept set.now self.now }
+        requires plan { plan.now ≡
+            hold_plan self.now.state hold.now (hold_places set.now self.now.state hold.now) }
+        ensures places { result ≡ hold_places set.now self.now.state hold.now }
+        ensures account { IfOk result (λ at. at.0 < length self.now.state.accounts) }
+        ensures contract { IfOk result (λ at. at.1 < length set.now.contracts) }
+        ensures stands { IfOk result (λ at. contract_of set.now hold.now.contract ≡ Ok at.1) }
+        ensures fresh { IfOk result (λ at.
+            has_order (account_at self.now.state.accounts at.0).holds hold.now.order ≡ false) }
+        ensures few { IfOk result (λ at. holds_full (account_at self.now.state.accounts at.0).holds ≡ false) }
+        ensures room { IfOk result (λ at.
+            is_over self.now.state at.0 hold.now.contract hold.now.quantity ≡ false) }
+    {
+        match plan {
+            Plan::One(found) => Ok((found.account, found.change.contract)),
+            Plan::Nothing | Plan::Two(..) => self.hold_places(set, hold),
+        }
     }
 
     fn bust_plan(&self, set: &ParamSet, account: AccountName, lot: LotId) -> Plan

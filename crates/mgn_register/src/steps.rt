@@ -7,7 +7,7 @@ ghost use Rattle.mgn_register.specs.Plans.{FollowsPlan, Foresees, LeavesNets, pl
 ghost use Rattle.mgn_register.specs.declared.plans.Plan.TheVariants.{Nothing};
 
 use crate::fault::Fault;
-use crate::plans::Known;
+use crate::plans::{Known, Plan};
 use crate::register::{Register, refuse_if};
 use mgn_ids::AccountName;
 use mgn_machine::{Command, Refusal, Reply};
@@ -54,16 +54,18 @@ fn answer_of(done: Result<(), Fault>) -> Result<Reply, Fault>
 }
 
 /// One step of the machine under a set; where memory is refused, or a statement told, nothing has changed. What the units
-/// of its plan require may be known before, and is worked out elsewhere.
+/// of its plan require may be known before, and is worked out elsewhere. What the plan found is not looked for again.
 #[tactic(auto, using(crate::proofs::Answered::answered_by, crate::proofs::Following::leaves_by))]
 pub fn step(
     register: &mut Register,
     alloc: Global,
     set: &ParamSet,
     command: &Command,
+    plan: &Plan,
     known: &Known,
 ) -> Result<Reply, Fault>
     requires kept { IsKept set.now register.old }
+    requires plan { plan.now ≡ plan_of set.now register.old.state command.now }
     requires known { Foresees set.now register.old.rows
         (plan_of set.now register.old.state command.now) known.now }
     ensures kept { IsKept set.now register.new }
@@ -75,9 +77,9 @@ pub fn step(
     match *command {
         Command::NewOrigin(name, mode) => answer_of(register.originate(alloc, set, name, mode)),
         Command::NewAccount(name, origin) => answer_of(register.open(alloc, set, name, origin)),
-        Command::Trade(trade) => answer_of(register.trade(alloc, set, &trade, known)),
+        Command::Trade(trade) => answer_of(register.trade(alloc, set, &trade, plan, known)),
         Command::Bust(account, lot) => answer_of(register.bust(alloc, set, account, lot, known)),
-        Command::Hold(hold) => answer_of(register.hold(alloc, set, &hold, known)),
+        Command::Hold(hold) => answer_of(register.hold(alloc, set, &hold, plan, known)),
         Command::Fill(fill) => answer_of(register.fill(alloc, set, &fill, known)),
         Command::Release(account, order) => answer_of(register.release(
             alloc, set, account, order, known,

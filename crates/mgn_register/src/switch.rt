@@ -4,6 +4,7 @@ ghost use Rattle.mgn_coll.specs.Posted.{is_priced_by};
 ghost use Rattle.mgn_machine.specs.NewSet.{covers, set_fits};
 ghost use Rattle.mgn_machine.specs.State.{AccountState};
 ghost use Rattle.mgn_params.specs.Tables.{Tables};
+ghost use Rattle.mgn_span.specs.Scan.{value_at};
 ghost use Rattle.mgn_unit.specs.NewSets.{ArePrepared, IsPrepared, is_covered, row_on_call};
 ghost use Rattle.mgn_unit.specs.declared.row.Row.{Row as UnitRow};
 ghost use Rattle.mgn_register.specs.BookStates.{IsKept, IsUnitRow, book_state};
@@ -12,6 +13,7 @@ ghost use Rattle.mgn_register.specs.Fits.{Fits};
 use crate::fault::Fault;
 use crate::register::{Register, refuse_if};
 use mgn_machine::Refusal;
+use mgn_num::Cents;
 use mgn_params::{ParamSet, Version, Work};
 use mgn_unit::{PreparedUnit, Row, Switch};
 use std::alloc::{AllocError, Global};
@@ -24,6 +26,14 @@ fn prepared_of(prepared: &[Option<PreparedUnit>], unit: usize) -> Option<&Prepar
     ensures { (set : Tables) → ArePrepared set prepared.now → IfSome result (λ one. IsPrepared set one.now) }
 {
     prepared.get(unit)?.as_ref()
+}
+
+// What the accounts of a unit gain.
+fn gain_of(gains: &[Cents], unit: usize) -> Cents
+    requires { unit < length gains.now }
+    ensures { result ≡ value_at gains.now unit }
+{
+    gains[unit]
 }
 
 impl Register {
@@ -88,10 +98,11 @@ impl Register {
     {
         new.limits();
         let switch = Switch::new(alloc, old, new)?;
+        let gains = switch.gains(alloc, self.accounts.as_slice(), self.rows.len())?;
         let mut work = Work::new();
         let mut rows = Vec::with_capacity(alloc, self.rows.len())?;
         for unit in 0..self.rows.len() {
-            let gain = switch.gain(self.accounts.as_slice(), unit);
+            let gain = gain_of(&gains, unit);
             let ready = prepared_of(prepared, unit);
             let row = self.rows[unit].under(alloc, &switch, gain, ready, &mut work)?;
             rows.push_reserved(row);

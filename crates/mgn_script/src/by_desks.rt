@@ -62,7 +62,7 @@ pub(crate) fn commit_command(
     let Ok(known) = desks.foresee(alloc, version, set, book.rows(), &plan) else {
         return book.commit_plain(alloc, session, number, command, shelf);
     };
-    let outcome = book.commit_known(alloc, session, number, command, shelf, &known);
+    let outcome = book.commit_known(alloc, session, number, command, shelf, &plan, &known);
     if !is_done(&outcome) {
         desks.take_back(version, set, book.rows(), &plan);
     }

@@ -12,3 +12,4 @@ pub mod Flat
 pub mod Least
 pub mod Carried
 pub mod Covered
+pub mod Gains

@@ -1,8 +1,9 @@
-ghost use Rattle.std.specs.Prelude.{◌≡◌, ◌<◌, ◌≤◌, ◌*◌, ◌^◌, ◌+ℤ◌, All, IfOk, IfSome, length, unsigned_abs};
+ghost use Rattle.std.specs.Prelude.{◌≡◌, ◌<◌, ◌≤◌, ◌*◌, ◌^◌, ◌+ℤ◌, ℕ, All, IfOk, IfSome, length, pos, replicate, slice_set, unsigned_abs};
 ghost use Rattle.mgn_params.specs.Tables.{Tables};
 ghost use Rattle.mgn_span.specs.Positions.{IsNet};
 ghost use Rattle.mgn_span.specs.Requirement.{requirement};
-ghost use Rattle.mgn_machine.specs.Portfolios.{in_unit};
+ghost use Rattle.mgn_span.specs.Scan.{value_at};
+ghost use Rattle.mgn_machine.specs.State.{AccountState};
 ghost use Rattle.mgn_unit.specs.Rows.{IsRow, IsPortfolioRow, row_with_worth};
 ghost use Rattle.mgn_unit.specs.NewSets.{AreWorths, IsPrepared, IsPreparedPortfolio, IsRequired, SetPair, carried, is_covered, is_covered_at, places_in, portfolio_under, row_on_call, row_under, unit_gain, value_gain};
 
@@ -60,29 +61,50 @@ impl<'a> Switch<'a> {
         self.new
     }
 
-    /// How much more the collateral of a unit's accounts is worth under the new set, in cents; below 0 where it is
-    /// worth less.
-    pub fn gain(&self, accounts: &[Account], unit: usize) -> Cents
-        requires { length accounts.now ≤ 1024 }
-        ensures { result ≡ unit_gain self.now.old self.now.new accounts.now unit }
+    /// How much more the collateral of each unit's accounts is worth under the new set, in cents, by the units' numbers;
+    /// below 0 where it is worth less. Each account is looked at once. An error says that memory was refused.
+    pub fn gains(
+        &self,
+        alloc: Global,
+        accounts: &[Account],
+        units: usize,
+    ) -> Result<Vec<Cents>, AllocError>
+        requires few { length accounts.now ≤ 1024 }
+        requires within { All (λ (a : AccountState). a.unit < units) accounts.now }
+        ensures one_each { IfOk result (λ gains. length gains.items ≡ units) }
+        ensures gains { IfOk result (λ gains. (u : ℕ) → u < units →
+            value_at gains.items u ≡ unit_gain self.now.old self.now.new accounts.now u) }
     {
-        let mut total = Cents::ZERO;
-        for account in accounts {
-            total = total.plus(self.gain_in(account, unit));
-        }
-        total
+        let mut gains = Vec::new(alloc);
+        gains.resize(units, Cents::ZERO)?;
+        self.add_gains(&mut gains, accounts);
+        Ok(gains)
     }
 
-    // What an account adds to it: nothing where it is of another unit.
-    fn gain_in(&self, account: &Account, unit: usize) -> Cents
-        ensures gain { result ≡ in_unit unit (value_gain self.now.old self.now.new) account.now }
-        ensures small { unsigned_abs result ≤ 2 * 10 ^ 18 }
+    // Adds up what the accounts of each unit gain.
+    fn add_gains(&self, gains: &mut [Cents], accounts: &[Account])
+        requires few { length accounts.now ≤ 1024 }
+        requires within { All (λ (a : AccountState). a.unit < length gains.old) accounts.now }
+        requires zero { gains.old ≡ replicate (length gains.old) (pos 0) }
+        ensures one_each { length gains.new ≡ length gains.old }
+        ensures gains { (u : ℕ) → u < length gains.old →
+            value_at gains.new u ≡ unit_gain self.now.old self.now.new accounts.now u }
     {
-        if account.unit() == unit {
-            account.value_gain(self.old, self.new)
-        } else {
-            Cents::ZERO
+        for account in accounts {
+            self.add_gain(gains, account);
         }
+    }
+
+    // Adds what an account gains to what its unit does.
+    fn add_gain(&self, gains: &mut [Cents], account: &Account)
+        requires inside { account.now.unit < length gains.old }
+        requires room { unsigned_abs (value_at gains.old account.now.unit) ≤ 10 ^ 22 }
+        ensures small { unsigned_abs (value_gain self.now.old self.now.new account.now) ≤ 2 * 10 ^ 18 }
+        ensures added { gains.new ≡ slice_set gains.old account.now.unit
+            (value_at gains.old account.now.unit +ℤ value_gain self.now.old self.now.new account.now) }
+    {
+        let unit = account.unit();
+        gains[unit] = gain_at(gains, unit).plus(account.value_gain(self.old, self.new));
     }
 
     // The numbers of a row, by the contracts' names, for the contracts of the new set.
@@ -94,6 +116,14 @@ impl<'a> Switch<'a> {
     {
         row.at_places(alloc, self.places.as_slice())
     }
+}
+
+// What the accounts of a unit gain.
+fn gain_at(gains: &[Cents], unit: usize) -> Cents
+    requires { unit < length gains.now }
+    ensures { result ≡ value_at gains.now unit }
+{
+    gains[unit]
 }
 
 impl Nets {

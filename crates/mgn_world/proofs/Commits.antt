@@ -35,7 +35,7 @@ use Rattle.mgn_world.proofs.Desks.{plan_held}
 use Rattle.mgn_world.proofs.Effects.{Before, Outcome, outcome}
 use Rattle.mgn_world.proofs.Frames.{Change, good_after, owns_kept, rests_same}
 use Rattle.mgn_world.proofs.Locks.{lengthened_at, lengthened_long}
-use Rattle.mgn_world.proofs.Places.{test_passed}
+use Rattle.mgn_register.proofs.Found.{test_passed}
 use Rattle.mgn_world.proofs.Replays.{last-set, run-done, run-switch}
 use Rattle.mgn_world.proofs.Simple.{held_desk, session, stage_in}
 use Rattle.mgn_world.proofs.Stays.{plan_now, plan_open}

@@ -51,7 +51,8 @@ use Rattle.mgn_pricing.specs.Desks.{four}
 use Rattle.mgn_world.specs.Claims.{IsAmong}
 use Rattle.mgn_world.specs.World.{is_done, planned, unit_found, unit_nets, units_found, units_of}
 use Rattle.mgn_world.specs.Standing.{IsHoused}
-use Rattle.mgn_world.proofs.Places.{Takes, bust_at, fill_at, first_done, hold_takes, move_at, release_at, test_passed, trade_at}
+use Rattle.mgn_register.proofs.Found.{first_done, test_passed}
+use Rattle.mgn_world.proofs.Places.{Takes, bust_at, fill_at, hold_takes, move_at, release_at, trade_at}
 use Rattle.mgn_world.proofs.Twins.{IsBare, Keeps, keeps-push, keeps-same, keeps-set, nets-by_sums, nets-kept, place-inside, twin-both}
 
 -- what is known before a command

@@ -21,20 +21,8 @@ use Rattle.mgn_machine.specs.Holding.{fill_places, hold_places, release_places}
 use Rattle.mgn_machine.specs.Refusals.{◌>>=◌, bust_places, contract_of, place_of, refuse_if, trade_places}
 use Rattle.mgn_machine.specs.State.{State, account_at}
 use Rattle.mgn_machine.specs.Transfers.{move_places, parties}
+use Rattle.mgn_register.proofs.Found.{first_done, test_passed}
 use Rattle.mgn_register.proofs.Kept.{found-Some}
-
--- Chains of refusals that came to an end.
-
--- what the first of two gave
-pub first_done : {A B : Type 0} (r : Result A Refusal) (f : A → Result B Refusal) (y : B) → r >>= f ≡ Ok y → (x : A) × ((r ≡ Ok x) × (f x ≡ Ok y))
-first_done (Ok x) f y e = (x, (refl, e))
-first_done (Err why) f y e = cc
-
--- a test that refused nothing
-pub test_passed : {B : Type 0} (test : Bool) (why : Refusal) (f : Unit {0} → Result B Refusal) (y : B) → refuse_if test why >>= f ≡ Ok y → (test ≡ false) × (f tt ≡ Ok y)
-unfolding refuse_if
-test_passed true why f y e = cc
-test_passed false why f y e = (refl, e)
 
 not_false : (b : Bool) → not b ≡ false → b ≡ true
 not_false true e = refl

@@ -1,5 +1,4 @@
-use Rattle.std.proofs.Common.{◌≡◌, ◌<◌, ◌∙◌, ap, sym, subst, rules, length}
-use Rattle.mgn_machine.specs.State.{AccountState, account_at, no_account}
+use Rattle.std.proofs.Common.{◌≡◌, ◌∙◌, ap, sym, subst}
 use Rattle.mgn_unit.specs.declared.change.Change.{Change}
 use Rattle.mgn_unit.specs.Changes.{hold_change}
 use Rattle.mgn_unit.specs.Rows.{IsChange}

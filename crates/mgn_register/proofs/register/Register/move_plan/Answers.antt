@@ -6,7 +6,6 @@ use Rattle.mgn_unit.specs.Changes.{moved_change}
 use Rattle.mgn_unit.specs.Rows.{IsChange}
 use Rattle.mgn_register.specs.BookStates.{BookState}
 use Rattle.mgn_register.specs.declared.plans.Plan.{Plan}
-use Rattle.mgn_register.specs.declared.plans.UnitChange.{UnitChange}
 use Rattle.mgn_register.specs.Plans.{CanChange, IsPossible, both_plan, in_unit_of}
 use Rattle.mgn_register.proofs.Moving.{Moving, giver-takes, inside-set, taker-takes}
 use Rattle.mgn_register.proofs.Possible.{both-possible}

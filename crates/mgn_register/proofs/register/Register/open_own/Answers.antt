@@ -1,4 +1,4 @@
-use Rattle.std.proofs.Common.{◌≡◌, ◌<◌, ◌++◌, ◌∷◌, [], List, sym, subst, length, rules, arith, length-append, ap}
+use Rattle.std.proofs.Common.{◌≡◌, ◌<◌, ◌++◌, ◌∷◌, [], List, sym, subst, length, rules, arith, length-append}
 use Rattle.mgn_machine.specs.State.{AccountState, fresh}
 use Rattle.mgn_unit.specs.Rows.{no_row}
 use Rattle.mgn_unit.specs.declared.row.Row.{Row}

@@ -1,5 +1,7 @@
 use Rattle.std.proofs.Common.{◌≡◌, ◌<◌, ◌∙◌, IfSome, List, get_or, length, ap, rules, subst, sym}
+use Rattle.std.specs.Prelude.{ℤ}
 use Rattle.mgn_params.specs.Tables.{Tables}
+use Rattle.mgn_span.specs.Scan.{value_at}
 use Rattle.mgn_machine.specs.State.{AccountState}
 use Rattle.mgn_unit.specs.NewSets.{IsPrepared, row_under, unit_gain}
 use Rattle.mgn_register.specs.BookStates.{BookState}
@@ -10,10 +12,10 @@ pub under-requires-clause-worths : goal.under-requires-clause-worths
 under-requires-clause-worths c =
     let f : BookState = c.args.self.now in
     let u = c.loop-unit.unit in
-    let gained : c.gain-gain.result ≡ unit_gain c.args.old.now c.args.new.now f.state.accounts u = search rules in
+    let gained : c.gain_of-gain.result ≡ unit_gain c.args.old.now c.args.new.now f.state.accounts u = search rules in
     let inside : u < length f.rows = search rules in
     let is : c.index.result.now ≡ get_or f.rows u c.index.result.now = search rules in
-    worths-kept c.args.old.now c.args.new.now f u c.gain-gain.result c.index.result.now c.requires.kept c.limits.ensures inside is gained
+    worths-kept c.args.old.now c.args.new.now f u c.gain_of-gain.result c.index.result.now c.requires.kept c.limits.ensures inside is gained
 
 pub under-requires-clause-prepared : goal.under-requires-clause-prepared
 under-requires-clause-prepared c =
@@ -23,17 +25,19 @@ pub loop-unit-preserved : goal.loop-unit-preserved
 loop-unit-preserved c =
     let f : BookState = c.args.self.now in
     let u = c.loop-unit.unit in
-    let gained : c.gain-gain.result ≡ unit_gain c.args.old.now c.args.new.now f.state.accounts u =
-    c.gain-gain.ensures
+    let gained : c.gain_of-gain.result ≡ unit_gain c.args.old.now c.args.new.now f.state.accounts u =
+    c.gain_of-gain.ensures
+    ∙ ap (λ (xs : List ℤ). value_at xs u) c.deref.ensures.value
+    ∙ c.in_ok-gains.ensures.gains u (search rules)
     ∙ ap (λ (t : Tables). unit_gain t c.in_ok-switch.switch.new c.as_slice.result.now u) c.in_ok-switch.ensures.old
     ∙ ap (λ (t : Tables). unit_gain c.args.old.now t c.as_slice.result.now u) c.in_ok-switch.ensures.new
     ∙ ap (λ (accounts : List AccountState). unit_gain c.args.old.now c.args.new.now accounts u) (c.as_slice.ensures.value ∙ ap (λ (g : BookState). g.state.accounts) c.self.view_is)
     in
     let inside : u < length f.rows = search rules in
     let is : c.index.result.now ≡ get_or f.rows u c.index.result.now = search rules in
-    let under : c.in_ok-row.row ≡ row_under c.args.old.now c.args.new.now c.gain-gain.result c.index.result.now = search rules in
+    let under : c.in_ok-row.row ≡ row_under c.args.old.now c.args.new.now c.gain_of-gain.result c.index.result.now = search rules in
     let long : length c.loop-unit.rows.items ≡ u = search rules in
-    let last = row-kept c.args.old.now c.args.new.now f u c.gain-gain.result c.index.result.now c.in_ok-row.row c.requires.kept inside is gained under (search rules) in
+    let last = row-kept c.args.old.now c.args.new.now f u c.gain_of-gain.result c.index.result.now c.in_ok-row.row c.requires.kept inside is gained under (search rules) in
     record {
       len = search rules;
       room = search rules;
