@@ -1,5 +1,5 @@
 -- Stages: what they use and charge, one after the other.
-use Rattle.std.proofs.Common.{◌≡◌, ◌≢◌, ℕ, suc, ◌+◌, ◌-◌, ◌*◌, ◌<◌, ◌≤◌, ◌^◌, List, [], ◌∷◌, ◌++◌, length, drop, get_or, ap, ◌∙◌, sym, arith, add-one, refl, eq-eqb, ne_eqb, All, length-append, true, false}
+use Rattle.std.proofs.Common.{◌≡◌, ◌≢◌, ℕ, suc, ◌+◌, ◌*◌, ◌<◌, ◌≤◌, ◌^◌, List, [], ◌∷◌, ◌++◌, length, drop, get_or, ap, ◌∙◌, sym, arith, add-one, refl, eq-eqb, ne_eqb, All, length-append, true, false}
 use Rattle.std.specs.Prelude.{◌==◌, if◌then◌else◌, slice_index}
 use Rattle.std.specs.List.{filter, flat_map, count_by, AllByRecursion}
 use Rattle.std.proofs.Math.Nat.{mul-le-mul}

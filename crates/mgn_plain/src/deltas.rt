@@ -63,7 +63,8 @@ pub(crate) fn add_positions(deltas: &mut [TenThousandths], set: &ParamSet, nets:
     }
 }
 
-// Adds a month's delta to the leg of its tier that has the delta's direction.
+// Adds a month's delta to the leg of its tier that has the delta's direction. Of the month nothing is read where the
+// delta is 0, as most are.
 fn add_start(starts: &mut [[u128; 16]], month: &Month, delta: TenThousandths)
     requires commodity { month.now.commodity < length starts.old }
     requires tier { month.now.tier < 8 }
@@ -74,6 +75,9 @@ fn add_start(starts: &mut [[u128; 16]], month: &Month, delta: TenThousandths)
         leg_of starts.new g leg ≡ leg_of starts.old g leg + start_share month.now delta g leg }
     ensures as_long { (g : ℕ) → g < length starts.old → length (legs_row starts.new g) ≡ length (legs_row starts.old g) }
 {
+    if delta == TenThousandths::ZERO {
+        return;
+    }
     let leg = if delta.is_negative() {
         8 + month.tier
     } else {
@@ -83,7 +87,7 @@ fn add_start(starts: &mut [[u128; 16]], month: &Month, delta: TenThousandths)
     row[leg] += delta.size();
 }
 
-// Adds a month's delta to the net delta of its commodity.
+// Adds a month's delta to the net delta of its commodity. Of the month nothing is read where the delta is 0.
 fn add_net(nets: &mut [TenThousandths], month: &Month, delta: TenThousandths)
     requires commodity { month.now.commodity < length nets.old }
     requires delta { unsigned_abs delta ≤ 10 ^ 20 }
@@ -92,7 +96,10 @@ fn add_net(nets: &mut [TenThousandths], month: &Month, delta: TenThousandths)
     ensures nets { (g : ℕ) → g < length nets.old →
         value_at nets.new g ≡ value_at nets.old g +ℤ month_net month.now delta g }
 {
-    nets[month.commodity] = delta_at(nets, month.commodity).plus(delta);
+    if delta != TenThousandths::ZERO {
+        let commodity = month.commodity;
+        nets[commodity] = delta_at(nets, commodity).plus(delta);
+    }
 }
 
 #[tactic(auto, using(mgn_num::proofs::SignedLemmas::sum_below_more))]

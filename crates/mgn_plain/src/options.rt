@@ -36,7 +36,8 @@ fn charge_of(net: Quantity, charge: &u64) -> u128
     u128::from(net.size()) * u128::from(*charge)
 }
 
-// Adds what a position in the contract at `i` counts for in its commodity's minimum.
+// Adds what a position in the contract at `i` counts for in its commodity's minimum. Of the contract nothing is read
+// where the net is not short, as most are not.
 fn add_minimum(minimums: &mut [u128], set: &ParamSet, i: usize, net: Quantity)
     requires contract { i < length set.now.contracts }
     requires net { IsNet net }
@@ -48,8 +49,11 @@ fn add_minimum(minimums: &mut [u128], set: &ParamSet, i: usize, net: Quantity)
     ensures small { (g : ℕ) → g < length minimums.old → slice_index minimums.new g ≤ slice_index minimums.old g + 10 ^ 16 }
 {
     set.limits();
+    if !net.is_short() {
+        return;
+    }
     let contract = set.contract_at(i);
-    if is_an_option(contract.kind) && net.is_short() {
+    if is_an_option(contract.kind) {
         let commodity = contract.commodity;
         minimums[commodity] += charge_of(net, &set.commodity_at(commodity).short_option_charge);
     }
@@ -72,14 +76,14 @@ pub(crate) fn add_minimums(minimums: &mut [u128], set: &ParamSet, nets: &[Quanti
     }
 }
 
-// What a position counts for in the net option value.
+// What a position counts for in the net option value. Of the contract nothing is read where the net is 0, as most are.
 fn share_of_value(contract: &Contract, net: Quantity) -> Cents
     requires option_value { contract.now.option_value ≤ 10 ^ 8 }
     requires net { IsNet net }
     ensures share { result ≡ value_share (contract.now, net) }
     ensures small { unsigned_abs result ≤ 10 ^ 15 }
 {
-    if is_premium_style(contract.style) {
+    if net != Quantity::ZERO && is_premium_style(contract.style) {
         Cents::product(net, contract.option_value as i64)
     } else {
         Cents::ZERO

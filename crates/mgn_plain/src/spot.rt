@@ -7,7 +7,7 @@ ghost use Rattle.mgn_plain.specs.Kept.{leg_of, legs_row};
 use mgn_num::mul_div_ceil;
 use mgn_params::SpotCharge;
 
-// One rate on the delta of the tier that spreads used, another on what they left outright.
+// One rate on the delta of the tier that spreads used, another on what they left outright. Most tiers start with nothing.
 fn spot_charge(starts: &[u128; 16], left: &[u128; 16], spot: &SpotCharge) -> u128
     requires spot { (commodities : ℕ) × IsSpotCharge commodities spot.now }
     requires starts { (k : ℕ) → k < 16 → slice_index starts.now k ≤ 10 ^ 16 }
@@ -17,8 +17,12 @@ fn spot_charge(starts: &[u128; 16], left: &[u128; 16], spot: &SpotCharge) -> u12
 {
     let long = spot.tier;
     let short = 8 + spot.tier;
+    let started = starts[long] + starts[short];
+    if started == 0 {
+        return 0;
+    }
     let outright = left[long] + left[short];
-    let spread = starts[long] + starts[short] - outright;
+    let spread = started - outright;
     mul_div_ceil(spread, u128::from(spot.spread_rate), 10000)
         + mul_div_ceil(outright, u128::from(spot.outright_rate), 10000)
 }

@@ -8,20 +8,20 @@ use mgn_num::{mul_div_ceil, mul_div_floor};
 use mgn_params::Spread;
 use mgn_span::Stage;
 
-// How many spreads a stage forms of what its legs have left, in ten-thousandths.
+// How many spreads a stage forms of what its legs have left, in ten-thousandths. Most legs have nothing.
 fn stage_amount(left: &[u128; 16], stage: &Stage) -> u128
     requires stage { IsStage stage.now }
     requires left { (k : ℕ) → k < 16 → slice_index left.now k ≤ 10 ^ 16 }
     ensures amount { result ≡ amount_of left.now stage.now }
     ensures small { result ≤ 10 ^ 20 }
 {
-    let first = mul_div_floor(10000, left[stage.first_leg], u128::from(stage.first_ratio));
-    let second = mul_div_floor(
-        10000,
-        left[stage.second_leg],
-        u128::from(stage.second_ratio),
-    );
-    first.min(second)
+    let first = left[stage.first_leg];
+    let second = left[stage.second_leg];
+    if first == 0 || second == 0 {
+        return 0;
+    }
+    let by_first = mul_div_floor(10000, first, u128::from(stage.first_ratio));
+    by_first.min(mul_div_floor(10000, second, u128::from(stage.second_ratio)))
 }
 
 // What a stage charges. Its legs then have left what it did not use.
@@ -34,6 +34,9 @@ fn form_stage(left: &mut [u128; 16], stage: &Stage) -> u128
     ensures small_charge { result ≤ 10 ^ 25 }
 {
     let amount = stage_amount(left, stage);
+    if amount == 0 {
+        return 0;
+    }
     left[stage.first_leg] -= mul_div_floor(amount, u128::from(stage.first_ratio), 10000);
     left[stage.second_leg] -= mul_div_floor(amount, u128::from(stage.second_ratio), 10000);
     mul_div_ceil(amount, u128::from(stage.charge), 10000)
