@@ -4,8 +4,8 @@
 A command's time is the processor's for a session with many of them, less that for the same session without, by their number.
 It is to stay the same: with 4,096 contracts, or 256 commodities, at most 1.3 times as much as with one.
 
-Usage: bench/desks.py [PROGRAM]; the program that `rt run` or `rt ci` leaves by default. Sessions run in turn, five times
-from a file to a file, and of each the run with the least counts.
+Usage: bench/desks.py [PROGRAM]; the program that `rt run` or `rt ci` leaves by default. Sessions run in turn, seven times
+from a file to a file, and of each, with commands and without, the run with the least counts.
 """
 import os
 import pathlib
@@ -16,7 +16,10 @@ import tempfile
 
 HERE = pathlib.Path(__file__).resolve().parent
 MONTHS = 12
-COUNT = 60_000
+# (an account has at most 65,536 lots)
+ACCOUNTS = 8
+COUNT = 60_000 * ACCOUNTS
+REPEATS = 7
 UNITS = 512
 MOVES = [0, 0, -1, -1, 1, 1, -2, -2, 2, 2, -3, -3, 3, 3, -2.1, 2.1]
 # (commodities, contracts)
@@ -36,14 +39,14 @@ def set_file(commodities, contracts):
 
 
 def trades(pick, contracts):
-    return [f"TRADE A {n + 1} F{pick.randrange(contracts)} {pick.choice([-2, -1, 1, 2])} 0" for n in range(COUNT)]
+    return [f"TRADE A{n % ACCOUNTS} {n + 1} F{pick.randrange(contracts)} {pick.choice([-2, -1, 1, 2])} 0" for n in range(COUNT)]
 
 
 def holds(pick, contracts):
     lines = []
     for n in range(COUNT // 2):
-        lines.append(f"HOLD A {n + 1} F{pick.randrange(contracts)} {pick.choice([-2, -1, 1, 2])} 0")
-        lines.append(f"RELEASE A {n + 1}")
+        lines.append(f"HOLD A{n % ACCOUNTS} {n + 1} F{pick.randrange(contracts)} {pick.choice([-2, -1, 1, 2])} 0")
+        lines.append(f"RELEASE A{n % ACCOUNTS} {n + 1}")
     return lines
 
 
@@ -51,13 +54,14 @@ def fills(pick, contracts):
     lines = []
     for n in range(COUNT // 2):
         side = pick.choice([-1, 1])
-        lines.append(f"HOLD A {n + 1} F{pick.randrange(contracts)} {side} 0")
-        lines.append(f"FILL A {n + 1} {n + 1} {side} 0")
+        lines.append(f"HOLD A{n % ACCOUNTS} {n + 1} F{pick.randrange(contracts)} {side} 0")
+        lines.append(f"FILL A{n % ACCOUNTS} {n + 1} {n + 1} {side} 0")
     return lines
 
 
 KINDS = {"TRADE": trades, "HOLD, RELEASE": holds, "HOLD, FILL": fills}
-OPENED = ["ORIGIN CUST GROSS", "OPEN A CUST", "POST A CASH 900000000000000"]
+OPENED = ["ORIGIN CUST GROSS"]
+OPENED += [line for a in range(ACCOUNTS) for line in (f"OPEN A{a} CUST", f"POST A{a} CASH 900000000000000")]
 
 
 def run(command, work, lines):
@@ -82,25 +86,25 @@ def main():
         work = pathlib.Path(folder)
         for commodities, contracts in SETS:
             (work / f"S{commodities}X{contracts}.csv").write_text(set_file(commodities, contracts))
-        for _ in range(5):
+        for _ in range(REPEATS):
             for commodities, contracts in SETS:
                 command = [str(program), "script", "--dir", str(work), "--set", f"S{commodities}X{contracts}"]
-                without, _ = run(command, work, OPENED)
+                took.setdefault((commodities, contracts), []).append(run(command, work, OPENED)[0])
                 for kind, lines_of in KINDS.items():
                     lines = lines_of(random.Random(1), contracts)
-                    seconds = (run(command, work, OPENED + lines)[0] - without) / len(lines)
-                    took.setdefault((commodities, contracts, kind), []).append(seconds)
+                    took.setdefault((commodities, contracts, kind), []).append(run(command, work, OPENED + lines)[0])
         for commodities, contracts in SETS:
             command = [str(program), "script", "--dir", str(work), "--set", f"S{commodities}X{contracts}"]
             opened = ["ORIGIN CUST GROSS"] + [f"OPEN A{a} CUST" for a in range(UNITS)]
             _, without = run(command, work, opened)
             _, with_desks = run(command, work, opened + [f"TRADE A{a} 1 F0 1 0" for a in range(UNITS)])
             held[commodities, contracts] = (with_desks - without) * 1024 / UNITS
-    one = {kind: min(took[1, 1, kind]) for kind in KINDS}
+    each_of = lambda commodities, contracts, kind: (min(took[commodities, contracts, kind]) - min(took[commodities, contracts])) / COUNT
+    one = {kind: each_of(1, 1, kind) for kind in KINDS}
     print("| Commodities, contracts | " + " | ".join(KINDS) + " | A unit's memory |")
     print("|---" * (len(KINDS) + 2) + "|")
     for commodities, contracts in SETS:
-        each = {kind: min(took[commodities, contracts, kind]) for kind in KINDS}
+        each = {kind: each_of(commodities, contracts, kind) for kind in KINDS}
         cells = [f"{each[kind] * 1e9:,.0f} ns, {each[kind] / one[kind]:.2f}" for kind in KINDS]
         print(f"| {commodities:,}, {contracts:,} | " + " | ".join(cells) + f" | {held[commodities, contracts] / 1024:,.1f} KiB |")
 
