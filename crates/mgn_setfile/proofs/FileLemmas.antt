@@ -91,7 +91,7 @@ version_skips line left more draft e s =
     let r : records_of left ≡ records_left more = rw (next line left more e, no_record (line_records line) s) refl in
     ap (λ (rs : List Record). version_left rs draft) r
 
-version_of_one : (before : Option Draft) (f : Fields) (rs : List Record) (draft : Draft) → judged before (Some f) ≡ Ok draft → version_left (Some f ∷ rs) before ≡ Some draft.version
+pub version_of_one : (before : Option Draft) (f : Fields) (rs : List Record) (draft : Draft) → judged before (Some f) ≡ Ok draft → version_left (Some f ∷ rs) before ≡ Some draft.version
 unfolding judged
 version_of_one None f rs draft j = ap version_by j
 version_of_one (Some before) f rs draft j = keeps_version before.version (later_of before.version before.set f) draft j

@@ -2,5 +2,6 @@
 pub mod RecordLemmas
 pub mod LineLemmas
 pub mod FileLemmas
+pub mod PlainLemmas
 pub mod LegLemmas
 pub mod RowLemmas

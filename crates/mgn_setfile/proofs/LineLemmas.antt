@@ -18,7 +18,7 @@ use Rattle.mgn_setfile.specs.Fields.{Fields}
 use Rattle.mgn_setfile.specs.Lines.{single}
 
 -- records that were reached come first, and after them those of the bytes that are left
-reached_first : (n : ℕ) (s t : State) (xs ys : List ℕ) (rows : List Fields) → Reached default_config s xs rows t ys → records_from default_config (length rows + n) s xs ≡ rows ++ records_from default_config n t ys
+pub reached_first : (n : ℕ) (s t : State) (xs ys : List ℕ) (rows : List Fields) → Reached default_config s xs rows t ys → records_from default_config (length rows + n) s xs ≡ rows ++ records_from default_config n t ys
 unfolding Reached records_from
 reached_first n s t xs ys [] (here, same) = rw (here, same) (ap (λ (k : ℕ). records_from default_config k t ys) (omega arith))
 reached_first n s t xs ys (r ∷ rows) (p, first, is, later) =
@@ -32,7 +32,7 @@ no_bytes [] t ys there = refl
 no_bytes (r ∷ rows) t ys (p, first, is, rest) = cc
 
 -- where the reads came to an end
-none_left : (n : ℕ) (t : State) (ys : List ℕ) → next_record default_config t [] [] ys ≡ None → records_from default_config n t ys ≡ []
+pub none_left : (n : ℕ) (t : State) (ys : List ℕ) → next_record default_config t [] [] ys ≡ None → records_from default_config n t ys ≡ []
 unfolding records_from
 none_left zero t ys stop = refl
 none_left (suc n) t ys stop = rw stop refl

@@ -12,6 +12,7 @@ use crate::fault::{Cause, RecordFault, SetFault};
 use crate::fields::read_set_name;
 use crate::line::{cut_line, fields, read_record};
 use crate::place::Field;
+use crate::plain::{is_plain, read_plain};
 use crate::records::{read_class, read_commodity, read_month};
 use crate::rows::Rows;
 use crate::spreads::{read_spot, read_spread};
@@ -209,7 +210,11 @@ fn read_head(alloc: Global, words: &[&[u8]]) -> Result<Draft, RecordFault>
 
 // A record after those that gave this much, or as the first.
 #[tactic(auto, unfolding(crate::specs::File::judged))]
-fn add(alloc: Global, before: Option<Draft>, row: &ByteRecord) -> Result<Draft, RecordFault>
+pub(crate) fn add(
+    alloc: Global,
+    before: Option<Draft>,
+    row: &ByteRecord,
+) -> Result<Draft, RecordFault>
     ensures ok { IfOk result (λ draft. judged before (Some (fields_of row.now)) ≡ Ok draft) }
     ensures err { IfErr result (λ e. (e.cause ≡ Cause.Memory) ⊎ (judged before (Some (fields_of row.now)) ≡ Err e)) }
 {
@@ -249,7 +254,7 @@ fn add_at(
 }
 
 // The set of the records, if there were any.
-fn file_of(draft: Option<Draft>) -> Result<SetFile, SetFault>
+pub(crate) fn file_of(draft: Option<Draft>) -> Result<SetFile, SetFault>
     ensures tells { TellsFile result (told [] 0 draft) }
     ensures version { IfOk result (λ file. version_left [] draft ≡ Some file.version) }
     ensures none { IfErr result (λ e. (draft ≡ None) × (e.number ≡ 1) × (e.line ≡ 1)) }
@@ -268,14 +273,8 @@ fn file_of(draft: Option<Draft>) -> Result<SetFile, SetFault>
     }
 }
 
-/// The set of a file of at most 2^64 - 2 bytes, with the version of its format: lines of comma-separated fields, each
-/// line read on its own, of the records `H` (header), `G` (commodity), `M` (month), `K` (contract), `S` (spread within a
-/// commodity), `I` (spread between commodities), `V` (collateral class) and, in version 2, `T` (spot month charge). A
-/// record refers only to records before it.
-///
-/// Fails with the number of the first faulty record, from 1, its line, its first cause and the field that has it, or
-/// with `Memory` where a growth was refused.
-pub fn read_file(alloc: Global, text: &[u8]) -> Result<SetFile, SetFault>
+// The same of any file, each line by a reader of its own.
+fn read_lines(alloc: Global, text: &[u8]) -> Result<SetFile, SetFault>
     ensures fault { TellsFile result (outcome (records_of text.now)) }
     ensures version { IfOk result (λ file. version_told (records_of text.now) ≡ Some file.version) }
     ensures line { IfErr result (λ e. (e.cause ≡ Cause.Memory) ⊎ (e.line ≡ line_of_record text.now e.number)) }
@@ -300,6 +299,26 @@ pub fn read_file(alloc: Global, text: &[u8]) -> Result<SetFile, SetFault>
         }
     }
     file_of(draft)
+}
+
+/// The set of a file of at most 2^64 - 2 bytes, with the version of its format: lines of comma-separated fields, each
+/// line read on its own, of the records `H` (header), `G` (commodity), `M` (month), `K` (contract), `S` (spread within a
+/// commodity), `I` (spread between commodities), `V` (collateral class) and, in version 2, `T` (spot month charge). A
+/// record refers only to records before it.
+///
+/// Fails with the number of the first faulty record, from 1, its line, its first cause and the field that has it, or
+/// with `Memory` where a growth was refused.
+pub fn read_file(alloc: Global, text: &[u8]) -> Result<SetFile, SetFault>
+    ensures fault { TellsFile result (outcome (records_of text.now)) }
+    ensures version { IfOk result (λ file. version_told (records_of text.now) ≡ Some file.version) }
+    ensures line { IfErr result (λ e. (e.cause ≡ Cause.Memory) ⊎ (e.line ≡ line_of_record text.now e.number)) }
+{
+    if is_plain(text) {
+        if let Some(file) = read_plain(alloc, text) {
+            return Ok(file);
+        }
+    }
+    read_lines(alloc, text)
 }
 
 /// The same without the version.

@@ -9,6 +9,7 @@ mod fields;
 mod file;
 mod line;
 mod place;
+mod plain;
 mod records;
 mod rows;
 mod spreads;

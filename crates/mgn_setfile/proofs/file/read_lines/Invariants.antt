@@ -3,7 +3,7 @@ use Rattle.std.specs.Prelude.{◌==◌, IfNone}
 use Rattle.std.specs.List.{slice_split}
 use Rattle.mgn_setfile.specs.File.{numbered, outcome, records_of, told, version_left, version_told}
 use Rattle.mgn_setfile.proofs.FileLemmas.{left_of, numbers_left, records_left}
-use Rattle.mgn_setfile.proofs.file.read_file.Given as goal
+use Rattle.mgn_setfile.proofs.file.read_lines.Given as goal
 
 abbrev pub invariant-loop-rest : goal.invariant-loop-rest
 invariant-loop-rest l = record {

@@ -6,7 +6,7 @@ use Rattle.mgn_setfile.specs.Fields.{whole}
 use Rattle.mgn_setfile.specs.File.{fault_in, line_of_record, outcome, records_of}
 use Rattle.mgn_setfile.specs.Lines.{line_cause}
 use Rattle.mgn_setfile.proofs.FileLemmas.{after_next, has_one, left_of, less, line_is, line_of_fault, line_of_none, no_more, numbers_left, passes_over, skips, stops, stops_at, takes, version_of_file, version_skips, version_takes}
-use Rattle.mgn_setfile.proofs.file.read_file.Goals as goal
+use Rattle.mgn_setfile.proofs.file.read_lines.Goals as goal
 
 pub loop-rest-init : goal.loop-rest-init
 unfolding outcome
