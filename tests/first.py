@@ -40,12 +40,18 @@ def copy_of(crate, room):
         shutil.move(f"{crate.folder}/out", f"{room}/crates/{crate.name}/out")
 
 
+def size_of(crate):
+    """Returns how many bytes of code, definitions and proofs a crate has, which its proof takes longer the more there are."""
+    files = (f"{at}/{it}" for part in ("src", "specs", "proofs") for at, _, names in os.walk(f"{crate.folder}/{part}") for it in names)
+    return sum(os.path.getsize(it) for it in files)
+
+
 def heights(crates):
-    """Returns for each crate how many crates the longest chain above it has."""
+    """Returns for each crate the size of the longest chain from it upwards."""
     found = {}
     # (lowest first, so that each crate comes behind those below it)
     for it in reversed(crates):
-        found[it] = max((found[one] + 1 for one in crates if it in one.below() and one in found), default=0)
+        found[it] = size_of(it) + max((found[one] for one in crates if it in one.below() and one in found), default=0)
     return found
 
 
@@ -75,7 +81,7 @@ def prove_all(crates):
             for it in sorted(ready, key=lambda it: -above[it])[: at_once - len(running)]:
                 is_first = all(above[one] <= above[it] for one in crates if not one.is_built())
                 waiting.remove(it)
-                running.add(pool.submit(prove, it, min(processors, 4), 0 if is_first else 5))
+                running.add(pool.submit(prove, it, min(processors, 4), 0 if is_first else 15))
             ended, running = wait(running, return_when=FIRST_COMPLETED)
             for it in ended:
                 crate, is_proved, said, seconds = it.result()
@@ -100,8 +106,9 @@ def main():
     finally:
         shutil.rmtree(f"{top}/out", ignore_errors=True)
     os.chdir(program.folder)
+    jobs = max(1, min(len(os.sched_getaffinity(0)), 4, free_memory() // HELD))
     with open("stdin", "rb") as lines:
-        return subprocess.run(["rt", "run", "--", "script", "--dir", "data", "--set", "FUT"], stdin=lines, check=False).returncode
+        return subprocess.run(["rt", "run", "--jobs", str(jobs), "--", "script", "--dir", "data", "--set", "FUT"], stdin=lines, check=False).returncode
 
 
 if __name__ == "__main__":
