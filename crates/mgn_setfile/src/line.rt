@@ -57,7 +57,7 @@ pub(crate) fn read_record(alloc: Global, line: &[u8]) -> Result<Option<ByteRecor
 pub(crate) fn fields<'a>(alloc: Global, row: &'a ByteRecord) -> Result<Vec<&'a [u8]>, AllocError>
     ensures { IfOk result (λ words. map (λ s. s.now) words.items ≡ fields_of row.now) }
 {
-    let mut words = Vec::new(alloc);
+    let mut words = Vec::with_capacity(alloc, row.len())?;
     for i in 0..row.len() {
         let Some(word) = row.get(i) else {
             return Ok(words);

@@ -18,7 +18,7 @@ loop-i-preserved c =
     rw (p, map-append, t, g, c.loop-i.invariant) refl
 
 pub loop-i-init : goal.loop-i-init
-loop-i-init c = rw c.new-words.ensures.items refl
+loop-i-init c = rw c.in_ok-words.ensures.items refl
 
 pub returns : goal.returns
 returns c = c.loop-i.invariant ∙ take_all c.loop-i.i (fields_of c.args.row.now) (omega arith)
