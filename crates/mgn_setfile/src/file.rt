@@ -273,7 +273,7 @@ pub(crate) fn file_of(draft: Option<Draft>) -> Result<SetFile, SetFault>
     }
 }
 
-// The same of any file, each line by a reader of its own.
+// What `read_file` promises, of any file, by a reader for each line.
 fn read_lines(alloc: Global, text: &[u8]) -> Result<SetFile, SetFault>
     ensures fault { TellsFile result (outcome (records_of text.now)) }
     ensures version { IfOk result (λ file. version_told (records_of text.now) ≡ Some file.version) }
