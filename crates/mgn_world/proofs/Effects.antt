@@ -128,7 +128,7 @@ nets_by-other : (u : UnitChange) (k : ℕ) (nets : UnitNets) → u.unit ≢ k �
 nets_by-other u k nets apart = rw (ne_eqb u.unit k apart) refl
 
 abbrev changed_at : List AccountState → ℕ → Change → UnitChange
-changed_at accounts k change = record { unit = (account_at accounts k).unit; change = change }
+changed_at accounts k change = record { account = k; unit = (account_at accounts k).unit; change = change }
 
 nets-put : (set' : Tables) (accounts : List AccountState) (k u : ℕ) (b : AccountState) (contract : List ℕ) (change : Change) → k < length accounts → Stands set' contract change.contract → Moves set' contract change (account_at accounts k) b
     → nets_in (row_of set' (set accounts k b) u) ≡ nets_by (changed_at accounts k change) u (nets_in (row_of set' accounts u))
@@ -458,7 +458,7 @@ effect-move set' s us m g k i one before there here apart known are is = record 
     nets true e u = within e set' u
     nets false e u = ap four
         (nets-put set' first k u b m.contract taken inside stands (subst (λ (x : AccountState). Moves set' m.contract taken x b) (sym kept_there) (moved-moves set' (account_at s.accounts k) m.lot m.contract i m.quantity))
-        ∙ ap (λ (x : AccountState). nets_by record { unit = x.unit; change = taken } u (nets_in (row_of set' first u))) kept_there
+        ∙ ap (λ (x : AccountState). nets_by record { account = k; unit = x.unit; change = taken } u (nets_in (row_of set' first u))) kept_there
         ∙ ap (nets_by (in_unit_of s k taken) u) (nets-put set' s.accounts g u a m.contract given there stands (moved-moves set' (account_at s.accounts g) m.lot m.contract i (neg_ℤ m.quantity))))
 
     same : (o : Bool) → (account_at s.accounts g).unit == (account_at s.accounts k).unit ≡ o → (if o then Nothing else Two (in_unit_of s g given) (in_unit_of s k taken)) ≡ Nothing

@@ -163,14 +163,14 @@ trade_plan_stays : (set' : Tables) (s t : State) (x : Trade) → t.closed ≡ s.
 trade_plan_stays set' s t x closed on = ap (trade_plan t x) (trade_stays set' s t x closed on) ∙ by (trade_places set' s x) refl
   where
     by : (r : Result (ℕ × ℕ) Refusal) → trade_places set' s x ≡ r → trade_plan t x r ≡ trade_plan s x r
-    by (Ok at) e = let a = on.alike at.0 (trade_at set' s x at e).0.place in λ j. One record { unit = a.unit j; change = lot_change at.1 x.quantity x.premium }
+    by (Ok at) e = let a = on.alike at.0 (trade_at set' s x at e).0.place in λ j. One record { account = at.0; unit = a.unit j; change = lot_change at.1 x.quantity x.premium }
     by (Err why) e = refl
 
 bust_plan_stays : (set' : Tables) (s t : State) (name : List ℕ) (lot : ℕ) → t.closed ≡ s.closed → Stays s t name → bust_plan set' t (bust_places t name lot) ≡ bust_plan set' s (bust_places s name lot)
 bust_plan_stays set' s t name lot closed on = ap (bust_plan set' t) (bust_stays s t name lot closed on) ∙ by (bust_places s name lot) refl
   where
     same : (k : ℕ) (x : Lot) (r : Result ℕ Refusal) → (account_at t.accounts k).unit ≡ (account_at s.accounts k).unit → bust_plan_at t k x r ≡ bust_plan_at s k x r
-    same k x (Ok i) unit = λ j. One record { unit = unit j; change = bust_change i x }
+    same k x (Ok i) unit = λ j. One record { account = k; unit = unit j; change = bust_change i x }
     same k x (Err why) unit = refl
 
     by : (r : Result (ℕ × ℕ) Refusal) → bust_places s name lot ≡ r → bust_plan set' t r ≡ bust_plan set' s r
@@ -184,14 +184,14 @@ hold_plan_stays : (set' : Tables) (s t : State) (h : Hold) → t.closed ≡ s.cl
 hold_plan_stays set' s t h closed on = ap (hold_plan t h) (hold_stays set' s t h closed on) ∙ by (hold_places set' s h) refl
   where
     by : (r : Result (ℕ × ℕ) Refusal) → hold_places set' s h ≡ r → hold_plan t h r ≡ hold_plan s h r
-    by (Ok at) e = let a = on.alike at.0 (hold_takes set' s h at e).0.place in λ j. One record { unit = a.unit j; change = hold_change at.1 h.quantity h.limit }
+    by (Ok at) e = let a = on.alike at.0 (hold_takes set' s h at e).0.place in λ j. One record { account = at.0; unit = a.unit j; change = hold_change at.1 h.quantity h.limit }
     by (Err why) e = refl
 
 fill_plan_stays : (set' : Tables) (s t : State) (f : Fill) → t.closed ≡ s.closed → Stays s t f.account → fill_plan set' t f (fill_places set' t f) ≡ fill_plan set' s f (fill_places set' s f)
 fill_plan_stays set' s t f closed on = ap (fill_plan set' t f) (fill_stays set' s t f closed on) ∙ by (fill_places set' s f) refl
   where
     same : (k : ℕ) (x : Held) (r : Result ℕ Refusal) → (account_at t.accounts k).unit ≡ (account_at s.accounts k).unit → fill_plan_at t k x f r ≡ fill_plan_at s k x f r
-    same k x (Ok i) unit = λ j. One record { unit = unit j; change = fill_change i f.quantity x.limit f.premium }
+    same k x (Ok i) unit = λ j. One record { account = k; unit = unit j; change = fill_change i f.quantity x.limit f.premium }
     same k x (Err why) unit = refl
 
     by : (r : Result (ℕ × ℕ) Refusal) → fill_places set' s f ≡ r → fill_plan set' t f r ≡ fill_plan set' s f r
@@ -205,7 +205,7 @@ release_plan_stays : (set' : Tables) (s t : State) (name : List ℕ) (order : �
 release_plan_stays set' s t name order closed on = ap (release_plan set' t) (release_stays s t name order closed on) ∙ by (release_places s name order) refl
   where
     same : (k : ℕ) (x : Held) (r : Result ℕ Refusal) → (account_at t.accounts k).unit ≡ (account_at s.accounts k).unit → release_plan_at t k x r ≡ release_plan_at s k x r
-    same k x (Ok i) unit = λ j. One record { unit = unit j; change = release_change i x.quantity x.limit }
+    same k x (Ok i) unit = λ j. One record { account = k; unit = unit j; change = release_change i x.quantity x.limit }
     same k x (Err why) unit = refl
 
     by : (r : Result (ℕ × ℕ) Refusal) → release_places s name order ≡ r → release_plan set' t r ≡ release_plan set' s r
@@ -223,7 +223,7 @@ move_plan_stays set' s t m closed from to = ap (move_plan t m) (move_stays set' 
         let there = move_at set' s m (g, k, i) e in
         let a = from.alike g there.0.place in
         let b = to.alike k there.1.place in
-        λ j. both_plan record { unit = a.unit j; change = moved_change i (neg_ℤ m.quantity) } record { unit = b.unit j; change = moved_change i m.quantity }
+        λ j. both_plan record { account = g; unit = a.unit j; change = moved_change i (neg_ℤ m.quantity) } record { account = k; unit = b.unit j; change = moved_change i m.quantity }
     by (Err why) e = refl
 
 -- The units of a command.
