@@ -13,3 +13,4 @@ pub mod Least
 pub mod Carried
 pub mod Covered
 pub mod Gains
+pub mod InPlace

@@ -1,5 +1,5 @@
 -- Rows of margin units under a set that comes into force during the day.
-use Rattle.std.specs.Prelude.{ℕ, ◌≡◌, ◌≤◌, ◌^◌, Bool, ◌||◌, ℤ, pos, ◌+ℤ◌, ◌-ℤ◌, int_lt, unsigned_abs, Option, None, Some, position, List, length, map, slice_index_or}
+use Rattle.std.specs.Prelude.{ℕ, ◌≡◌, ◌≤◌, ◌^◌, Bool, IsTrue, ◌↔◌, ◌||◌, ℤ, pos, ◌+ℤ◌, ◌-ℤ◌, int_lt, unsigned_abs, Option, None, Some, position, List, length, map, slice_index_or}
 use Rattle.std.specs.List.{list_all, range_with_len}
 use Rattle.std.specs.Ordering.{int_eq}
 use Rattle.std.specs.Str.{bytes_eq}
@@ -26,6 +26,15 @@ pub record SetPair : Type 0 where
 -- where each contract of a set stands in the set before it, by its name
 abbrev pub places_in : Tables → Tables → List (Option ℕ)
 places_in old new = map (λ (c : Contract). position (bytes_eq c.name) (contract_names old.contracts)) new.contracts
+
+-- all places of a list of this length, in order
+abbrev pub own_places : ℕ → List (Option ℕ)
+own_places count = map Some (range_with_len 0 count)
+
+-- the places of a switch, and whether it keeps them: each contract of the old set has its own in the new one
+pub record ArePlaces (old new : Tables) (places : List (Option ℕ)) (keeps : Bool) : Type 0 where
+  pub are : places ≡ places_in old new
+  pub kept : IsTrue keeps ↔ (places ≡ own_places (length old.contracts))
 
 -- the number at a place of a row, 0 where there is no place
 abbrev pub number_at : List ℤ → Option ℕ → ℤ

@@ -1,11 +1,11 @@
-ghost use Rattle.std.specs.Prelude.{◌≡◌, ◌<◌, ◌≤◌, ◌*◌, ◌^◌, ◌+ℤ◌, ℕ, All, IfOk, IfSome, length, pos, replicate, slice_set, unsigned_abs};
+ghost use Rattle.std.specs.Prelude.{◌≡◌, ◌<◌, ◌≤◌, ◌*◌, ◌^◌, ◌+ℤ◌, ◌↔◌, ℕ, All, IfOk, IfSome, IsTrue, Some, length, pos, replicate, slice_set, unsigned_abs};
 ghost use Rattle.mgn_params.specs.Tables.{Tables};
 ghost use Rattle.mgn_span.specs.Positions.{IsNet};
 ghost use Rattle.mgn_span.specs.Requirement.{requirement};
 ghost use Rattle.mgn_span.specs.Scan.{value_at};
 ghost use Rattle.mgn_machine.specs.State.{AccountState};
 ghost use Rattle.mgn_unit.specs.Rows.{IsRow, IsPortfolioRow, row_with_worth};
-ghost use Rattle.mgn_unit.specs.NewSets.{AreWorths, IsPrepared, IsPreparedPortfolio, IsRequired, SetPair, carried, is_covered, is_covered_at, places_in, portfolio_under, row_on_call, row_under, unit_gain, value_gain};
+ghost use Rattle.mgn_unit.specs.NewSets.{AreWorths, IsPrepared, IsPreparedPortfolio, IsRequired, SetPair, carried, is_covered, is_covered_at, own_places, portfolio_under, row_on_call, row_under, unit_gain, value_gain};
 
 use crate::account::Account;
 use crate::nets::Nets;
@@ -23,17 +23,44 @@ pub struct Switch<'a> {
     old: &'a ParamSet,
     new: &'a ParamSet,
     places: Vec<Option<usize>>,
+    // Whether each contract of the old set has its own place in the new one too, as where only numbers are new.
+    keeps_places: bool,
 }
 
 impl<'a> Model for Switch<'a> {
     ghost use Rattle.std.specs.Prelude.{◌≡◌};
-    ghost use Rattle.mgn_unit.specs.NewSets.{SetPair, places_in};
+    ghost use Rattle.mgn_unit.specs.NewSets.{ArePlaces, SetPair};
 
     ghost Value = { SetPair };
 
     ghost view = { λ s. record { old = s.old.now; new = s.new.now } };
 
-    ghost invariant = { λ s. s.places.items ≡ places_in s.old.now s.new.now };
+    ghost invariant = { λ s. ArePlaces s.old.now s.new.now s.places.items s.keeps_places };
+}
+
+// Whether a place is this one.
+fn is_place(place: Option<usize>, i: usize) -> bool
+    ensures { IsTrue result ↔ (place ≡ Some i) }
+{
+    match place {
+        Some(own) => own == i,
+        None => false,
+    }
+}
+
+// Whether these are all places of a list, in its order.
+fn are_own_places(places: &[Option<usize>], count: usize) -> bool
+    ensures { IsTrue result ↔ (places.now ≡ own_places count) }
+{
+    if places.len() != count {
+        return false;
+    }
+    for i in 0..count {
+        if !is_place(places[i], i) {
+            return false;
+        }
+    }
+    true
 }
 
 impl<'a> Switch<'a> {
@@ -51,7 +78,13 @@ impl<'a> Switch<'a> {
         for i in 0..count {
             places.push_reserved(old.contract(new.contract_at(i).name));
         }
-        Ok(Switch { old, new, places })
+        let keeps_places = are_own_places(&places, old.contract_count());
+        Ok(Switch {
+            old,
+            new,
+            places,
+            keeps_places,
+        })
     }
 
     // The new set.
@@ -109,11 +142,15 @@ impl<'a> Switch<'a> {
 
     // The numbers of a row, by the contracts' names, for the contracts of the new set.
     pub(crate) fn carry(&self, alloc: Global, row: &Nets) -> Result<Nets, AllocError>
-        requires { All IsNet row.now }
+        requires one_each { length row.now ≡ length self.now.old.contracts }
+        requires nets { All IsNet row.now }
         ensures row { IfOk result (λ nets. nets ≡ carried self.now.old self.now.new row.now) }
         ensures one_each { IfOk result (λ nets. length nets ≡ length self.now.new.contracts) }
         ensures limits { IfOk result (λ nets. All IsNet nets) }
     {
+        if self.keeps_places {
+            return row.copy(alloc);
+        }
         row.at_places(alloc, self.places.as_slice())
     }
 }
