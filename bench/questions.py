@@ -44,6 +44,16 @@ def opened():
     return lines
 
 
+def filled():
+    """1,024 customers with a lot in each of 40 contracts."""
+    pick, lines = random.Random(3), ["ORIGIN CUST GROSS"]
+    for a in range(ACCOUNTS):
+        lines.append(f"OPEN A{a} CUST")
+        for lot, contract in enumerate(pick.sample(range(COMMODITIES * MONTHS), 40), 1):
+            lines.append(f"TRADE A{a} {lot} F{contract} {pick.choice([-1, 1]) * pick.randrange(1, 5)} 0")
+    return lines
+
+
 def entered():
     """One account with 10,000 lots."""
     pick = random.Random(2)
@@ -61,10 +71,11 @@ def seconds(command, work, lines):
 
 def main():
     program = pathlib.Path(sys.argv[1] if len(sys.argv) > 1 else HERE.parent / "crates/spand/out/spand").resolve()
-    none, customers, house = ["ORIGIN CUST GROSS"], opened(), entered()
+    none, customers, holders, house = ["ORIGIN CUST GROSS"], opened(), filled(), entered()
     sessions = {
         "read the file of a set": (none, "SWITCH BENCH", 16),
-        "SWITCH of 1,024 units": (customers, "SWITCH BENCH", 16),
+        "SWITCH of 1,024 units of two lots": (customers, "SWITCH BENCH", 16),
+        "SWITCH of 1,024 units of 40 contracts": (holders, "SWITCH BENCH", 16),
         "ASK": (customers, "ASK A7", 400_000),
         "TOTAL of 1,024 accounts": (customers, "TOTAL CUST", 100_000),
         "STMT of two lots": (customers, "STMT A7", 20_000),
@@ -80,7 +91,7 @@ def main():
                 without = seconds(command, work, lines)
                 runs[name].append((seconds(command, work, lines + [line] * count) - without) / count)
     for name, each in runs.items():
-        print(f"{name:24} {min(each) * 1e6:12,.1f} microseconds")
+        print(f"{name:38} {min(each) * 1e6:12,.1f} microseconds")
 
 
 if __name__ == "__main__":

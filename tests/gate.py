@@ -88,8 +88,8 @@ class Gate:
         self.repository = green.Repository(top)
         self.passed = self.failed = 0
         self.rows = defaultdict(dict)
-        # (the crates of which an edit was not refused)
-        self.wrong = set()
+        # (what the run began with, and whether it still writes what passed)
+        self.before, self.writes = self.repository.hashes(), mode in ("--all", "--crate")
 
     def chosen(self):
         """Returns the crates to prove and those whose edits to try, and says what is left out."""
@@ -130,8 +130,8 @@ class Gate:
         said, status = self.call(name, words, self.top)
         self.tally(name, status, "".join(said), counts)
 
-    def call(self, name, words, folder):
-        """Runs a command, shows what it says as it says it, and returns that and its status."""
+    def call(self, name, words, folder, hear=lambda line: None):
+        """Runs a command, shows what it says as it says it, hands on each line, and returns all of that and its status."""
         say(f"gate: == {name}")
         how = {"stdin": subprocess.DEVNULL, "stdout": subprocess.PIPE, "stderr": subprocess.STDOUT, "text": True, "errors": "replace"}
         said = []
@@ -139,6 +139,7 @@ class Gate:
             for line in ran.stdout:
                 print(line, end="", flush=True)
                 said.append(line)
+                hear(line)
         return said, ran.returncode
 
     def tally(self, name, status, said, counts):
@@ -174,25 +175,42 @@ class Gate:
         self.tally("rt ci", status, "".join(said), r"(\d+) passed, (\d+) failed")
         return status == 0
 
+    def write(self, crates):
+        """Writes that these crates passed, unless something else failed or files have changed since the run began."""
+        if self.writes and crates and green.Repository(self.top).hashes() != self.before:
+            self.count(0, 1, "files changed while the run went on")
+            self.writes = False
+        if self.writes and crates:
+            green.write(self.top, self.before, crates)
+            say(f"gate: wrote {green.GREEN}: {' '.join(sorted(crates))}")
+
     def edits(self, room, tried):
-        """Tries the edits of these crates, and returns whether the script came to its end and told of each."""
+        """Tries the edits of these crates, and writes of each that it passed once all of its own were refused."""
         names = [it for it in self.repository.lines if it in tried and os.path.isdir(f"{room}/edits/{it}")]
         unlisted = sorted({*os.listdir(f"{room}/edits")} - {*self.repository.lines}) if os.path.isdir(f"{room}/edits") else []
         if unlisted:
             self.count(0, len(unlisted), f"crates.txt names none of edits/: {' '.join(unlisted)}")
+        self.writes &= not self.failed
+        self.write({*tried} - {*names})
         if not names:
-            return True
-        times, told = f"{room}/times", set()
+            return
+        left = {it: len([one for one in os.listdir(f"{room}/edits/{it}") if one.endswith(".edit")]) for it in names}
+
+        def hear(line):
+            told = re.match(r"(\w+)/\w+: (refused[:,] )?", line)
+            if told and told[1] in left and told[2]:
+                left[told[1]] -= 1
+                self.write({told[1]} if not left[told[1]] else set())
+
+        times = f"{room}/times"
         words = [sys.executable, f"{self.top}/tests/edits.py", "--top", room, "--built", "--times", times]
-        self.part("edits that must fail", [*words, *[word for it in names for word in ("--crate", it)]])
+        said, status = self.call("edits that must fail", [*words, *[word for it in names for word in ("--crate", it)]], self.top, hear)
+        self.tally("edits that must fail", status, "".join(said), r"(\d+) passed, (\d+) failed")
         if os.path.isfile(times):
             with open(times, encoding="utf-8") as it:
                 for line in it:
-                    crate, edits, checks, seconds, _, failed = line.split()
+                    crate, edits, checks, seconds, *_ = line.split()
                     self.rows[crate].update(edits=int(edits), checks=int(checks), tried=float(seconds))
-                    self.wrong |= {crate} if int(failed) else set()
-                    told.add(crate)
-        return told == {*names}
 
     def table(self):
         say("\n| Crate | Functions | Proof | Its tests | Edits | Checks of edits | Edits tried |")
@@ -206,8 +224,7 @@ class Gate:
         say(f"| all | {total('functions')} | {total('proof'):.0f} | {total('tests'):.0f} | {total('edits')} | {total('checks')} | {total('tried'):.0f} |\n")
 
     def run(self):
-        before, began = self.repository.hashes(), time.time()
-        python = [sys.executable]
+        began, python = time.time(), [sys.executable]
         proved, tried = self.chosen()
         self.part("memory faults are handed up", [*python, "tests/memory_rule.py"])
         self.part("definitions", [*python, "tests/definitions.py", "--brief"])
@@ -215,26 +232,18 @@ class Gate:
         self.part("sets that tests read", ["tests/sets.sh"], r"(\d+) sets compared, (\d+) differ")
         if tried == {*self.repository.lines}:
             self.part("edits.py on itself", [*python, "tests/edits_selftest.py"], r"(\d+) edits, (\d+) wrong")
-        self.most, is_told = 0, False
+        self.most = 0
         with tempfile.TemporaryDirectory(prefix="gate-") as room:
             self.copy(room, proved)
             self.part("edits can be applied", [*python, "tests/edits.py", "--look", "--top", room])
             if self.prove(room):
                 if PROGRAM in proved:
                     self.program(f"{room}/crates/{PROGRAM}/out/{PROGRAM}")
-                is_well = not self.failed
-                is_told = self.edits(room, tried) and is_well
+                self.edits(room, tried)
         self.table()
         used = resource.getrusage(resource.RUSAGE_CHILDREN)
         took = f"{(time.time() - began) / 60:.0f} minutes on {len(os.sched_getaffinity(0))} processors, {(used.ru_utime + used.ru_stime) / 60:.0f} of one core"
         say(f"gate: this run took {took}; the proofs held {self.most / 2**30:.1f} GiB at once at most")
-        if self.mode in ("--all", "--crate") and is_told:
-            hashes = green.Repository(self.top).hashes()
-            if hashes != before:
-                self.count(0, 1, "files changed while the run went on")
-            else:
-                green.write(self.top, hashes, tried - self.wrong)
-                say(f"gate: wrote {green.GREEN}")
         say(f"{self.passed} passed, {self.failed} failed")
         return 1 if self.failed else 0
 
