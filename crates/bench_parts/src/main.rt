@@ -70,9 +70,7 @@ fn rounds_of(set: &ParamSet) -> usize {
 fn flat_nets(alloc: Global, set: &ParamSet) -> Result<Vec<Quantity>, AllocError>
     ensures { IfOk result (λ nets. nets.items ≡ replicate (length set.now.contracts) (pos 0)) }
 {
-    let mut nets = Vec::new(alloc);
-    nets.resize(set.contract_count(), Quantity::ZERO)?;
-    Ok(nets)
+    vec![in alloc; Quantity::ZERO; set.contract_count()]
 }
 
 fn measure(clock: &impl Clock, alloc: Global, set: &ParamSet) -> Result<Costs> {

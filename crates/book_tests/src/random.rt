@@ -171,19 +171,24 @@ impl Written {
         }
         Ok(())
     }
+
+    // Writes the first lines, drawn ones, and the last.
+    fn put_drawn(&mut self, stream: u64, counts: &mut Counts) -> Result<(), Fail> {
+        let mut lines = Lines::new(stream);
+        self.put_all(&FIRST, counts)?;
+        for _ in 0..LINES {
+            let line = lines.draw(self.alloc)?;
+            self.put(&line, counts)?;
+        }
+        self.put_all(&LAST, counts)
+    }
 }
 
 // A session of drawn lines.
 fn write_session(alloc: Global, stream: u64, counts: &mut Counts) -> Result<Written, Fail> {
     let set = read_set(alloc, one().as_bytes())?;
     let mut written = Written::new(alloc, set)?;
-    let mut lines = Lines::new(stream);
-    written.put_all(&FIRST, counts)?;
-    for _ in 0..LINES {
-        let line = lines.draw(alloc)?;
-        written.put(&line, counts)?;
-    }
-    written.put_all(&LAST, counts)?;
+    written.put_drawn(stream, counts)?;
     Ok(written)
 }
 

@@ -52,6 +52,17 @@ pub record ArePortfolios (set : Tables) (p : Portfolios) : Type 0 where
   pub sales : IsPortfolio set p.sales.own
   pub all : IsPortfolio set p.all.own
 
+-- a branch beside lots: under this set, and with these nets wherever the lots have theirs
+pub record IsBranch (set : Tables) (lots row : List ℤ) (b : Branch) : Type 0 where
+  pub own : IsPortfolio set b.own
+  pub nets : (p : Kept) → p.nets ≡ lots → (branch_of p b).nets ≡ row
+
+-- the branches with buys, sales and all of these nets
+pub record AreBranches (set : Tables) (n : FourNets) (three : Branch × Branch × Branch) : Type 0 where
+  pub buys : IsBranch set n.lots n.buys three.0
+  pub sales : IsBranch set n.lots n.sales three.1
+  pub all : IsBranch set n.lots n.all three.2
+
 -- those that are not apart move as the lots
 pub record AreParted (m : Moves) (p : Portfolios) : Type 0 where
   pub buys : p.buys.apart ≡ false → m.buys ≡ m.lots

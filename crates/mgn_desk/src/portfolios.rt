@@ -19,7 +19,7 @@ pub(crate) struct Portfolios {
 }
 
 impl Portfolios {
-    ghost use Rattle.mgn_desk.specs.Portfolios.{AreFourNets, AreParted, ArePortfolios, AreSmall, CanMove, arrays_of, four_of, moved_by, nets_of, requirements_of};
+    ghost use Rattle.mgn_desk.specs.Portfolios.{AreBranches, AreFourNets, AreParted, ArePortfolios, AreSmall, CanMove, arrays_of, four_of, moved_by, nets_of, requirements_of};
 
     // These nets. The only error is that memory was refused.
     pub fn of_nets(
@@ -31,12 +31,29 @@ impl Portfolios {
         ensures portfolios { IfOk result (ArePortfolios set.now) }
         ensures nets { IfOk result (λ p. nets_of p ≡ four_of nets.now) }
     {
+        let lots = Portfolio::of_nets(alloc, set, nets.lots)?;
+        let (buys, sales, all) = Self::branches(alloc, set, nets)?;
         Ok(Portfolios {
-            lots: Portfolio::of_nets(alloc, set, nets.lots)?,
-            buys: Branch::of_nets(alloc, set, nets.lots, nets.buys)?,
-            sales: Branch::of_nets(alloc, set, nets.lots, nets.sales)?,
-            all: Branch::of_nets(alloc, set, nets.lots, nets.all)?,
+            lots,
+            buys,
+            sales,
+            all,
         })
+    }
+
+    // The branches with buys, sales and all of these nets.
+    fn branches(
+        alloc: Global,
+        set: &ParamSet,
+        nets: &UnitNets<'_>,
+    ) -> Result<(Branch, Branch, Branch), AllocError>
+        requires { AreFourNets set.now (four_of nets.now) }
+        ensures { IfOk result (AreBranches set.now (four_of nets.now)) }
+    {
+        let buys = Branch::of_nets(alloc, set, nets.lots, nets.buys)?;
+        let sales = Branch::of_nets(alloc, set, nets.lots, nets.sales)?;
+        let all = Branch::of_nets(alloc, set, nets.lots, nets.all)?;
+        Ok((buys, sales, all))
     }
 
     // Keeps those apart that are to move by something else than the lots.

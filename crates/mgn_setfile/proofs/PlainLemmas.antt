@@ -23,7 +23,7 @@ use Rattle.mgn_setfile.specs.declared.fault.SetFault.{SetFault}
 use Rattle.mgn_params.specs.Tables.{Tables}
 use Rattle.mgn_setfile.specs.Fields.{Fault, Fields}
 use Rattle.mgn_setfile.specs.File.{Record, TellsFile, goes_on, judged, outcome, record_of_line, records_of, told, version_left, version_told}
-use Rattle.mgn_setfile.specs.Inside.{is_plain, is_plain_byte}
+use Rattle.mgn_setfile.specs.Plain.{Gives, HasRead, given, is_plain, is_plain_byte}
 use Rattle.mgn_setfile.proofs.FileLemmas.{no_more, version_of_one}
 use Rattle.mgn_setfile.proofs.LineLemmas.{IsFresh, none_left, reached_first}
 
@@ -208,19 +208,6 @@ same_up_to (suc k) (suc n) text plain short enough =
 pub records_of_plain : (n : ℕ) (text : List ℕ) → is_plain text ≡ true → length text < n → records_of text ≡ map Some (records_from default_config n st.StartRecord text)
 records_of_plain n text plain enough = same_up_to (length text + 1) n text (AllPass-from_list_all is_plain_byte text plain) (omega arith) enough
 
--- the bytes that a slice gives
-abbrev pub given : Bor (List ℕ) → Option (List ℕ)
-given s = Some s.now
-
--- What a reader has read of a text, and the set so far.
-pub record HasRead (text : List ℕ) (reader : Reader (Bor (List ℕ))) (draft : Option Draft) (rows : List Fields) : Type 0 where
-  pub config : reader.config ≡ default_config
-  pub trim : reader.trim ≡ trim.None
-  pub ready : Ready reader
-  pub left : (ys : List ℕ) × (source_of given reader ≡ Some ys) × Reached default_config st.StartRecord text rows reader.state ys
-  pub so_far : (later : List Record) → told (map Some rows ++ later) 0 None ≡ told later (length rows) draft
-  pub version : (later : List Record) → version_left (map Some rows ++ later) None ≡ version_left later draft
-
 pub starts : (text : List ℕ) (reader : Reader (Bor (List ℕ))) → is_plain text ≡ true → IsFresh given reader (strip_bom text) → reader.trim ≡ trim.None → Ready reader → HasRead text reader None []
 unfolding Reached
 starts text reader plain fresh trimmed ready' =
@@ -263,13 +250,12 @@ all_told text reader after draft rows f plain read last =
     let n = length text + 1 in
     rw (records_of_plain (length rows + n) text plain (omega arith), reached_first n st.StartRecord reader.state text read.left.0 rows read.left.2, none_left n reader.state read.left.0 stop, append-nil rows) refl
 
-pub all_so_far : (text : List ℕ) (reader after : Reader (Bor (List ℕ))) (draft : Option Draft) (rows : List Fields) (f : Fields) → is_plain text ≡ true
-    → HasRead text reader draft rows → ReadRecord given reader after false f
-    → (outcome (records_of text) ≡ told [] 0 draft) × (version_told (records_of text) ≡ version_left [] draft)
+pub all_given : (text : List ℕ) (reader after : Reader (Bor (List ℕ))) (draft : Draft) (rows : List Fields) (f : Fields) → is_plain text ≡ true
+    → HasRead text reader (Some draft) rows → ReadRecord given reader after false f → Gives text draft
 unfolding outcome
-all_so_far text reader after draft rows f plain read last =
-    let whole : records_of text ≡ map Some rows ++ [] = all_told text reader after draft rows f plain read last ∙ sym (append-nil (map Some rows)) in
-    rw whole (read.so_far [] ∙ no_more (length rows) draft, read.version [])
+all_given text reader after draft rows f plain read last =
+    let whole : records_of text ≡ map Some rows ++ [] = all_told text reader after (Some draft) rows f plain read last ∙ sym (append-nil (map Some rows)) in
+    record { set = rw whole (read.so_far [] ∙ no_more (length rows) (Some draft)); version = rw whole (read.version []) }
 
 -- the set and the version, if there are any
 

@@ -1,7 +1,5 @@
--- How the rows of a file are kept while it is read: the set, an index of its months, and counts of rows by commodity; and
--- which files one reader reads.
-use Rattle.std.specs.Prelude.{◌≡◌, ℕ, ◌<◌, ◌==◌, ◌&&◌, Bool, List, not, length, map, count_by, slice_index_or}
-use Rattle.std.specs.List.{list_all}
+-- How the rows of a file are kept while it is read: the set, an index of its months, and counts of rows by commodity.
+use Rattle.std.specs.Prelude.{◌≡◌, ℕ, ◌<◌, ◌==◌, List, length, map, count_by, slice_index_or}
 use Rattle.mgn_params.specs.declared.tables.Month.{Month}
 use Rattle.mgn_setfile.specs.declared.rows.MonthKey.{MonthKey}
 use Rattle.mgn_setfile.specs.declared.rows.Rows.TheInside.{Inside}
@@ -19,10 +17,3 @@ pub record IsRows (r : Inside) : Type 0 where
   pub months_of : IsTally (λ m. m.commodity) r.set.months (length r.set.commodities) r.months_of.items
   pub contracts_of : IsTally (λ c. c.commodity) r.set.contracts (length r.set.commodities) r.contracts_of.items
   pub spreads_of : IsTally (λ s. s.commodity) r.set.spreads (length r.set.commodities) r.spreads_of.items
-
--- No quote, no carriage return, no first byte of a byte order mark: one reader finds in such a text what readers of its lines find.
-abbrev pub is_plain_byte : ℕ → Bool
-is_plain_byte b = not (b == 34) && not (b == 13) && not (b == 239)
-
-abbrev pub is_plain : List ℕ → Bool
-is_plain text = list_all is_plain_byte text

@@ -4,3 +4,4 @@ pub mod Records
 pub mod Lines
 pub mod File
 pub mod Inside
+pub mod Plain

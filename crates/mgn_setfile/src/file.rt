@@ -208,23 +208,43 @@ fn read_head(alloc: Global, words: &[&[u8]]) -> Result<Draft, RecordFault>
     }
 }
 
-// A record after those that gave this much, or as the first.
+// A record as the first.
 #[tactic(auto, unfolding(crate::specs::File::judged))]
-pub(crate) fn add(
-    alloc: Global,
-    before: Option<Draft>,
-    row: &ByteRecord,
-) -> Result<Draft, RecordFault>
-    ensures ok { IfOk result (λ draft. judged before (Some (fields_of row.now)) ≡ Ok draft) }
-    ensures err { IfErr result (λ e. (e.cause ≡ Cause.Memory) ⊎ (judged before (Some (fields_of row.now)) ≡ Err e)) }
+pub(crate) fn add_first(alloc: Global, row: &ByteRecord) -> Result<Draft, RecordFault>
+    ensures ok { IfOk result (λ draft. judged None (Some (fields_of row.now)) ≡ Ok draft) }
+    ensures err { IfErr result (λ e. (e.cause ≡ Cause.Memory) ⊎ (judged None (Some (fields_of row.now)) ≡ Err e)) }
 {
     let Ok(words) = fields(alloc, row) else {
         return Err(RecordFault::whole(Cause::Memory));
     };
+    read_head(alloc, words.as_slice())
+}
+
+// A record after those that gave this much.
+#[tactic(auto, unfolding(crate::specs::File::judged))]
+pub(crate) fn add_next(
+    alloc: Global,
+    draft: &mut Draft,
+    row: &ByteRecord,
+) -> Result<(), RecordFault>
+    ensures ok { OnOk result (judged (Some draft.old) (Some (fields_of row.now)) ≡ Ok draft.new) }
+    ensures err { IfErr result (λ e. (e.cause ≡ Cause.Memory) ⊎ (judged (Some draft.old) (Some (fields_of row.now)) ≡ Err e)) }
+{
+    let Ok(words) = fields(alloc, row) else {
+        return Err(RecordFault::whole(Cause::Memory));
+    };
+    add_later(alloc, draft.version, &mut draft.set, words.as_slice())
+}
+
+// A record after those that gave this much, or as the first.
+fn add(alloc: Global, before: Option<Draft>, row: &ByteRecord) -> Result<Draft, RecordFault>
+    ensures ok { IfOk result (λ draft. judged before (Some (fields_of row.now)) ≡ Ok draft) }
+    ensures err { IfErr result (λ e. (e.cause ≡ Cause.Memory) ⊎ (judged before (Some (fields_of row.now)) ≡ Err e)) }
+{
     match before {
-        None => read_head(alloc, words.as_slice()),
+        None => add_first(alloc, row),
         Some(mut draft) => {
-            add_later(alloc, draft.version, &mut draft.set, words.as_slice())?;
+            add_next(alloc, &mut draft, row)?;
             Ok(draft)
         }
     }

@@ -59,10 +59,9 @@ pub(crate) fn fields<'a>(alloc: Global, row: &'a ByteRecord) -> Result<Vec<&'a [
 {
     let mut words = Vec::with_capacity(alloc, row.len())?;
     for i in 0..row.len() {
-        let Some(word) = row.get(i) else {
-            return Ok(words);
-        };
-        words.push(word)?;
+        if let Some(word) = row.get(i) {
+            words.push_reserved(word);
+        }
     }
     Ok(words)
 }

@@ -1,14 +1,15 @@
 //! A file without quotes, carriage returns and byte order marks, read by one reader: making one takes longer than most
 //! lines do.
 
-ghost use Rattle.std.specs.Prelude.{◌≡◌, true, Ok, Some, IfSome};
+ghost use Rattle.std.specs.Prelude.{◌≡◌, true, Ok, Some, IfSome, List};
 ghost use Rattle.std.specs.List.{list_all};
 ghost use Rattle.mgn_setfile.specs.File.{outcome, records_of, version_told};
-ghost use Rattle.mgn_setfile.specs.Inside.{is_plain_byte, is_plain};
+ghost use Rattle.mgn_setfile.specs.Fields.{Fields};
+ghost use Rattle.mgn_setfile.specs.Plain.{Gives, HasRead, is_plain, is_plain_byte};
 
 use crate::draft::{Draft, SetFile};
-use crate::file::{add, file_of};
-use csv::{ByteRecord, ReaderBuilder};
+use crate::file::{add_first, add_next, file_of};
+use csv::{ByteRecord, Reader, ReaderBuilder};
 use std::alloc::Global;
 
 // Whether a byte is no quote, no carriage return and not the first of a byte order mark. With these a reader of a whole
@@ -25,6 +26,34 @@ pub(crate) fn is_plain(text: &[u8]) -> bool
     text.iter().all(|byte| is_plain_byte(*byte))
 }
 
+// The rest of the records of a plain text, after those that gave this much, and whether all of them passed and the text
+// was read to its end.
+fn read_rest(
+    alloc: Global,
+    text: &[u8],
+    reader: &mut Reader<&[u8]>,
+    row: &mut ByteRecord,
+    draft: &mut Draft,
+) -> bool
+    requires plain { is_plain text.now ≡ true }
+    requires so_far { (rows : List Fields) × HasRead text.now reader.old (Some draft.old) rows }
+    ensures { result ≡ true → Gives text.now draft.new }
+{
+    // Each record takes a byte at least, and one read more finds the end.
+    for _ in 0..=text.len() {
+        match reader.read_byte_record(row) {
+            Ok(true) => {
+                let Ok(()) = add_next(alloc, draft, row) else {
+                    return false;
+                };
+            }
+            Ok(false) => return true,
+            Err(_) => return false,
+        }
+    }
+    false
+}
+
 // The set of a plain text. `None` where a record is wrong, there is no record or a growth was refused.
 pub(crate) fn read_plain(alloc: Global, text: &[u8]) -> Option<SetFile>
     requires { is_plain text.now ≡ true }
@@ -36,19 +65,14 @@ pub(crate) fn read_plain(alloc: Global, text: &[u8]) -> Option<SetFile>
         .flexible(true)
         .from_reader(alloc, text);
     let mut row = ByteRecord::new(alloc);
-    let mut draft: Option<Draft> = None;
-    // Each record takes a byte at least, and one read more finds the end.
-    for _ in 0..=text.len() {
-        match reader.read_byte_record(&mut row) {
-            Ok(true) => {
-                let Ok(next) = add(alloc, draft, &row) else {
-                    return None;
-                };
-                draft = Some(next);
-            }
-            Ok(false) => return file_of(draft).ok(),
-            Err(_) => return None,
-        }
+    let Ok(true) = reader.read_byte_record(&mut row) else {
+        return None;
+    };
+    let Ok(mut draft) = add_first(alloc, &row) else {
+        return None;
+    };
+    if !read_rest(alloc, text, &mut reader, &mut row, &mut draft) {
+        return None;
     }
-    None
+    file_of(Some(draft)).ok()
 }

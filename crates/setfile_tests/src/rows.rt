@@ -78,14 +78,32 @@ fn shows_its_rows(rt: HostRuntime) -> Result<(), Fail> {
     check_shown(&rt, &set)
 }
 
+// A set is the same as one of the same text, and another than one of another text.
+fn check_same(rt: &impl Abort, set: &ParamSet, again: &ParamSet, other: &ParamSet) {
+    assert!(rt; set.is_same(again) && again.is_same(set));
+    assert!(rt; !set.is_same(other) && !other.is_same(set));
+}
+
+fn check_other(
+    rt: &impl Abort,
+    alloc: Global,
+    set: &ParamSet,
+    again: &ParamSet,
+) -> Result<(), Fail> {
+    let other = read_set(alloc, fut().as_bytes())?;
+    check_same(rt, set, again, &other);
+    Ok(())
+}
+
+fn check_again(rt: &impl Abort, alloc: Global, set: &ParamSet) -> Result<(), Fail> {
+    let again = read_set(alloc, one().as_bytes())?;
+    check_other(rt, alloc, set, &again)
+}
+
 #[test]
 fn tells_equal_sets(rt: HostRuntime) -> Result<(), Fail> {
     let set = read_set(rt.alloc(), one().as_bytes())?;
-    let again = read_set(rt.alloc(), one().as_bytes())?;
-    let other = read_set(rt.alloc(), fut().as_bytes())?;
-    assert!(rt; set.is_same(&again) && again.is_same(&set));
-    assert!(rt; !set.is_same(&other) && !other.is_same(&set));
-    Ok(())
+    check_again(&rt, rt.alloc(), &set)
 }
 
 // The text of a worked set, by number.
@@ -152,13 +170,18 @@ fn reads_other_ends_of_line(rt: HostRuntime) -> Result<(), Fail> {
     check_ended(&rt, rt.alloc(), b"\n\xEF\xBB\xBF")
 }
 
+// Where the first set has its rows.
+fn check_places(rt: &impl Abort, set: &ParamSet) {
+    assert_eq!(rt; contract_place(set, b"BBB1"), Some(3));
+    assert_eq!(rt; contract_place(set, b"BBB2"), None);
+    assert_eq!(rt; commodity_place(set, b"BBB"), Some(1));
+    assert_eq!(rt; class_place(set, b"BILL"), Some(0));
+}
+
 #[test]
 fn finds_rows_by_name(rt: HostRuntime) -> Result<(), Fail> {
     let set = read_set(rt.alloc(), one().as_bytes())?;
-    assert_eq!(rt; contract_place(&set, b"BBB1"), Some(3));
-    assert_eq!(rt; contract_place(&set, b"BBB2"), None);
-    assert_eq!(rt; commodity_place(&set, b"BBB"), Some(1));
-    assert_eq!(rt; class_place(&set, b"BILL"), Some(0));
+    check_places(&rt, &set);
     Ok(())
 }
 
