@@ -8,7 +8,7 @@ use mgn_setfile::read_set;
 use mgn_world::stages::{Deed, Step};
 use rand::RngExt;
 use rand_pcg::Pcg32;
-use std::alloc::{AllocError, Global};
+use std::alloc::Global;
 use std::mem;
 use std::test::Fail;
 use worked_sets::{fut, one, two};
@@ -35,37 +35,42 @@ impl Choice {
             _ => Choice::Future,
         }
     }
+
+    // The place of its set.
+    fn place(self) -> usize {
+        match self {
+            Choice::One => 0,
+            Choice::Two => 1,
+            Choice::Future => 2,
+        }
+    }
 }
 
-/// The sets, read once.
+/// The sets, read once, in order of their choices.
 #[derive(Drop)]
 pub(crate) struct Sets {
     alloc: Global,
-    one: ParamSet,
-    two: ParamSet,
-    future: ParamSet,
+    sets: Vec<ParamSet>,
 }
 
 impl Sets {
     pub fn new(alloc: Global) -> Result<Sets, Fail> {
-        Ok(Sets {
-            alloc,
-            one: read_set(alloc, one().as_bytes())?,
-            two: read_set(alloc, two().as_bytes())?,
-            future: read_set(alloc, fut().as_bytes())?,
-        })
+        let mut sets = Vec::new(alloc);
+        for text in [one(), two(), fut()] {
+            sets.push(read_set(alloc, text.as_bytes())?)?;
+        }
+        Ok(Sets { alloc, sets })
     }
 
     /// The set that every list begins with.
-    pub fn first(&self) -> Result<ParamSet, AllocError> {
-        self.one.copy(self.alloc)
+    pub fn first(&self) -> Result<ParamSet, Fail> {
+        self.copy(Choice::One)
     }
 
-    fn copy(&self, choice: Choice) -> Result<ParamSet, AllocError> {
-        match choice {
-            Choice::One => self.one.copy(self.alloc),
-            Choice::Two => self.two.copy(self.alloc),
-            Choice::Future => self.future.copy(self.alloc),
+    fn copy(&self, choice: Choice) -> Result<ParamSet, Fail> {
+        match self.sets.get(choice.place()) {
+            Some(set) => Ok(set.copy(self.alloc)?),
+            None => Err(Fail::new("no set")),
         }
     }
 }
@@ -201,7 +206,7 @@ impl<'a> Drawing<'a> {
     pub fn set_of(&self, session: usize) -> Result<ParamSet, Fail> {
         for (own, player) in SESSIONS.iter().zip(self.players.iter()) {
             if *own == session {
-                return Ok(self.sets.copy(player.set)?);
+                return self.sets.copy(player.set);
             }
         }
         Err(Fail::new("no session"))

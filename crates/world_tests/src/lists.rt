@@ -1,30 +1,39 @@
 //! Lists of steps of two sessions, with the replies in order of their commits.
 
+use crate::commands::command;
 use mgn_machine::Answer;
 use mgn_setfile::read_set;
-use mgn_wire::{Line, LineReply, read_line, reply_text};
+use mgn_wire::{LineReply, reply_text};
 use mgn_world::World;
 use mgn_world::stages::{Deed, Step};
 use std::alloc::Global;
+use std::process::Abort;
 use std::test::Fail;
 use worked_sets::{fut, one, two};
 
+// The step that gathers for the second set.
+fn gather_two(alloc: Global) -> Result<Deed, Fail> {
+    Ok(Deed::Gather(read_set(alloc, two().as_bytes())?))
+}
+
+// The step that begins the call of a line's command.
+fn begin(line: &str) -> Result<Deed, Fail> {
+    Ok(Deed::Begin(command(line)?))
+}
+
 // What a step's text says: a set by its name, one of the steps, or a command that begins a call.
 fn deed(alloc: Global, text: &str) -> Result<Deed, Fail> {
-    Ok(match text {
-        "LOOK" => Deed::Look,
-        "MARK" => Deed::Mark,
-        "APPLY" => Deed::Apply,
-        "COMMIT" => Deed::Commit,
-        "BACK" => Deed::Back,
-        "CEASE" => Deed::End,
-        "GATHER TWO" => Deed::Gather(read_set(alloc, two().as_bytes())?),
-        "PREPARE" => Deed::Prepare(0),
-        _ => match read_line(text.as_bytes()) {
-            Ok(Line::Do(command)) => Deed::Begin(command),
-            Ok(Line::Switch(_)) | Err(_) => return Err(Fail::new("no command")),
-        },
-    })
+    match text {
+        "LOOK" => Ok(Deed::Look),
+        "MARK" => Ok(Deed::Mark),
+        "APPLY" => Ok(Deed::Apply),
+        "COMMIT" => Ok(Deed::Commit),
+        "BACK" => Ok(Deed::Back),
+        "CEASE" => Ok(Deed::End),
+        "GATHER TWO" => gather_two(alloc),
+        "PREPARE" => Ok(Deed::Prepare(0)),
+        _ => begin(text),
+    }
 }
 
 fn steps(alloc: Global, texts: &[(usize, &str)]) -> Result<Vec<Step>, Fail> {
@@ -36,6 +45,12 @@ fn steps(alloc: Global, texts: &[(usize, &str)]) -> Result<Vec<Step>, Fail> {
         })?;
     }
     Ok(steps)
+}
+
+// The world after the steps of these texts, from the set of a text on.
+fn world_after(alloc: Global, set: &str, texts: &[(usize, &str)]) -> Result<World, Fail> {
+    let steps = steps(alloc, texts)?;
+    Ok(World::run(alloc, read_set(alloc, set.as_bytes())?, steps)?)
 }
 
 // The replies in order of their commits, a line each.
@@ -53,6 +68,13 @@ fn told(alloc: Global, world: &World) -> Result<Vec<u8>, Fail> {
     Ok(out)
 }
 
+// The replies in order of their commits are these lines.
+fn check_told(rt: &impl Abort, alloc: Global, world: &World, lines: &str) -> Result<(), Fail> {
+    let text = told(alloc, world)?;
+    assert!(rt; text.as_slice() == lines.as_bytes());
+    Ok(())
+}
+
 const TRADED: &[(usize, &str)] = &[
     (1, "ORIGIN CUST GROSS"),
     (1, "OPEN A1 CUST"),
@@ -66,15 +88,12 @@ const TRADED: &[(usize, &str)] = &[
     (2, "ASK A1"),
 ];
 
+const TRADED_TOLD: &str = "OK 1\nOK 2\nOK 3\nOK 4\nOK 5 600 600 1000 1000 400\n";
+
 #[test]
 fn a_trade_goes_step_by_step(rt: HostRuntime) -> Result<(), Fail> {
-    let set = read_set(rt.alloc(), fut().as_bytes())?;
-    let world = World::run(rt.alloc(), set, steps(rt.alloc(), TRADED)?)?;
-    let text = told(rt.alloc(), &world)?;
-    assert!(rt;
-        text.as_slice() == "OK 1\nOK 2\nOK 3\nOK 4\nOK 5 600 600 1000 1000 400\n".as_bytes()
-    );
-    Ok(())
+    let world = world_after(rt.alloc(), fut(), TRADED)?;
+    check_told(&rt, rt.alloc(), &world, TRADED_TOLD)
 }
 
 // A set comes into force between the Apply of a hold and its Commit: the call is stale, looks again, and the hold has no
@@ -105,15 +124,18 @@ const PASSED: &[(usize, &str)] = &[
 
 const PASSED_TOLD: &str = "OK 1\nOK 2\nOK 3\nOK 4 1 0\nERR 5 30 NOROOM\nOK 6 0 0 600 600 600\n";
 
-#[test]
-fn a_set_passes_a_hold(rt: HostRuntime) -> Result<(), Fail> {
-    let set = read_set(rt.alloc(), one().as_bytes())?;
-    let world = World::run(rt.alloc(), set, steps(rt.alloc(), PASSED)?)?;
-    let text = told(rt.alloc(), &world)?;
-    assert!(rt; text.as_slice() == PASSED_TOLD.as_bytes());
+// The first desk is that of unit 0, and has a version.
+fn check_desk(rt: &impl Abort, world: &World) -> Result<(), Fail> {
     let Some(desk) = world.desks().first() else {
         return Err(Fail::new("no desk"));
     };
     assert!(rt; desk.unit() == 0 && desk.version().is_some());
     Ok(())
+}
+
+#[test]
+fn a_set_passes_a_hold(rt: HostRuntime) -> Result<(), Fail> {
+    let world = world_after(rt.alloc(), one(), PASSED)?;
+    check_told(&rt, rt.alloc(), &world, PASSED_TOLD)?;
+    check_desk(&rt, &world)
 }
