@@ -64,10 +64,10 @@ impl Sets {
 
     /// The set that every list begins with.
     pub fn first(&self) -> Result<ParamSet, Fail> {
-        self.copy(Choice::One)
+        self.copy_of(Choice::One)
     }
 
-    fn copy(&self, choice: Choice) -> Result<ParamSet, Fail> {
+    fn copy_of(&self, choice: Choice) -> Result<ParamSet, Fail> {
         match self.sets.get(choice.place()) {
             Some(set) => Ok(set.copy(self.alloc)?),
             None => Err(Fail::new("no set")),
@@ -206,7 +206,7 @@ impl<'a> Drawing<'a> {
     pub fn set_of(&self, session: usize) -> Result<ParamSet, Fail> {
         for (own, player) in SESSIONS.iter().zip(self.players.iter()) {
             if *own == session {
-                return self.sets.copy(player.set);
+                return self.sets.copy_of(player.set);
             }
         }
         Err(Fail::new("no session"))
@@ -251,7 +251,7 @@ impl<'a> Drawing<'a> {
     // What a session does in a turn.
     fn deed(&mut self, turn: Turn, set: Choice) -> Result<Deed, Fail> {
         Ok(match turn {
-            Turn::Begin if self.rng.random_ratio(1, 10) => Deed::Gather(self.sets.copy(set)?),
+            Turn::Begin if self.rng.random_ratio(1, 10) => Deed::Gather(self.sets.copy_of(set)?),
             Turn::Begin => self.draw_command()?,
             Turn::Look => Deed::Look,
             Turn::Mark => Deed::Mark,
