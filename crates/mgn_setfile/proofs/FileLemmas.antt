@@ -103,11 +103,6 @@ version_takes line left more before f draft e s j =
     let r : records_of left ≡ Some f ∷ records_left more = rw (next line left more e, one_record (line_records line) f s) refl in
     ap (λ (rs : List Record). version_left rs before) r ∙ version_of_one before f (records_left more) draft j
 
--- a record after the first that does not pass
-pub judged_err : (before : Option Draft) (draft : Draft) (words fields : Fields) (fault : Fault) → before ≡ Some draft → words ≡ fields → later_of draft.version draft.set words ≡ Err fault → judged before (Some fields) ≡ Err fault
-unfolding judged
-judged_err before draft words fields fault is same e = rw (is, ← same, e) refl
-
 -- From line to line: the numbers of the lines that have the records that are left.
 
 abbrev pub numbers_left : ℕ → Option (List ℕ) → List ℕ

@@ -15,14 +15,14 @@ use Rattle.csv.specs.declared.parser.State.TheVariants as st
 use Rattle.csv.specs.Machine.{field_after, fields_after, is_end, next_record, step}
 use Rattle.csv.specs.declared.reader.Reader.{Reader}
 use Rattle.csv.specs.declared.reader.Trim.TheVariants as trim
-use Rattle.csv.specs.Reading.{ReadRecord, Reached, ReadsOn, Ready, default_config, records_from, source_of, strip_bom}
+use Rattle.csv.specs.Reading.{ReadRecord, Reached, ReadsOn, Ready, default_config, records_from, strip_bom}
 use Rattle.csv.proofs.ReadFacts.{rows-end, rows-more}
 use Rattle.mgn_setfile.specs.declared.draft.Draft.{Draft}
 use Rattle.mgn_setfile.specs.declared.draft.SetFile.{SetFile}
 use Rattle.mgn_setfile.specs.declared.fault.SetFault.{SetFault}
 use Rattle.mgn_params.specs.Tables.{Tables}
 use Rattle.mgn_setfile.specs.Fields.{Fault, Fields}
-use Rattle.mgn_setfile.specs.File.{Record, TellsFile, goes_on, judged, outcome, record_of_line, records_of, told, version_left, version_told}
+use Rattle.mgn_setfile.specs.File.{Record, TellsFile, goes_on, judged, outcome, record_of_line, records_of, told}
 use Rattle.mgn_setfile.specs.Plain.{Gives, HasRead, given, is_plain, is_plain_byte}
 use Rattle.mgn_setfile.proofs.FileLemmas.{no_more, version_of_one}
 use Rattle.mgn_setfile.proofs.LineLemmas.{IsFresh, none_left, reached_first}
