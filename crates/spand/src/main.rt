@@ -1,13 +1,10 @@
 //! The program `spand`: margin and order credit of clearing members, by lines of commands on standard input.
 #![tactic(auto)]
 
-mod check;
-mod fault;
 mod script;
-mod set;
 
 use command_line::Request;
-use fault::Fault;
+use spand_lib::{Fault, check};
 use std::process::ExitCode;
 
 fn main(rt: HostRuntime) -> ExitCode {

@@ -1,16 +1,14 @@
-use crate::fault::Fault;
-use crate::set;
-use crate::set::Folder;
 use command_line::SetFile;
 use mgn_script::{Plain, run_script};
 use mgn_session::{Conversation, Counted};
+use spand_lib::{Fault, Folder};
 use std::io;
 use std::rt::Files;
 
 /// Answers standard input on standard output, to the end of the input, under the set of a file.
 pub fn run<R: Files + Input + Print + AllocGlobal>(rt: &R, file: &SetFile) -> Result<(), Fault> {
     let mut folder = Folder::new(rt, file.dir.as_str());
-    let first = set::read(rt.alloc(), &mut folder, file.set.as_str())?;
+    let first = spand_lib::read(rt.alloc(), &mut folder, file.set.as_str())?;
     let mut plain = Plain::new(rt.alloc(), first.set)?;
     let reader = Counted::new(rt.reader());
     let writer = Counted::new(io::writer(rt));
