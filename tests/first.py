@@ -76,12 +76,13 @@ def prove_all(crates):
     began, running, failed, above = time.time(), set(), False, heights(crates)
     with ThreadPoolExecutor(at_once) as pool:
         while (waiting and not failed) or running:
-            # (the crate below the longest chain comes first, and all others give way to it)
+            # (the crate below the longest chain comes first, and all others give way to it; several jobs prove a crate sooner,
+            # but take a quarter more processor time, so only that one has them)
             ready = [it for it in waiting if all(one.is_built() for one in it.below())] if not failed else []
             for it in sorted(ready, key=lambda it: -above[it])[: at_once - len(running)]:
                 is_first = all(above[one] <= above[it] for one in crates if not one.is_built())
                 waiting.remove(it)
-                running.add(pool.submit(prove, it, min(processors, 4), 0 if is_first else 15))
+                running.add(pool.submit(prove, it, *((min(processors, 4), 0) if is_first else (1, 15))))
             ended, running = wait(running, return_when=FIRST_COMPLETED)
             for it in ended:
                 crate, is_proved, said, seconds = it.result()
