@@ -6,6 +6,3 @@ pub mod collateral;
 
 pub use amounts::{MOST_CASH, MOST_UNITS, class_value, is_known, most_of};
 pub use collateral::Collateral;
-
-#[cfg(test)]
-mod tests;

@@ -8,6 +8,3 @@ pub mod side;
 pub use held::Held;
 pub use holds::{Holds, MOST_HOLDS};
 pub use side::Side;
-
-#[cfg(test)]
-mod tests;

@@ -7,8 +7,6 @@ pub mod name;
 pub mod names;
 pub mod numbers;
 pub mod places;
-#[cfg(test)]
-mod tests;
 
 pub use amounts::{LotQuantity, Premium, Units};
 pub use fault::IdFault;

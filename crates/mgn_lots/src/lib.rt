@@ -8,6 +8,3 @@ pub mod transfer;
 pub use lot::{Lot, Mark};
 pub use lots::{Lots, MOST_LOTS};
 pub use transfer::add_both;
-
-#[cfg(test)]
-mod tests;

@@ -8,8 +8,6 @@ pub mod origin;
 pub mod reply;
 pub mod request;
 pub mod statement;
-#[cfg(test)]
-mod tests;
 
 pub use command::{Command, Fill, Hold, Mode, Trade, Transfer};
 pub use entry::{Entry, Item};

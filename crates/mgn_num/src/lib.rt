@@ -7,8 +7,6 @@ pub mod fraction;
 pub mod quantity;
 pub mod reading;
 pub mod ten_thousandths;
-#[cfg(test)]
-mod tests;
 
 pub use cents::Cents;
 pub use fraction::{mul_div_ceil, mul_div_floor, quotient};

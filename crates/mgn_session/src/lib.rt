@@ -9,8 +9,6 @@ pub mod fault;
 mod line_buffer;
 pub mod run;
 pub mod source;
-#[cfg(test)]
-mod tests;
 
 pub use conversation::Conversation;
 pub use counted::Counted;

@@ -10,8 +10,6 @@ mod new_set;
 mod prepared;
 mod row;
 mod rows;
-#[cfg(test)]
-mod tests;
 mod transfer;
 
 pub use account::Account;

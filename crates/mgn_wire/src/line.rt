@@ -316,6 +316,3 @@ pub fn read_line(line: &[u8]) -> Result<Line, LineFault>
     }
     of_words(read_words(words))
 }
-
-#[cfg(test)]
-mod tests;

@@ -1,7 +1,7 @@
 //! Nets on plain values.
 
-use crate::Nets;
 use mgn_num::Quantity;
+use mgn_unit::Nets;
 use std::test::Fail;
 
 #[test]

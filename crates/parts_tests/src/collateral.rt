@@ -1,8 +1,9 @@
+//! Collateral that is posted, and what it is worth under a set of one class.
 ghost use Rattle.std.specs.Prelude.{◌≤◌};
 ghost use Rattle.mgn_coll.specs.Posted.{most_of};
 
-use crate::amounts::is_cash;
-use crate::{Collateral, MOST_CASH, MOST_UNITS, is_known, most_of};
+use mgn_coll::amounts::is_cash;
+use mgn_coll::{Collateral, MOST_CASH, MOST_UNITS, is_known, most_of};
 use mgn_ids::{ClassName, IdFault, SetName};
 use mgn_params::{Class, ParamSet};
 use std::alloc::{AllocError, Global};

@@ -1,7 +1,8 @@
+//! Lists of lots, alone and two beside one another.
 ghost use Rattle.mgn_lots.specs.Lots.{IsLot};
 
-use crate::{Lot, Lots, Mark, add_both};
 use mgn_ids::{ContractName, LotId};
+use mgn_lots::{Lot, Lots, Mark, add_both};
 use mgn_num::Quantity;
 use std::process::Abort;
 use std::test::Fail;

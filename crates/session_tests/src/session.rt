@@ -4,9 +4,8 @@ ghost use Rattle.mgn_machine.specs.declared.request.Recorded.TheVariants.{Asked}
 ghost use Rattle.mgn_machine.specs.History.{item};
 ghost use Rattle.mgn_session.specs.Device.{is_dirty};
 
-use crate::line_buffer::LineBuffer;
-use crate::{Conversation, Counted, Exec, NoFiles, SessionFault, run_lines};
 use mgn_machine::{Answer, Command, Item, Recorded, Refusal, Reply, Request};
+use mgn_session::{Conversation, Counted, Exec, NoFiles, SessionFault, run_lines};
 use mgn_wire::LineReply;
 use std::alloc::Global;
 use std::cell::Cell;
@@ -15,12 +14,12 @@ use std::io::{ErrorKind, Read, Write};
 
 // Answers each command with its number, and an ASK with a refusal.
 #[derive(Drop)]
-pub(crate) struct Listed {
+struct Listed {
     items: Vec<Item>,
 }
 
 impl Listed {
-    pub(crate) fn new(alloc: Global) -> Listed {
+    fn new(alloc: Global) -> Listed {
         Listed {
             items: Vec::new(alloc),
         }
@@ -70,10 +69,10 @@ impl Exec for Listed {
 
 // Gives a text in pieces of a few bytes, and then fails or ends.
 #[derive(Drop)]
-pub(crate) struct Pieces<'a> {
-    pub(crate) left: &'a [u8],
-    pub(crate) size: usize,
-    pub(crate) fails: bool,
+struct Pieces<'a> {
+    left: &'a [u8],
+    size: usize,
+    fails: bool,
 }
 
 impl Read for Pieces<'_> {
@@ -90,10 +89,10 @@ impl Read for Pieces<'_> {
 
 // Takes a few bytes at a time, and fails once it has room for no more.
 #[derive(Drop)]
-pub(crate) struct Narrow {
-    pub(crate) taken: Vec<u8>,
-    pub(crate) size: usize,
-    pub(crate) room: usize,
+struct Narrow {
+    taken: Vec<u8>,
+    size: usize,
+    room: usize,
 }
 
 impl Write for Narrow {
@@ -116,14 +115,16 @@ const SCRIPT: &[u8] = b"ORIGIN CUST GROSS\nask\nOPEN A1 CUST\nTRADE A1 0 AAA1 2 
 
 const REPLIES: &[u8] = b"OK 1\nERR 10 SYNTAX\nOK 2\nERR 12 RANGE\nERR 3 20 NOACCT\n";
 
+// Runs a session in pieces of a size. What it ends with, the failures of the reader and the writer, and what was written.
 fn run(
     alloc: Global,
+    script: &[u8],
     size: usize,
     fails: bool,
     room: usize,
 ) -> (Result<u64, SessionFault>, u64, u64, Vec<u8>) {
     let reader = Counted::new(Pieces {
-        left: SCRIPT,
+        left: script,
         size,
         fails,
     });
@@ -144,7 +145,7 @@ fn run(
 #[test]
 fn answers_lines_in_pieces(rt: HostRuntime) {
     for size in [1, 2, 3, 7, 19, 100] {
-        let (ended, read_failed, write_failed, taken) = run(rt.alloc(), size, false, 1000);
+        let (ended, read_failed, write_failed, taken) = run(rt.alloc(), SCRIPT, size, false, 1000);
         assert!(rt; matches!(&ended, Ok(5)), "at {size}");
         assert!(rt; read_failed == 0 && write_failed == 0);
         assert!(rt; taken.as_slice() == REPLIES, "at {size}");
@@ -153,11 +154,11 @@ fn answers_lines_in_pieces(rt: HostRuntime) {
 
 #[test]
 fn stops_at_faults(rt: HostRuntime) {
-    let (ended, read_failed, write_failed, taken) = run(rt.alloc(), 7, true, 1000);
+    let (ended, read_failed, write_failed, taken) = run(rt.alloc(), SCRIPT, 7, true, 1000);
     assert!(rt; matches!(&ended, Err(SessionFault::Read)));
     assert!(rt; read_failed == 1 && write_failed == 0);
     assert!(rt; taken.as_slice() == REPLIES);
-    let (ended, read_failed, write_failed, taken) = run(rt.alloc(), 7, false, 9);
+    let (ended, read_failed, write_failed, taken) = run(rt.alloc(), SCRIPT, 7, false, 9);
     assert!(rt; matches!(&ended, Err(SessionFault::Write)));
     assert!(rt; read_failed == 0 && write_failed == 1);
     assert!(rt; taken.as_slice() == b"OK 1\nERR ".as_slice());
@@ -345,20 +346,11 @@ fn what_fails_once_is_not_tried_again(rt: HostRuntime) {
 
 #[test]
 fn a_chunk_is_taken_line_by_line(rt: HostRuntime) {
-    let text = b"OPEN A1 CUST\nASK".as_slice();
-    let writer = Counted::new(Vec::new(rt.alloc()));
-    let mut talk = Conversation::new(rt.alloc(), Counted::new(text), writer);
-    let mut buf = [0; 32];
-    let taken = talk.read(&mut buf);
-    assert!(rt; taken == Ok(16) && talk.owed() == 1);
-    let mut lines = LineBuffer::new(rt.alloc());
-    let mut exec = Listed::new(rt.alloc());
-    let Ok(taken) = taken else {
-        return;
-    };
-    assert!(rt; lines.take_chunk(&mut talk, &mut exec, &mut NoFiles, &buf[..taken]) == Ok(()));
-    assert!(rt; lines.lines == 1 && lines.line.as_slice() == b"ASK".as_slice());
-    assert!(rt; talk.send() == Ok(()));
-    let (_, writer) = talk.into_parts();
-    assert!(rt; writer.into_inner().as_slice() == b"OK 1\n".as_slice());
+    // The first chunk of 16 bytes ends within a line, which gets no reply before it ends too.
+    let (ended, _, _, taken) = run(rt.alloc(), b"OPEN A1 CUST\nASK", 16, false, 1000);
+    assert!(rt; ended == Ok(1));
+    assert!(rt; taken.as_slice() == b"OK 1\n".as_slice());
+    let (ended, _, _, taken) = run(rt.alloc(), b"OPEN A1 CUST\nASK A1\n", 16, false, 1000);
+    assert!(rt; ended == Ok(2));
+    assert!(rt; taken.as_slice() == b"OK 1\nERR 2 20 NOACCT\n".as_slice());
 }

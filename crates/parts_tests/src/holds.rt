@@ -1,6 +1,7 @@
+//! Holds, and lists of them.
 ghost use Rattle.mgn_holds.specs.Holds.{IsHeld};
 
-use crate::{Held, Holds};
+use mgn_holds::{Held, Holds};
 use mgn_ids::{ContractName, OrderId};
 use mgn_num::Quantity;
 use std::process::Abort;

@@ -1,6 +1,6 @@
 //! An answer without an entry.
 
-use crate::{Answer, Refusal, Reply};
+use mgn_machine::{Answer, Refusal, Reply};
 
 #[test]
 fn a_refusal_has_no_place(rt: HostRuntime) {

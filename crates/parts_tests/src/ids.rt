@@ -1,6 +1,6 @@
 //! Names and numbers are read as lines spell them, and keys have the places in which they came.
 
-use crate::{
+use mgn_ids::{
     AccountName, ClassName, CommodityName, ContractName, IdFault, LotId, LotQuantity, OrderId,
     OriginName, Places, Premium, SessionNo, SetName, UnitNo, Units,
 };

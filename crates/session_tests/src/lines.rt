@@ -1,5 +1,8 @@
-use super::*;
-use mgn_machine::Mode;
+//! What lines ask for, and the faults of those that ask for nothing.
+
+use mgn_ids::SetName;
+use mgn_machine::{Command, Mode};
+use mgn_wire::{Line, LineFault, read_line};
 
 fn command_in(line: &[u8]) -> Option<Command> {
     match &read_line(line) {

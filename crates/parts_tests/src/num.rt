@@ -1,6 +1,6 @@
-//! Each public function on plain numbers.
+//! Numbers: each public function on plain ones.
 
-use crate::{
+use mgn_num::{
     Cents, NumFault, Quantity, TenThousandths, mul_div_ceil, mul_div_floor, quotient, read_signed,
     read_unsigned,
 };
