@@ -1,5 +1,5 @@
 //! Sessions over devices in memory: whole, in pieces, and torn.
-ghost use Rattle.std.specs.Prelude.{◌≡◌, ◌++◌, ◌∷◌, [], false, if◌then◌else◌};
+ghost use Rattle.std.specs.Prelude.{◌≡◌, ◌++◌, ◌∷◌, [], OnOk, OnErr, false};
 ghost use Rattle.mgn_machine.specs.declared.request.Recorded.TheVariants.{Asked};
 ghost use Rattle.mgn_machine.specs.History.{item};
 ghost use Rattle.mgn_session.specs.Device.{is_dirty};
@@ -7,12 +7,12 @@ ghost use Rattle.mgn_session.specs.Device.{is_dirty};
 use mgn_machine::{Answer, Command, Item, Recorded, Refusal, Reply, Request};
 use mgn_session::{Conversation, Counted, Exec, NoFiles, SessionFault, run_lines};
 use mgn_wire::LineReply;
-use std::alloc::Global;
+use std::alloc::{AllocError, Global};
 use std::cell::Cell;
 use std::io;
 use std::io::{ErrorKind, Read, Write};
 
-// Answers each command with its number, and an ASK with a refusal.
+// Answers each command with its number, and an ASK with a refusal. It has no room for a set.
 #[derive(Drop)]
 struct Listed {
     items: Vec<Item>,
@@ -25,28 +25,28 @@ impl Listed {
         }
     }
 
-    fn keep(&mut self, place: u64, command: &Command, reply: Reply) -> bool
-        ensures { self.new.items.items ≡ self.old.items.items ++ (if result then item place (Asked command.now) reply ∷ [] else []) }
+    fn keep(&mut self, place: u64, command: &Command, reply: Reply) -> Result<(), AllocError>
+        ensures ok { OnOk result (self.new.items.items ≡ self.old.items.items ++ item place (Asked command.now) reply ∷ []) }
+        ensures err { OnErr result (self.new.items.items ≡ self.old.items.items) }
     {
-        let item = Item {
+        self.items.push(Item {
             place,
             request: Recorded::Asked(*command),
             reply,
-        };
-        self.items.push(item).is_ok()
+        })
     }
 }
 
 impl Exec for Listed {
     ghost entries = { λ listed. listed.items.items };
 
-    ghost is_full = { λ _. ⊥ };
+    ghost is_full = { λ _. Unit {0} };
 
     ghost does = { λ _ _ _ _. Unit {0} };
 
     fn exec(&mut self, request: Request) -> Answer {
         let Request::Do(command) = request else {
-            return Answer::refused(Refusal::Memory);
+            return Answer::refused(Refusal::Full);
         };
         let reply = match &command {
             Command::Ask(_) => Reply::Refused(Refusal::NoAccount),
@@ -56,13 +56,12 @@ impl Exec for Listed {
         let Ok(kept) = reply.copy() else {
             return Answer::refused(Refusal::Memory);
         };
-        if self.keep(place, &command, kept) {
-            Answer {
+        match self.keep(place, &command, kept) {
+            Ok(()) => Answer {
                 place: Some(place),
                 reply,
-            }
-        } else {
-            Answer::refused(Refusal::Memory)
+            },
+            Err(_) => Answer::refused(Refusal::Memory),
         }
     }
 }
