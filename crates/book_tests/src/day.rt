@@ -48,13 +48,17 @@ const STATEMENT: &str = "S A1 CUST GROSS FUT 0\n\
     L 1 AAA1 2 0 T\n\
     C CASH 0\n";
 
+// The history tells this reply at a place.
+fn check_recalled(rt: &impl Abort, alloc: Global, desk: &Shelved, place: u64, text: &str) {
+    let mut out = Vec::new(alloc);
+    assert!(rt; desk.recall(place, &mut out));
+    assert!(rt; out.as_slice() == text.as_bytes(), "for {text}");
+}
+
 // The history tells each reply and its session again, and of no place but those of the entries.
 fn check_history(rt: &impl Abort, alloc: Global, desk: &Shelved) {
     for place in 1..6 {
-        let mut out = Vec::new(alloc);
-        assert!(rt; desk.recall(place, &mut out));
-        let text = REPLIES[place as usize - 1];
-        assert!(rt; out.as_slice() == text.as_bytes(), "for {text}");
+        check_recalled(rt, alloc, desk, place, REPLIES[place as usize - 1]);
         assert_eq!(rt; desk.session(place), Some(if place < 3 { 1 } else { 16 }));
     }
     for place in [0, 6] {
@@ -64,13 +68,25 @@ fn check_history(rt: &impl Abort, alloc: Global, desk: &Shelved) {
     }
 }
 
+// A command of a session is answered so.
+fn check_answer(
+    rt: &impl Abort,
+    alloc: Global,
+    desk: &mut Shelved,
+    session: SessionNo,
+    command: &Command,
+    text: &str,
+) {
+    let mut out = Vec::new(alloc);
+    assert!(rt; desk.answer(session, command, &mut out));
+    assert!(rt; out.as_slice() == text.as_bytes(), "for {text}");
+}
+
 // Two commands of session 1, and then those of session 16.
 fn check_answers(rt: &impl Abort, alloc: Global, desk: &mut Shelved, commands: &[Command]) {
     for (i, (command, text)) in commands.iter().zip(REPLIES.iter()).enumerate() {
         let session = SessionNo::new(if i < 2 { 1 } else { 16 });
-        let mut out = Vec::new(alloc);
-        assert!(rt; desk.answer(session, command, &mut out));
-        assert!(rt; out.as_slice() == text.as_bytes(), "for {text}");
+        check_answer(rt, alloc, desk, session, command, text);
     }
 }
 
@@ -94,14 +110,19 @@ fn check_accounts(rt: &impl Abort, alloc: Global, desk: &Shelved) -> Result<(), 
     Ok(())
 }
 
+// The commands are answered, and what is told of them afterwards changes nothing.
+fn check_day(rt: &impl Abort, alloc: Global, desk: &mut Shelved) -> Result<(), Fail> {
+    check_answers(rt, alloc, desk, &commands()?);
+    check_calls(rt, desk);
+    check_accounts(rt, alloc, desk)?;
+    check_history(rt, alloc, desk);
+    check_calls(rt, desk);
+    Ok(())
+}
+
 #[test]
 fn a_day_of_two_sessions(rt: HostRuntime) -> Result<(), Fail> {
     let set = read_set(rt.alloc(), fut().as_bytes())?;
     let mut desk = Shelved::new(rt.alloc(), set)?;
-    check_answers(&rt, rt.alloc(), &mut desk, &commands()?);
-    check_calls(&rt, &desk);
-    check_accounts(&rt, rt.alloc(), &desk)?;
-    check_history(&rt, rt.alloc(), &desk);
-    check_calls(&rt, &desk);
-    Ok(())
+    check_day(&rt, rt.alloc(), &mut desk)
 }

@@ -116,10 +116,11 @@ struct Written {
 
 impl Written {
     fn new(alloc: Global, set: ParamSet) -> Result<Written, Fail> {
+        let book = Shelved::new(alloc, set)?;
         Ok(Written {
             alloc,
             text: Vec::new(alloc),
-            book: Shelved::new(alloc, set)?,
+            book,
             replies: Vec::new(alloc),
         })
     }
@@ -172,24 +173,20 @@ impl Written {
         Ok(())
     }
 
+    // Draws a line, and writes it.
+    fn put_drawn(&mut self, lines: &mut Lines, counts: &mut Counts) -> Result<(), Fail> {
+        let line = lines.draw(self.alloc)?;
+        self.put(&line, counts)
+    }
+
     // Writes the first lines, drawn ones, and the last.
-    fn put_drawn(&mut self, stream: u64, counts: &mut Counts) -> Result<(), Fail> {
-        let mut lines = Lines::new(stream);
+    fn put_session(&mut self, lines: &mut Lines, counts: &mut Counts) -> Result<(), Fail> {
         self.put_all(&FIRST, counts)?;
         for _ in 0..LINES {
-            let line = lines.draw(self.alloc)?;
-            self.put(&line, counts)?;
+            self.put_drawn(lines, counts)?;
         }
         self.put_all(&LAST, counts)
     }
-}
-
-// A session of drawn lines.
-fn write_session(alloc: Global, stream: u64, counts: &mut Counts) -> Result<Written, Fail> {
-    let set = read_set(alloc, one().as_bytes())?;
-    let mut written = Written::new(alloc, set)?;
-    written.put_drawn(stream, counts)?;
-    Ok(written)
 }
 
 // Where two texts first differ, if they do.
@@ -211,12 +208,36 @@ fn check_session(rt: &impl Abort, alloc: Global, written: &Written) -> Result<()
     Ok(())
 }
 
+// Writes a session of lines by the numbers of a stream, and answers it by a script.
+fn check_stream(
+    rt: &impl Abort,
+    alloc: Global,
+    written: &mut Written,
+    stream: u64,
+    counts: &mut Counts,
+) -> Result<(), Fail> {
+    let mut lines = Lines::new(stream);
+    written.put_session(&mut lines, counts)?;
+    check_session(rt, alloc, written)
+}
+
+// The same from a book under the first set on.
+fn check_random(
+    rt: &impl Abort,
+    alloc: Global,
+    stream: u64,
+    counts: &mut Counts,
+) -> Result<(), Fail> {
+    let set = read_set(alloc, one().as_bytes())?;
+    let mut written = Written::new(alloc, set)?;
+    check_stream(rt, alloc, &mut written, stream, counts)
+}
+
 #[test]
 fn random_scripts_are_answered_as_worked_out_anew(rt: HostRuntime) -> Result<(), Fail> {
     let mut counts = Counts::default();
     for stream in 0..SESSIONS {
-        let written = write_session(rt.alloc(), stream, &mut counts)?;
-        check_session(&rt, rt.alloc(), &written)?;
+        check_random(&rt, rt.alloc(), stream, &mut counts)?;
     }
     assert!(rt; counts.are_many(), "{counts:?}");
     Ok(())

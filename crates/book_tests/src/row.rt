@@ -220,7 +220,36 @@ fn two(alloc: Global, set: &ParamSet) -> Result<PortfolioRow, AllocError>
     })
 }
 
-// What the portfolios of a unit of two lots require after a switch for which this was prepared.
+// A unit of two lots.
+fn row_of_two(alloc: Global, set: &ParamSet) -> Result<Row, AllocError>
+    requires { 0 < length set.now.contracts }
+    ensures { IfOk result (IsRow set.now) }
+{
+    Ok(Row {
+        sizes: nets_of(alloc, set, 2)?,
+        lots: two(alloc, set)?,
+        buys: two(alloc, set)?,
+        sales: two(alloc, set)?,
+        all: two(alloc, set)?,
+    })
+}
+
+// What the portfolios of a unit require after a switch for which this was prepared.
+fn required_after(
+    alloc: Global,
+    set: &ParamSet,
+    row: &Row,
+    prepared: Option<&PreparedUnit>,
+) -> Result<[i128; 4], AllocError>
+    requires row { IsRow set.now row.now }
+    requires prepared { IfSome prepared (λ prepared. IsPrepared set.now prepared.now) }
+{
+    let switch = Switch::new(alloc, set, set)?;
+    let switched = row.under(alloc, &switch, Cents::ZERO, prepared, &mut Work::new())?;
+    Ok(required(&switched))
+}
+
+// The same of a unit of two lots.
 fn switched(
     alloc: Global,
     set: &ParamSet,
@@ -229,16 +258,8 @@ fn switched(
     requires contract { 0 < length set.now.contracts }
     requires prepared { IfSome prepared (λ prepared. IsPrepared set.now prepared.now) }
 {
-    let row = Row {
-        sizes: nets_of(alloc, set, 2)?,
-        lots: two(alloc, set)?,
-        buys: two(alloc, set)?,
-        sales: two(alloc, set)?,
-        all: two(alloc, set)?,
-    };
-    let switch = Switch::new(alloc, set, set)?;
-    let switched = row.under(alloc, &switch, Cents::ZERO, prepared, &mut Work::new())?;
-    Ok(required(&switched))
+    let row = row_of_two(alloc, set)?;
+    required_after(alloc, set, &row, prepared)
 }
 
 // What a row as it may stand answers.

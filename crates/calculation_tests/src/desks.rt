@@ -151,6 +151,22 @@ fn expect_apart(rt: &impl Abort, apart: usize) {
     assert!(rt; CHANGES / 10 < apart, "apart {apart} times");
 }
 
+// Follows the changes of a stream, of which some lead to different requirements.
+fn follow_stream(
+    rt: &impl Abort,
+    alloc: Global,
+    beside: &mut Beside,
+    count: usize,
+    stream: u64,
+) -> Result<(), Fail>
+    requires { 0 < count }
+{
+    let mut rng = numbers(stream);
+    let apart = follow(rt, alloc, &mut rng, beside, count)?;
+    expect_apart(rt, apart);
+    Ok(())
+}
+
 // Whether all agrees after each of many changes, of which some lead to different requirements.
 fn agree_after_all(
     rt: &impl Abort,
@@ -161,10 +177,7 @@ fn agree_after_all(
     let count = set.contract_count();
     assert!(rt; 0 < count);
     let mut beside = Beside::new(alloc, set)?;
-    let mut rng = numbers(stream);
-    let apart = follow(rt, alloc, &mut rng, &mut beside, count)?;
-    expect_apart(rt, apart);
-    Ok(())
+    follow_stream(rt, alloc, &mut beside, count, stream)
 }
 
 fn check_worked(rt: &impl Abort, alloc: Global, worked: Worked, stream: u64) -> Result<(), Fail> {

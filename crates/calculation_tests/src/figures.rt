@@ -5,7 +5,7 @@ mod cases;
 ghost use Rattle.std.specs.Prelude.{◌≡◌, ◌≤◌, ◌<◌, ◌^◌, length, All, IfOk};
 ghost use Rattle.mgn_span.specs.Positions.{IsNet};
 
-use crate::sets::Worked;
+use crate::sets::{Worked, flat_nets};
 use cases::cases;
 use mgn_num::Quantity;
 use mgn_params::{ParamSet, Work};
@@ -47,8 +47,7 @@ fn nets_of(
     ensures small { IfOk result (λ nets. All IsNet nets.items) }
 {
     assert_eq!(rt; contracts.len(), set.contract_count());
-    let mut nets = Vec::new(alloc);
-    nets.resize(set.contract_count(), Quantity::ZERO)?;
+    let mut nets = flat_nets(alloc, set)?;
     for i in 0..contracts.len() {
         nets[i] = some_net(rt, contracts[i]);
     }

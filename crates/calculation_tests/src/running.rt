@@ -46,16 +46,23 @@ const CHANGES: [(usize, i64); 28] = [
     (0, 0),
 ];
 
+// Makes the changes, and compares after each.
+fn follow_all(rt: &impl Abort, alloc: Global, kept: &mut Kept, count: usize) -> Result<(), Fail>
+    requires { 0 < count }
+{
+    for (contract, net) in &CHANGES {
+        kept.trade(rt, *contract % count, *net);
+        kept.agree(rt, alloc)?;
+    }
+    Ok(())
+}
+
 // Whether all agrees after each of the changes.
 fn agree_after_all(rt: &impl Abort, alloc: Global, set: &ParamSet) -> Result<(), Fail> {
     let count = set.contract_count();
     assert!(rt; 0 < count);
     let mut kept = Kept::new(alloc, set)?;
-    for (contract, net) in CHANGES {
-        kept.trade(rt, contract % count, net);
-        kept.agree(rt, alloc)?;
-    }
-    Ok(())
+    follow_all(rt, alloc, &mut kept, count)
 }
 
 fn check_worked(rt: &impl Abort, alloc: Global, worked: Worked) -> Result<(), Fail> {
@@ -65,8 +72,8 @@ fn check_worked(rt: &impl Abort, alloc: Global, worked: Worked) -> Result<(), Fa
 
 #[test]
 fn follow_the_calculation(rt: HostRuntime) -> Result<(), Fail> {
-    for worked in WITH_CONTRACTS {
-        check_worked(&rt, rt.alloc(), worked)?;
+    for worked in &WITH_CONTRACTS {
+        check_worked(&rt, rt.alloc(), *worked)?;
     }
     Ok(())
 }
@@ -91,15 +98,22 @@ fn contracts_of(k: usize) -> i64
 }
 
 // Many changes, each compared.
-fn agree_after_many(rt: &impl Abort, alloc: Global, set: &ParamSet) -> Result<(), Fail> {
-    let count = set.contract_count();
-    assert!(rt; 0 < count);
-    let mut kept = Kept::new(alloc, set)?;
+fn follow_many(rt: &impl Abort, alloc: Global, kept: &mut Kept, count: usize) -> Result<(), Fail>
+    requires { 0 < count }
+{
     for k in 0..300 {
         kept.trade(rt, (k * 7 + k / 5) % count, contracts_of(k));
         kept.agree(rt, alloc)?;
     }
     Ok(())
+}
+
+// Whether all agrees after each of many changes.
+fn agree_after_many(rt: &impl Abort, alloc: Global, set: &ParamSet) -> Result<(), Fail> {
+    let count = set.contract_count();
+    assert!(rt; 0 < count);
+    let mut kept = Kept::new(alloc, set)?;
+    follow_many(rt, alloc, &mut kept, count)
 }
 
 #[test]

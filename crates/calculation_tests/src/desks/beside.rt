@@ -94,6 +94,32 @@ impl NetList {
     }
 }
 
+// Two lists of nets of 0.
+fn two_lists(alloc: Global, set: &ParamSet) -> Result<(NetList, NetList), AllocError>
+    ensures first { IfOk result (λ lists. length lists.0 ≡ length set.now.contracts) }
+    ensures second { IfOk result (λ lists. length lists.1 ≡ length set.now.contracts) }
+{
+    let first = NetList::new(alloc, set)?;
+    let second = NetList::new(alloc, set)?;
+    Ok((first, second))
+}
+
+// A desk that was marked with these nets in each portfolio.
+fn marked_desk(alloc: Global, set: &ParamSet, nets: &NetList) -> Result<Desk, AllocError>
+    requires { length nets.now ≡ length set.now.contracts }
+    ensures { IfOk result (λ desk. IsMarkedBy set.now desk.marked) }
+{
+    let nets = UnitNets {
+        lots: nets.as_slice(),
+        buys: nets.as_slice(),
+        sales: nets.as_slice(),
+        all: nets.as_slice(),
+    };
+    let mut desk = Desk::empty(0);
+    desk.mark(alloc, Version::new(0), set, &nets)?;
+    Ok(desk)
+}
+
 // A net less another one.
 fn difference(new: Quantity, old: Quantity) -> Quantity
     requires new { IsNet new }
@@ -172,18 +198,9 @@ fn expect_rooms(rt: &impl Abort, set: &ParamSet, desk: &Desk, moves: &Moves)
 impl<'a> Beside<'a> {
     /// A desk with nets of 0.
     pub(super) fn new(alloc: Global, set: &'a ParamSet) -> Result<Beside<'a>, AllocError> {
-        let lots = NetList::new(alloc, set)?;
-        let buys = NetList::new(alloc, set)?;
-        let sales = NetList::new(alloc, set)?;
-        let all = NetList::new(alloc, set)?;
-        let mut desk = Desk::empty(0);
-        let nets = UnitNets {
-            lots: lots.as_slice(),
-            buys: buys.as_slice(),
-            sales: sales.as_slice(),
-            all: all.as_slice(),
-        };
-        desk.mark(alloc, Version::new(0), set, &nets)?;
+        let (lots, buys) = two_lists(alloc, set)?;
+        let desk = marked_desk(alloc, set, &lots)?;
+        let (sales, all) = two_lists(alloc, set)?;
         Ok(Beside {
             set,
             desk,

@@ -1,7 +1,11 @@
 //! All that is kept of the nets under a set.
 
-ghost use Rattle.std.specs.Prelude.{◌≡◌, ◌*◌, ◌<◌, ◌≤◌, ◌^◌, length, unsigned_abs, All};
+ghost use Rattle.std.specs.Prelude.{◌≡◌, ◌*◌, ◌<◌, ◌≤◌, ◌^◌, length, pos, replicate, unsigned_abs, All, IfOk};
 ghost use Rattle.mgn_span.specs.Positions.{IsNet};
+ghost use Rattle.mgn_scan.specs.Totals.{AreTotals};
+ghost use Rattle.mgn_option.specs.Sums.{AreSums};
+ghost use Rattle.mgn_tiers.specs.Tiers.{AreTiersOf};
+ghost use Rattle.mgn_inter.specs.Credited.{AreCreditsOf};
 
 use crate::sets::flat_nets;
 use mgn_inter::InterCredits;
@@ -83,14 +87,32 @@ fn delta_of(set: &ParamSet, i: usize, quantity: Quantity) -> TenThousandths
     scaled(quantity, &set.contract_at(i).delta)
 }
 
+// The totals and the option sums of nets of 0.
+fn flat_sums(alloc: Global, set: &ParamSet) -> Result<(ScanTotals, OptionSums), AllocError>
+    ensures totals { IfOk result (λ kept. AreTotals set.now (replicate (length set.now.contracts) (pos 0)) kept.0) }
+    ensures sums { IfOk result (λ kept. AreSums set.now (replicate (length set.now.contracts) (pos 0)) kept.1) }
+{
+    let totals = ScanTotals::new(alloc, set)?;
+    let sums = OptionSums::new(alloc, set)?;
+    Ok((totals, sums))
+}
+
+// The stages and the credits of nets of 0.
+fn flat_stages(alloc: Global, set: &ParamSet) -> Result<(TierStages, InterCredits), AllocError>
+    ensures tiers { IfOk result (λ kept. AreTiersOf set.now kept.0) }
+    ensures credits { IfOk result (λ kept. AreCreditsOf set.now kept.1) }
+{
+    let tiers = TierStages::new(alloc, set)?;
+    let credits = InterCredits::new(alloc, set)?;
+    Ok((tiers, credits))
+}
+
 impl<'a> Kept<'a> {
     /// What is kept of nets of 0.
     pub(super) fn new(alloc: Global, set: &'a ParamSet) -> Result<Kept<'a>, AllocError> {
         let nets = flat_nets(alloc, set)?;
-        let totals = ScanTotals::new(alloc, set)?;
-        let sums = OptionSums::new(alloc, set)?;
-        let tiers = TierStages::new(alloc, set)?;
-        let credits = InterCredits::new(alloc, set)?;
+        let (totals, sums) = flat_sums(alloc, set)?;
+        let (tiers, credits) = flat_stages(alloc, set)?;
         Ok(Kept {
             set,
             nets,

@@ -90,13 +90,23 @@ fn expect_all(rt: &impl Abort, kept: &Kept, long: i128, short: i128) {
     kept.expect_spot(rt, 0, 1_280_000_000_000);
 }
 
-fn agree_at_limits(rt: &impl Abort, alloc: Global, set: &ParamSet) -> Result<(), Fail> {
-    let mut kept = Kept::new(alloc, set)?;
-    for (contracts, long, short) in BOTH {
-        bring_all(rt, alloc, &mut kept, set.contract_count(), contracts)?;
-        expect_all(rt, &kept, long, short);
+// Brings all nets to one limit and then to the other.
+fn bring_to_both(
+    rt: &impl Abort,
+    alloc: Global,
+    kept: &mut Kept,
+    count: usize,
+) -> Result<(), Fail> {
+    for (contracts, long, short) in &BOTH {
+        bring_all(rt, alloc, kept, count, *contracts)?;
+        expect_all(rt, kept, *long, *short);
     }
     Ok(())
+}
+
+fn agree_at_limits(rt: &impl Abort, alloc: Global, set: &ParamSet) -> Result<(), Fail> {
+    let mut kept = Kept::new(alloc, set)?;
+    bring_to_both(rt, alloc, &mut kept, set.contract_count())
 }
 
 #[test]
