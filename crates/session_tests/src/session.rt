@@ -33,7 +33,8 @@ impl Listed {
             place,
             request: Recorded::Asked(*command),
             reply,
-        })
+        })?;
+        Ok(())
     }
 }
 
