@@ -96,10 +96,14 @@ static LIMITS: [Change; 5] = [
     (2, 10_000_000, [0, 0, 0]),
 ];
 
+fn check_all(rt: &impl Abort, alloc: Global, set: &ParamSet) -> Result<(), Fail> {
+    check_under(rt, alloc, set, &ACROSS_ZERO)?;
+    check_under(rt, alloc, set, &PUTS_AND_CALLS)?;
+    check_under(rt, alloc, set, &LIMITS)
+}
+
 #[test]
 fn follow_changes(rt: HostRuntime) -> Result<(), Fail> {
     let set = Worked::Options.read(rt.alloc())?;
-    check_under(&rt, rt.alloc(), &set, &ACROSS_ZERO)?;
-    check_under(&rt, rt.alloc(), &set, &PUTS_AND_CALLS)?;
-    check_under(&rt, rt.alloc(), &set, &LIMITS)
+    check_all(&rt, rt.alloc(), &set)
 }
