@@ -115,7 +115,7 @@ const SCRIPT: &[u8] = b"ORIGIN CUST GROSS\nask\nOPEN A1 CUST\nTRADE A1 0 AAA1 2 
 
 const REPLIES: &[u8] = b"OK 1\nERR 10 SYNTAX\nOK 2\nERR 12 RANGE\nERR 3 20 NOACCT\n";
 
-// Runs a session in pieces of a size. What it ends with, the failures of the reader and the writer, and what was written.
+// Runs a session in pieces: how it ends, how often the reader and the writer failed, and what was written.
 fn run(
     alloc: Global,
     script: &[u8],
