@@ -17,13 +17,14 @@ from the start. Edits that are not Rattle are found by the places of the errors,
   --alone       each edit by itself
   -j N          N checks side by side; by default one a processor
   --top DIR     the repository
-  --built       trust the libraries that a run of `rt ci` has just left in crates/*/out
+  --built       trust the libraries that a run of `rt ci` has just left in crates/*/out, and what they hold of each crate's own check
   --times FILE  write what each crate took, a line `CRATE EDITS CHECKS SECONDS LARGEST_KIB FAILED`
   --look        try nothing: say which edits cannot be applied
   --sort        try nothing: move each edit, those of crates/*/must-fail too, to the crate in whose files its text stands
 The last line is `N passed, M failed`.
 """
 import argparse
+import json
 import os
 import re
 import shutil
@@ -179,8 +180,8 @@ def batches_of(edits):
 class Runs:
     """The checks of this run, with what each crate's took."""
 
-    def __init__(self, rt, room):
-        self.rt, self.room, self.number, self.lock = rt, room, 0, threading.Lock()
+    def __init__(self, rt, room, built):
+        self.rt, self.room, self.built, self.number, self.lock = rt, room, built, 0, threading.Lock()
         self.took = defaultdict(lambda: [0, 0.0, 0])
 
     def folder(self):
@@ -188,7 +189,7 @@ class Runs:
             self.number += 1
             return f"{self.room}/{self.number}"
 
-    def check(self, crate, texts, kept):
+    def check(self, crate, texts, kept, *more):
         """Checks a copy of the crate with these texts in place of its own, with the words of `rt ci`, over the kept work."""
         rtlib, copy = self.rt.rtlib, self.folder()
         for part in rtlib.PARTS:
@@ -197,7 +198,7 @@ class Runs:
         for path, text in texts.items():
             with open(f"{copy}/{path}", "w", encoding="utf-8") as it:
                 it.write(text)
-        words = [*rtlib.guarded(), rtlib.RATTLE, "check", *crate.words(["--jobs", "1"], keeps=False), "--incremental", kept]
+        words = [*rtlib.guarded(), rtlib.RATTLE, "check", *crate.words(["--jobs", "1"], keeps=False), "--incremental", kept, *more]
         with open(f"{copy}/said", "w+", errors="replace") as said:
             ran = subprocess.Popen(words, cwd=copy, stdin=subprocess.DEVNULL, stdout=said, stderr=subprocess.STDOUT)
             _, status, used = os.wait4(ran.pid, 0)
@@ -213,18 +214,36 @@ class Runs:
         whole = ran.returncode == 1 and lines[-1].startswith("logic=not-proved") or ran.returncode == 0
         return Ran(ran.returncode, lines, whole)
 
+    def begin(self, crate, kept):
+        """Has the kept work begin with the modules that the crate's library holds of its own check: a check keeps the same ones."""
+        held = f"{crate.rlib}/toolchain"
+        if not os.path.isfile(f"{held}/checked.json"):
+            return
+        # (a check that proves nothing makes the folder in which this build of rattle looks for modules)
+        self.check(crate, {}, kept, "--only", "")
+        (inside,) = os.listdir(kept)
+        with open(f"{held}/checked.json", encoding="utf-8") as rows, open(f"{held}/checked.a", "rb") as modules:
+            for name, start, size in map(json.loads, rows):
+                if "/" not in name and len(name) < 250:
+                    modules.seek(start)
+                    with open(f"{kept}/{inside}/{name}.oantt", "wb") as it:
+                        it.write(modules.read(size))
+
     def prove(self, crate):
         """Proves the crate, and returns the folder of what that kept, or None and what was said."""
         kept, own = self.folder(), f"{crate.folder}/{self.rt.rtlib.KEPT[1]}"
         if os.path.isdir(own):
             shutil.copytree(own, kept)
+        elif self.built:
+            self.begin(crate, kept)
         ran = self.check(crate, {}, kept)
         return (kept, ran) if ran.status == 0 else (None, ran)
 
     def on_copy(self, edits, kept):
         """Tries the edits together over a copy of the kept work."""
         copy = self.folder()
-        shutil.copytree(kept, copy)
+        # (a check replaces what it keeps anew, and writes into no file that is there)
+        self.rt.linked(kept, copy)
         crate = edits[0].crate
         ran = self.check(crate, apply(edits, crate.folder), copy)
         shutil.rmtree(copy, ignore_errors=True)
@@ -451,7 +470,7 @@ def main():
             print(f"{edit.crate.name}/{edit.name}: {said}", flush=True)
 
     with tempfile.TemporaryDirectory(prefix="edits-") as room:
-        runs = Runs(rt, room)
+        runs = Runs(rt, room, given.built)
         try_all(runs, groups, max(given.j, 1), tell)
     for crate in groups:
         checks, seconds, largest = runs.took[crate.name]

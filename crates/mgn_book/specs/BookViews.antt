@@ -15,8 +15,8 @@ use Rattle.mgn_machine.specs.declared.request.Request.TheVariants.{Do, Switch}
 use Rattle.mgn_machine.specs.Step.{step}
 use Rattle.mgn_machine.specs.History.{calls, entry, recorded, replay, Legal}
 use Rattle.mgn_unit.specs.declared.row.Row.{Row}
-use Rattle.mgn_register.specs.declared.plans.Plan.{Plan}
-use Rattle.mgn_register.specs.Plans.{LeavesNets}
+use Rattle.mgn_plan.specs.declared.plans.Plan.{Plan}
+use Rattle.mgn_plan.specs.Plans.{LeavesNets}
 use Rattle.mgn_register.specs.BookStates.{BookState, book_state, IsKept}
 use Rattle.mgn_book.specs.declared.book.Outcome.{Outcome}
 use Rattle.mgn_book.specs.declared.book.Outcome.TheVariants.{Done, Full, Memory}

@@ -6,8 +6,8 @@ use Rattle.mgn_desk.specs.Desks.{DeskRows}
 use Rattle.mgn_machine.specs.declared.command.Command.{Command}
 use Rattle.mgn_machine.specs.declared.request.Request.TheVariants.{Do}
 use Rattle.mgn_unit.specs.declared.row.Row.{Row}
-use Rattle.mgn_register.specs.declared.plans.Plan.{Plan}
-use Rattle.mgn_register.specs.Plans.{LeavesNets, plan_of}
+use Rattle.mgn_plan.specs.declared.plans.Plan.{Plan}
+use Rattle.mgn_plan.specs.Plans.{LeavesNets, plan_of}
 use Rattle.mgn_pricing.specs.Given.{fit_plan, is_one_older}
 use Rattle.mgn_book.specs.BookViews.{BookView, Committed}
 use Rattle.mgn_book.specs.declared.book.Outcome.TheVariants.{Done as Settled}

@@ -7,7 +7,7 @@ ghost use Rattle.mgn_machine.specs.declared.request.Request.TheVariants.{Do, Swi
 ghost use Rattle.mgn_machine.specs.History.{calls};
 ghost use Rattle.mgn_unit.specs.NewSets.{ArePrepared};
 ghost use Rattle.mgn_register.specs.BookStates.{account_unit, statement_found};
-ghost use Rattle.mgn_register.specs.Plans.{Foresees, IsPossible, plan_of};
+ghost use Rattle.mgn_plan.specs.Plans.{Foresees, IsPossible, plan_of};
 ghost use Rattle.mgn_book.specs.BookViews.{Committed, Leaves, Shelves, Stands, command_at, opening, reply_at, session_at};
 
 use crate::history::History;
@@ -15,7 +15,8 @@ use crate::in_force::switch_set;
 use mgn_ids::{AccountName, SessionNo};
 use mgn_machine::{Command, Reply, Statement};
 use mgn_params::{ParamSet, Shelf, Version};
-use mgn_register::{Fault, Known, Plan, Register, step};
+use mgn_plan::{Known, Plan};
+use mgn_register::{Fault, Register, step};
 use mgn_unit::{PreparedUnit, Row};
 use std::alloc::{AllocError, Global};
 use std::marker::Model;

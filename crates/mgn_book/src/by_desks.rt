@@ -3,7 +3,7 @@
 ghost use Rattle.std.specs.Prelude.{◌≡◌, ◌+◌, All, map};
 ghost use Rattle.mgn_params.specs.Shelves.{set_at};
 ghost use Rattle.mgn_machine.specs.History.{calls};
-ghost use Rattle.mgn_register.specs.Plans.{plan_of};
+ghost use Rattle.mgn_plan.specs.Plans.{plan_of};
 ghost use Rattle.mgn_pricing.specs.Given.{IsRight};
 ghost use Rattle.mgn_book.specs.BookViews.{Stands};
 ghost use Rattle.mgn_book.specs.DeskCommits.{CommittedBy, LeavesBy};

@@ -111,8 +111,7 @@ impl SetList {
         ensures { IfOk result (λ list. list ≡ first ∷ []) }
     {
         let mut sets = Vec::new(alloc);
-        sets.reserve(1)?;
-        sets.push_reserved(first);
+        sets.push(first)?;
         Ok(SetList { sets })
     }
 }

@@ -20,9 +20,8 @@ use Rattle.mgn_unit.specs.declared.change.Change.{Change}
 use Rattle.mgn_unit.specs.declared.row.Priced.{Priced}
 use Rattle.mgn_unit.specs.declared.row.Row.{Row}
 use Rattle.mgn_unit.specs.Rows.{Prices}
-use Rattle.mgn_register.specs.declared.plans.UnitChange.{UnitChange}
-use Rattle.mgn_register.specs.Plans.{moved_nets, nets_in}
-use Rattle.mgn_register.specs.TransferRows.{row_at}
+use Rattle.mgn_plan.specs.declared.plans.UnitChange.{UnitChange}
+use Rattle.mgn_plan.specs.Plans.{moved_nets, nets_in, row_at}
 use Rattle.mgn_pricing.specs.Desks.{four, is_of, required_by}
 use Rattle.mgn_pricing.specs.Given.{IsRight, fits, fits_change, marked_in, same_four, same_nets}
 use Rattle.mgn_pricing.proofs.Moved.{prices-by}

@@ -14,7 +14,7 @@ use Rattle.mgn_unit.specs.declared.change.Change.{Change}
 use Rattle.mgn_unit.specs.declared.row.Priced.{Priced}
 use Rattle.mgn_unit.specs.declared.row.Row.{Row}
 use Rattle.mgn_unit.specs.Rows.{IsChange, IsRoomy, IsRow, Prices, more_at}
-use Rattle.mgn_register.specs.Plans.{UnitNets, moved_nets, nets_in}
+use Rattle.mgn_plan.specs.Plans.{UnitNets, moved_nets, nets_in}
 use Rattle.mgn_pricing.specs.Desks.{IsReady, four, moves_of, required_by}
 
 -- a net that moves stays within its limit

@@ -4,14 +4,13 @@ ghost use Rattle.mgn_desk.specs.Portfolios.{AreSmall};
 ghost use Rattle.mgn_params.specs.Tables.{Tables};
 ghost use Rattle.mgn_unit.specs.Rows.{IsChange, IsRoomy, IsRow, Prices};
 ghost use Rattle.mgn_unit.specs.declared.row.Row.{Row as UnitRow};
-ghost use Rattle.mgn_register.specs.Plans.{CanChange, Foresees, IsPossible, UnitNets, moved_nets, nets_in};
-ghost use Rattle.mgn_register.specs.declared.plans.Plan.TheVariants.{Nothing};
-ghost use Rattle.mgn_register.specs.TransferRows.{row_at};
+ghost use Rattle.mgn_plan.specs.Plans.{CanChange, Foresees, IsPossible, UnitNets, moved_nets, nets_in, row_at};
+ghost use Rattle.mgn_plan.specs.declared.plans.Plan.TheVariants.{Nothing};
 ghost use Rattle.mgn_pricing.specs.Desks.{IsReady, Rests, is_of, moves_of, required_by};
 
 use mgn_desk::{Desk, Moves, UnitNets};
 use mgn_params::{ParamSet, Version, Work};
-use mgn_register::{Known, Plan, UnitChange};
+use mgn_plan::{Known, Plan, UnitChange};
 use mgn_unit::{Change, Priced, Row};
 use std::alloc::{AllocError, Global};
 use std::marker::Model;

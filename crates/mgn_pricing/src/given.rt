@@ -3,12 +3,12 @@
 ghost use Rattle.std.specs.Prelude.{◌≡◌, ◌<◌, ◌==◌, IfSome, is_some, length, map, None, All};
 ghost use Rattle.std.specs.Option.{option_map_or};
 ghost use Rattle.std.specs.List.{list_any, position};
-ghost use Rattle.mgn_register.specs.Plans.{CanChange, Foresees, IsPossible};
+ghost use Rattle.mgn_plan.specs.Plans.{CanChange, Foresees, IsPossible};
 ghost use Rattle.mgn_span.specs.Scan.{value_at};
 ghost use Rattle.mgn_num.specs.Amount.{IsQuantity};
 ghost use Rattle.mgn_unit.specs.Rows.{IsChange, IsRoomy, IsRow, Prices, more_at};
-ghost use Rattle.mgn_register.specs.Plans.{moved_nets, nets_in};
-ghost use Rattle.mgn_register.specs.TransferRows.{row_at};
+ghost use Rattle.mgn_plan.specs.Plans.{moved_nets, nets_in};
+ghost use Rattle.mgn_plan.specs.Plans.{row_at};
 ghost use Rattle.std.specs.Prelude.{◌+ℤ◌};
 ghost use Rattle.mgn_pricing.specs.Desks.{four};
 ghost use Rattle.mgn_pricing.specs.Given.{IsRight, desk_of, fit_plan, fits, fits_change, is_older, is_one_older, same_nets};
@@ -17,7 +17,7 @@ use crate::desks::{is_of, priced};
 use mgn_desk::Desk;
 use mgn_num::Quantity;
 use mgn_params::{ParamSet, Version};
-use mgn_register::{Known, Plan, UnitChange};
+use mgn_plan::{Known, Plan, UnitChange};
 use mgn_unit::{Change, Gain, PortfolioRow, Priced, Row};
 
 // Whether a desk is marked under a version before this one.

@@ -10,13 +10,12 @@ use Rattle.mgn_unit.specs.declared.row.Row.{Row}
 use Rattle.mgn_unit.specs.Rows.{no_row, row_with}
 use Rattle.mgn_register.specs.declared.fault.Fault.{Fault}
 use Rattle.mgn_register.specs.declared.fault.Fault.TheVariants.{Refused, Memory}
-use Rattle.mgn_register.specs.declared.plans.Plan.{Plan}
-use Rattle.mgn_register.specs.declared.plans.Plan.TheVariants.{Nothing, One, Two}
-use Rattle.mgn_register.specs.declared.plans.UnitChange.{UnitChange}
+use Rattle.mgn_plan.specs.declared.plans.Plan.{Plan}
+use Rattle.mgn_plan.specs.declared.plans.Plan.TheVariants.{Nothing, One, Two}
+use Rattle.mgn_plan.specs.declared.plans.UnitChange.{UnitChange}
 use Rattle.mgn_register.specs.declared.transfers.Party.{Party}
 use Rattle.mgn_register.specs.BookStates.{BookState, Steps, answer_of}
-use Rattle.mgn_register.specs.Plans.{FollowsPlan, LeavesNets, UnitNets, both_plan, in_unit_of, moved_nets, nets_by, nets_in}
-use Rattle.mgn_register.specs.TransferRows.{row_at}
+use Rattle.mgn_plan.specs.Plans.{FollowsPlan, LeavesNets, UnitNets, both_plan, in_unit_of, moved_nets, nets_by, nets_in, row_at}
 use Rattle.mgn_register.proofs.Moving.{EnteredAcross, EnteredWithin}
 
 nets_by-same : (u : UnitChange) (k : ℕ) (nets : UnitNets) → u.unit ≡ k → nets_by u k nets ≡ moved_nets u.change nets

@@ -2,9 +2,9 @@
 use Rattle.std.specs.Prelude.{List}
 use Rattle.mgn_params.specs.Tables.{Tables}
 use Rattle.mgn_unit.specs.declared.row.Row.{Row}
-use Rattle.mgn_register.specs.declared.plans.Plan.{Plan}
-use Rattle.mgn_register.specs.declared.plans.Plan.TheVariants.{Nothing, One, Two}
-use Rattle.mgn_register.specs.Plans.{Foresees, nothing_known}
+use Rattle.mgn_plan.specs.declared.plans.Plan.{Plan}
+use Rattle.mgn_plan.specs.declared.plans.Plan.TheVariants.{Nothing, One, Two}
+use Rattle.mgn_plan.specs.Plans.{Foresees, nothing_known}
 
 -- where nothing is known, nothing wrong is
 pub foresees_nothing : (set : Tables) (rows : List Row) (plan : Plan) → Foresees set rows plan nothing_known

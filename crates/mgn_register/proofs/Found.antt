@@ -16,9 +16,9 @@ use Rattle.mgn_machine.specs.Holding.{hold_places}
 use Rattle.mgn_machine.specs.Refusals.{◌>>=◌, account_names, contract_of, is_over, place_of, refuse_if, trade_places}
 use Rattle.mgn_machine.specs.State.{AccountState, State, account_at}
 use Rattle.mgn_unit.specs.Changes.{hold_change, lot_change}
-use Rattle.mgn_register.specs.declared.plans.Plan.TheVariants.{One}
-use Rattle.mgn_register.specs.declared.plans.UnitChange.{UnitChange}
-use Rattle.mgn_register.specs.Plans.{hold_plan, in_unit_of, trade_plan}
+use Rattle.mgn_plan.specs.declared.plans.Plan.TheVariants.{One}
+use Rattle.mgn_plan.specs.declared.plans.UnitChange.{UnitChange}
+use Rattle.mgn_plan.specs.Plans.{hold_plan, in_unit_of, trade_plan}
 use Rattle.mgn_register.proofs.Kept.{found-Some}
 
 -- Chains of refusals that came to an end.

@@ -29,7 +29,8 @@ use Rattle.mgn_unit.proofs.TransferMoves.{moved-moves, row-within}
 use Rattle.mgn_register.specs.declared.fault.Fault.{Fault}
 use Rattle.mgn_register.specs.declared.fault.Fault.TheVariants.{Refused, Memory}
 use Rattle.mgn_register.specs.BookStates.{AsksMemory, BookState, book_state, IsKept, IsUnitRow, Steps}
-use Rattle.mgn_register.specs.TransferRows.{AskBoth, TakesChange, TakesLot, account_with, party_of, row_at, with_both}
+use Rattle.mgn_register.specs.TransferRows.{AskBoth, TakesChange, TakesLot, account_with, party_of, with_both}
+use Rattle.mgn_plan.specs.Plans.{row_at}
 use Rattle.mgn_register.specs.declared.transfers.Party.{Party}
 use Rattle.mgn_register.proofs.Kept.{unit-inside, home-inside, sizes-more, stands-inside, stands-known, names-kept}
 use Rattle.mgn_register.proofs.Holding.{Reads, stands, old-row, row-size, row-small, changed-roomy, changed-row, changed-kept, was-limits, was-known, asked-room}

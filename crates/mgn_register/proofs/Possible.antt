@@ -16,9 +16,8 @@ use Rattle.mgn_unit.specs.declared.row.Row.{Row}
 use Rattle.mgn_unit.specs.Changes.{bust_change, fill_change, hold_change, lot_change, release_change}
 use Rattle.mgn_unit.specs.Rows.{IsChange, IsRoomy, no_row}
 use Rattle.mgn_register.specs.BookStates.{BookState, IsKept}
-use Rattle.mgn_register.specs.declared.plans.UnitChange.{UnitChange}
-use Rattle.mgn_register.specs.Plans.{CanChange, IsPossible, both_plan, in_unit_of}
-use Rattle.mgn_register.specs.TransferRows.{row_at}
+use Rattle.mgn_plan.specs.declared.plans.UnitChange.{UnitChange}
+use Rattle.mgn_plan.specs.Plans.{CanChange, IsPossible, both_plan, in_unit_of, row_at}
 use Rattle.mgn_register.proofs.Busts.{Busting, bust-roomy}
 use Rattle.mgn_register.proofs.Holding.{Reads, fill-roomy, hold-roomy, old-row, release-roomy}
 use Rattle.mgn_register.proofs.Kept.{unit-inside}

@@ -3,5 +3,4 @@ pub mod BookStates
 pub mod Balances
 pub mod RoomAsked
 pub mod TransferRows
-pub mod Plans
 pub mod Fits

@@ -1,5 +1,5 @@
 -- The two parties of a transfer, in the lists of accounts and rows.
-use Rattle.std.specs.Prelude.{◌≡◌, ◌<◌, ℕ, ℤ, ◌||◌, false, true, List, length, slice_index_or, slice_set, Result, Ok, Err}
+use Rattle.std.specs.Prelude.{◌≡◌, ◌<◌, ℕ, ℤ, ◌||◌, false, true, List, length, slice_set, Result, Ok, Err}
 use Rattle.mgn_params.specs.Tables.{Tables}
 use Rattle.mgn_lots.specs.Lots.{IsLot, has_number, is_full}
 use Rattle.mgn_machine.specs.declared.command.Transfer.{Transfer}
@@ -8,14 +8,11 @@ use Rattle.mgn_machine.specs.State.{AccountState, account_at, with_lot}
 use Rattle.mgn_machine.specs.Transfers.{moved_lot}
 use Rattle.mgn_unit.specs.Changes.{moved_change}
 use Rattle.mgn_unit.specs.declared.row.Row.{Row}
-use Rattle.mgn_unit.specs.Rows.{IsChange, IsRoomy, IsRow, lacks_room, no_row}
+use Rattle.mgn_unit.specs.Rows.{IsChange, IsRoomy, IsRow, lacks_room}
+use Rattle.mgn_plan.specs.Plans.{row_at}
 use Rattle.mgn_register.specs.declared.fault.Fault.{Fault}
 use Rattle.mgn_register.specs.declared.fault.Fault.TheVariants.{Refused, Memory}
 use Rattle.mgn_register.specs.declared.transfers.Party.{Party}
-
--- the row of a unit
-abbrev pub row_at : Tables → List Row → ℕ → Row
-row_at set rows u = slice_index_or rows u (no_row set)
 
 -- the account of a party with its lot
 abbrev pub account_with : List AccountState → Party → AccountState

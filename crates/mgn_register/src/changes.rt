@@ -7,11 +7,11 @@ ghost use Rattle.mgn_machine.specs.Step.{traded, undone, posted, drawn};
 ghost use Rattle.mgn_machine.specs.Refusals.{bust_places, trade_places};
 ghost use Rattle.mgn_unit.specs.declared.row.Priced.{Priced};
 ghost use Rattle.mgn_register.specs.BookStates.{IsKept, Steps};
-ghost use Rattle.mgn_register.specs.Plans.{FollowsPlan, Foresees, bust_plan, trade_plan};
-ghost use Rattle.mgn_register.specs.declared.plans.Plan.TheVariants.{Nothing};
+ghost use Rattle.mgn_plan.specs.Plans.{FollowsPlan, Foresees, bust_plan, trade_plan};
+ghost use Rattle.mgn_plan.specs.declared.plans.Plan.TheVariants.{Nothing};
 
 use crate::fault::Fault;
-use crate::plans::{Known, Plan};
+use mgn_plan::{Known, Plan};
 use crate::register::Register;
 use mgn_ids::{AccountName, ClassName, ContractName, LotId, LotQuantity, Premium, Units};
 use mgn_lots::{Lot, Mark};

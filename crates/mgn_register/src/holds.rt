@@ -8,12 +8,12 @@ ghost use Rattle.mgn_unit.specs.Rows.{IsRow, IsChange, IsRoomy, Prices, row_with
 ghost use Rattle.mgn_machine.specs.Holding.{entered, filled, released, hold_places, fill_places, release_places, new_hold, with_hold, without_hold, with_fill, premium_fits_at};
 ghost use Rattle.mgn_unit.specs.declared.row.Priced.{Priced};
 ghost use Rattle.mgn_register.specs.BookStates.{IsKept, Steps};
-ghost use Rattle.mgn_register.specs.Plans.{FollowsPlan, Foresees, fill_plan, hold_plan, release_plan};
+ghost use Rattle.mgn_plan.specs.Plans.{FollowsPlan, Foresees, fill_plan, hold_plan, release_plan};
 ghost use Rattle.mgn_register.specs.RoomAsked.{AsksRoom};
 
 use crate::changes::{price, traded_lot};
 use crate::fault::Fault;
-use crate::plans::{Known, Plan};
+use mgn_plan::{Known, Plan};
 use crate::register::{Register, contract_of, is_over, known_contract, premium_fits, refuse_if};
 use mgn_holds::Held;
 use mgn_ids::{AccountName, OrderId, Premium};

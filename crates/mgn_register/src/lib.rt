@@ -15,6 +15,5 @@ mod totals;
 mod transfers;
 
 pub use fault::Fault;
-pub use plans::{Known, Plan, UnitChange};
 pub use register::Register;
 pub use steps::step;

@@ -5,8 +5,8 @@ ghost use Rattle.mgn_machine.specs.Refusals.{account_names, has_origin, home_of,
 ghost use Rattle.mgn_machine.specs.Step.{originated, opened, with_account};
 ghost use Rattle.mgn_unit.specs.Rows.{no_row};
 ghost use Rattle.mgn_machine.specs.declared.command.Mode.TheVariants.{Net};
-ghost use Rattle.mgn_register.specs.Plans.{FollowsPlan};
-ghost use Rattle.mgn_register.specs.declared.plans.Plan.TheVariants.{Nothing};
+ghost use Rattle.mgn_plan.specs.Plans.{FollowsPlan};
+ghost use Rattle.mgn_plan.specs.declared.plans.Plan.TheVariants.{Nothing};
 ghost use Rattle.mgn_register.specs.BookStates.{IsKept, Steps};
 
 use crate::fault::Fault;

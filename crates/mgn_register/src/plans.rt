@@ -6,50 +6,14 @@ ghost use Rattle.mgn_machine.specs.Refusals.{bust_places, contract_of, is_over, 
 ghost use Rattle.mgn_machine.specs.State.{account_at};
 ghost use Rattle.mgn_machine.specs.Transfers.{move_places};
 ghost use Rattle.mgn_register.specs.BookStates.{IsKept};
-ghost use Rattle.mgn_register.specs.Plans.{IsPossible, bust_plan, fill_plan, hold_plan, in_unit_of, move_plan, both_plan, plan_of, release_plan, trade_plan};
+ghost use Rattle.mgn_plan.specs.Plans.{IsPossible, bust_plan, fill_plan, hold_plan, in_unit_of, move_plan, both_plan, plan_of, release_plan, trade_plan};
 
 use crate::register::Register;
 use mgn_ids::{AccountName, LotId, OrderId};
 use mgn_machine::{Command, Fill, Hold, Refusal, Trade, Transfer};
 use mgn_params::ParamSet;
-use mgn_unit::{Change, Priced};
-
-/// What a command changes in the row of a margin unit.
-#[derive(Clone, Copy)]
-pub struct UnitChange {
-    /// The place of the account whose lots or holds change.
-    pub account: usize,
-    /// The unit's number.
-    pub unit: usize,
-    /// What changes in its row, in one contract.
-    pub change: Change,
-}
-
-/// What a command changes in the rows of margin units.
-#[derive(Clone, Copy)]
-pub enum Plan {
-    /// Nothing, or no portfolio.
-    Nothing,
-    /// One row.
-    One(UnitChange),
-    /// The rows of two units, those of the giver and the taker of a transfer.
-    Two(UnitChange, UnitChange),
-}
-
-/// What the units of a plan require once it is done, in its order, where that is known before.
-#[derive(Clone, Copy)]
-pub struct Known {
-    pub first: Option<Priced>,
-    pub second: Option<Priced>,
-}
-
-impl Known {
-    /// Nothing is known: what is required is worked out.
-    pub const NOTHING: Known = Known {
-        first: None,
-        second: None,
-    };
-}
+use mgn_plan::{Plan, UnitChange};
+use mgn_unit::Change;
 
 fn both(giver: UnitChange, taker: UnitChange) -> Plan
     ensures { result ≡ both_plan giver taker }

@@ -3,11 +3,11 @@ ghost use Rattle.mgn_machine.specs.Brief.{is_brief};
 ghost use Rattle.mgn_machine.specs.Refusals.{place_of};
 ghost use Rattle.mgn_machine.specs.Step.{step_under, asked, ended};
 ghost use Rattle.mgn_register.specs.BookStates.{IsKept, Steps, Replies, answer_of};
-ghost use Rattle.mgn_register.specs.Plans.{FollowsPlan, Foresees, LeavesNets, plan_of};
-ghost use Rattle.mgn_register.specs.declared.plans.Plan.TheVariants.{Nothing};
+ghost use Rattle.mgn_plan.specs.Plans.{FollowsPlan, Foresees, LeavesNets, plan_of};
+ghost use Rattle.mgn_plan.specs.declared.plans.Plan.TheVariants.{Nothing};
 
 use crate::fault::Fault;
-use crate::plans::{Known, Plan};
+use mgn_plan::{Known, Plan};
 use crate::register::{Register, refuse_if};
 use mgn_ids::AccountName;
 use mgn_machine::{Command, Refusal, Reply};

@@ -9,13 +9,13 @@ ghost use Rattle.mgn_span.specs.Scan.{value_at};
 ghost use Rattle.mgn_unit.specs.Rows.{IsChange, IsRow, Prices, row_with, row_with_size};
 ghost use Rattle.mgn_unit.specs.declared.row.Priced.{Priced};
 ghost use Rattle.mgn_register.specs.BookStates.{IsKept, Steps};
-ghost use Rattle.mgn_register.specs.Plans.{FollowsPlan, Foresees, move_plan};
+ghost use Rattle.mgn_plan.specs.Plans.{FollowsPlan, Foresees, move_plan, row_at};
 ghost use Rattle.mgn_register.specs.RoomAsked.{AsksRoom};
-ghost use Rattle.mgn_register.specs.TransferRows.{AskBoth, TakesChange, TakesLot, party_of, row_at, with_both};
+ghost use Rattle.mgn_register.specs.TransferRows.{AskBoth, TakesChange, TakesLot, party_of, with_both};
 
 use crate::changes::price;
 use crate::fault::Fault;
-use crate::plans::Known;
+use mgn_plan::Known;
 use crate::register::{Register, contract_of, passes_limit, refuse_if};
 use mgn_ids::{ContractName, LotId, LotQuantity};
 use mgn_lots::{Lot, Mark};

@@ -7,9 +7,9 @@ use Rattle.mgn_machine.specs.declared.command.Command.{Command}
 use Rattle.mgn_machine.specs.declared.request.Request.TheVariants.{Do}
 use Rattle.mgn_unit.specs.declared.row.Row.{Row}
 use Rattle.mgn_register.specs.BookStates.{BookState}
-use Rattle.mgn_register.specs.declared.plans.Plan.{Plan}
-use Rattle.mgn_register.specs.declared.plans.Plan.TheVariants.{Nothing}
-use Rattle.mgn_register.specs.Plans.{plan_of}
+use Rattle.mgn_plan.specs.declared.plans.Plan.{Plan}
+use Rattle.mgn_plan.specs.declared.plans.Plan.TheVariants.{Nothing}
+use Rattle.mgn_plan.specs.Plans.{plan_of}
 use Rattle.mgn_pricing.specs.Desks.{AreDesks}
 use Rattle.mgn_book.specs.BookViews.{BookView, Committed, Leaves}
 use Rattle.mgn_book.specs.declared.book.Outcome.{Outcome}

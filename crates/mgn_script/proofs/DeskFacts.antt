@@ -11,11 +11,10 @@ use Rattle.mgn_machine.specs.declared.reply.Reply.TheVariants as reply
 use Rattle.mgn_machine.specs.declared.request.Request.TheVariants.{Do}
 use Rattle.mgn_machine.proofs.Versions.{keeps_version}
 use Rattle.mgn_unit.specs.declared.row.Row.{Row}
-use Rattle.mgn_register.specs.declared.plans.Plan.{Plan}
-use Rattle.mgn_register.specs.declared.plans.Plan.TheVariants.{Nothing}
+use Rattle.mgn_plan.specs.declared.plans.Plan.{Plan}
+use Rattle.mgn_plan.specs.declared.plans.Plan.TheVariants.{Nothing}
 use Rattle.mgn_register.specs.BookStates.{BookState}
-use Rattle.mgn_register.specs.Plans.{FollowsPlan, UnitNets, nets_in}
-use Rattle.mgn_register.specs.TransferRows.{row_at}
+use Rattle.mgn_plan.specs.Plans.{FollowsPlan, UnitNets, nets_in, row_at}
 use Rattle.mgn_pricing.specs.Desks.{AreDesks, Rests, marked_at}
 use Rattle.mgn_book.specs.BookViews.{BookView, Committed, Leaves}
 use Rattle.mgn_book.specs.declared.book.Outcome.{Outcome}

@@ -6,8 +6,8 @@ use Rattle.mgn_desk.specs.Desks.{DeskRows}
 use Rattle.mgn_machine.specs.declared.reply.Reply.{Reply}
 use Rattle.mgn_machine.specs.declared.reply.Reply.TheVariants.{Done as Settled, Figures, NewSet, Refused, Statement, Totals}
 use Rattle.mgn_register.specs.BookStates.{BookState}
-use Rattle.mgn_register.specs.declared.plans.Plan.{Plan}
-use Rattle.mgn_register.specs.declared.plans.Plan.TheVariants.{Nothing}
+use Rattle.mgn_plan.specs.declared.plans.Plan.{Plan}
+use Rattle.mgn_plan.specs.declared.plans.Plan.TheVariants.{Nothing}
 use Rattle.mgn_pricing.specs.Desks.{AreDesks}
 use Rattle.mgn_book.specs.declared.book.Outcome.{Outcome}
 use Rattle.mgn_book.specs.declared.book.Outcome.TheVariants.{Done, Full, Memory}

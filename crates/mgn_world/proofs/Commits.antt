@@ -21,9 +21,9 @@ use Rattle.mgn_machine.specs.State.{AccountState, State}
 use Rattle.mgn_machine.specs.Step.{step, step_under, switched}
 use Rattle.mgn_machine.proofs.Versions.{keeps_version}
 use Rattle.mgn_unit.proofs.Covered.{covers-known}
-use Rattle.mgn_register.specs.declared.plans.Plan.{Plan}
-use Rattle.mgn_register.specs.declared.plans.Plan.TheVariants.{Nothing, One, Two}
-use Rattle.mgn_register.specs.Plans.{plan_of}
+use Rattle.mgn_plan.specs.declared.plans.Plan.{Plan}
+use Rattle.mgn_plan.specs.declared.plans.Plan.TheVariants.{Nothing, One, Two}
+use Rattle.mgn_plan.specs.Plans.{plan_of}
 use Rattle.mgn_world.specs.Claims.{HasPlan, IsAmong, IsReplayed, Rests, before_close}
 use Rattle.mgn_world.specs.declared.stages.Call.{Call}
 use Rattle.mgn_world.specs.declared.stages.Stage.{Stage}

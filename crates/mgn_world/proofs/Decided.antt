@@ -16,11 +16,10 @@ use Rattle.mgn_machine.specs.declared.request.Request.TheVariants.{Do}
 use Rattle.mgn_machine.specs.History.{calls, entry, recorded}
 use Rattle.mgn_machine.specs.State.{AccountState, State}
 use Rattle.mgn_unit.specs.Rows.{no_row, row_of}
-use Rattle.mgn_register.specs.declared.plans.Plan.{Plan}
-use Rattle.mgn_register.specs.declared.plans.Plan.TheVariants.{Nothing, One, Two}
-use Rattle.mgn_register.specs.declared.plans.UnitChange.{UnitChange}
-use Rattle.mgn_register.specs.Plans.{UnitNets, moved_nets, nets_by, nets_in, plan_of, planned_nets}
-use Rattle.mgn_register.specs.TransferRows.{row_at}
+use Rattle.mgn_plan.specs.declared.plans.Plan.{Plan}
+use Rattle.mgn_plan.specs.declared.plans.Plan.TheVariants.{Nothing, One, Two}
+use Rattle.mgn_plan.specs.declared.plans.UnitChange.{UnitChange}
+use Rattle.mgn_plan.specs.Plans.{UnitNets, moved_nets, nets_by, nets_in, plan_of, planned_nets, row_at}
 use Rattle.mgn_pricing.specs.Desks.{four}
 use Rattle.mgn_pricing.specs.Given.{IsRight, desk_of, fit_plan, fits, fits_change, is_older, is_one_older, marked_in, same_four}
 use Rattle.mgn_book.specs.BookViews.{BookView, Committed, Stands}

@@ -9,10 +9,10 @@ use Rattle.mgn_desk.specs.Desks.{MarkedNets, Shown, moved_marked}
 use Rattle.mgn_desk.specs.Portfolios.{opposite}
 use Rattle.mgn_desk.proofs.MovedLemmas.{desk_back}
 use Rattle.mgn_machine.specs.State.{AccountState}
-use Rattle.mgn_register.specs.declared.plans.Plan.{Plan}
-use Rattle.mgn_register.specs.declared.plans.Plan.TheVariants.{Nothing, One, Two}
-use Rattle.mgn_register.specs.declared.plans.UnitChange.{UnitChange}
-use Rattle.mgn_register.specs.Plans.{UnitNets, moved_nets, nets_by, nets_in, planned_nets}
+use Rattle.mgn_plan.specs.declared.plans.Plan.{Plan}
+use Rattle.mgn_plan.specs.declared.plans.Plan.TheVariants.{Nothing, One, Two}
+use Rattle.mgn_plan.specs.declared.plans.UnitChange.{UnitChange}
+use Rattle.mgn_plan.specs.Plans.{UnitNets, moved_nets, nets_by, nets_in, planned_nets}
 use Rattle.mgn_unit.specs.Rows.{row_of}
 use Rattle.mgn_pricing.specs.Desks.{four, moves_of}
 use Rattle.mgn_world.specs.Claims.{HasPlan, IsAmong, Rests}

@@ -42,10 +42,10 @@ use Rattle.mgn_unit.proofs.HoldMoves.{All-removed, hold-moves, release-moves}
 use Rattle.mgn_unit.proofs.Moved.{Stands, row-apart, row-moved}
 use Rattle.mgn_unit.proofs.Sums.{sum-apart, sum-moved}
 use Rattle.mgn_unit.proofs.TransferMoves.{moved-moves}
-use Rattle.mgn_register.specs.declared.plans.Plan.{Plan}
-use Rattle.mgn_register.specs.declared.plans.Plan.TheVariants.{Nothing, One, Two}
-use Rattle.mgn_register.specs.declared.plans.UnitChange.{UnitChange}
-use Rattle.mgn_register.specs.Plans.{UnitNets, bust_plan, bust_plan_at, fill_plan, fill_plan_at, hold_plan, in_unit_of, move_plan, moved_nets, nets_by, nets_in, plan_of, release_plan, release_plan_at, trade_plan}
+use Rattle.mgn_plan.specs.declared.plans.Plan.{Plan}
+use Rattle.mgn_plan.specs.declared.plans.Plan.TheVariants.{Nothing, One, Two}
+use Rattle.mgn_plan.specs.declared.plans.UnitChange.{UnitChange}
+use Rattle.mgn_plan.specs.Plans.{UnitNets, bust_plan, bust_plan_at, fill_plan, fill_plan_at, hold_plan, in_unit_of, move_plan, moved_nets, nets_by, nets_in, plan_of, release_plan, release_plan_at, trade_plan}
 use Rattle.mgn_register.proofs.Kept.{contract-stands, found-Some, known-stands, stands-known}
 use Rattle.mgn_pricing.specs.Desks.{four}
 use Rattle.mgn_world.specs.Claims.{IsAmong}

@@ -10,8 +10,8 @@ use Rattle.mgn_desk.specs.Portfolios.{FourNets}
 use Rattle.mgn_machine.specs.declared.command.Command.{Command}
 use Rattle.mgn_machine.specs.Refusals.{IsKnown}
 use Rattle.mgn_machine.specs.State.{AccountState, State}
-use Rattle.mgn_register.specs.declared.plans.Plan.{Plan}
-use Rattle.mgn_register.specs.Plans.{UnitNets, plan_of, planned_nets}
+use Rattle.mgn_plan.specs.declared.plans.Plan.{Plan}
+use Rattle.mgn_plan.specs.Plans.{UnitNets, plan_of, planned_nets}
 use Rattle.mgn_pricing.specs.Desks.{four}
 use Rattle.mgn_world.specs.Claims.{HasPlan, IsAmong, IsReplayed, Rests, before_close}
 use Rattle.mgn_world.specs.declared.stages.Call.{Call}

@@ -11,11 +11,10 @@ use Rattle.mgn_unit.specs.declared.row.Row.{Row}
 use Rattle.mgn_unit.specs.Prepared.{copied}
 use Rattle.mgn_unit.specs.Rows.{IsRow, no_row}
 use Rattle.mgn_register.specs.BookStates.{BookState, IsKept}
-use Rattle.mgn_register.specs.declared.plans.Plan.{Plan}
-use Rattle.mgn_register.specs.declared.plans.Plan.TheVariants.{Nothing, One, Two}
-use Rattle.mgn_register.specs.declared.plans.UnitChange.{UnitChange}
-use Rattle.mgn_register.specs.Plans.{CanChange, IsPossible, plan_of}
-use Rattle.mgn_register.specs.TransferRows.{row_at}
+use Rattle.mgn_plan.specs.declared.plans.Plan.{Plan}
+use Rattle.mgn_plan.specs.declared.plans.Plan.TheVariants.{Nothing, One, Two}
+use Rattle.mgn_plan.specs.declared.plans.UnitChange.{UnitChange}
+use Rattle.mgn_plan.specs.Plans.{CanChange, IsPossible, plan_of, row_at}
 use Rattle.mgn_pricing.proofs.Moved.{net-moved}
 use Rattle.mgn_world.specs.Claims.{IsAmong}
 use Rattle.mgn_world.specs.declared.stages.Call.{Call}

@@ -17,9 +17,9 @@ use Rattle.mgn_machine.specs.History.{Legal, calls, entry, next as next_of, reco
 use Rattle.mgn_machine.proofs.Histories.{legal-more, legal_from-push, replay-more, replay-push}
 use Rattle.mgn_machine.proofs.Versions.{keeps_version}
 use Rattle.mgn_book.specs.BookViews.{sets_after}
-use Rattle.mgn_register.specs.declared.plans.Plan.{Plan}
-use Rattle.mgn_register.specs.declared.plans.Plan.TheVariants.{Nothing, One, Two}
-use Rattle.mgn_register.specs.Plans.{plan_of}
+use Rattle.mgn_plan.specs.declared.plans.Plan.{Plan}
+use Rattle.mgn_plan.specs.declared.plans.Plan.TheVariants.{Nothing, One, Two}
+use Rattle.mgn_plan.specs.Plans.{plan_of}
 use Rattle.mgn_world.specs.declared.stages.Call.{Call}
 use Rattle.mgn_world.specs.declared.stages.Deed.{Deed}
 use Rattle.mgn_world.specs.declared.stages.Deed.TheVariants.{Begin, Look, Mark, Apply, Commit, Back, End, Gather, Prepare}

@@ -20,9 +20,9 @@ use Rattle.mgn_machine.specs.Refusals.{◌>>=◌, bust_places, contract_of, foun
 use Rattle.mgn_machine.specs.State.{State, account_at}
 use Rattle.mgn_machine.specs.Transfers.{move_places, parties, quantity_in_unit}
 use Rattle.mgn_unit.specs.Changes.{bust_change, fill_change, hold_change, lot_change, moved_change, release_change}
-use Rattle.mgn_register.specs.declared.plans.Plan.TheVariants.{Nothing, One, Two}
-use Rattle.mgn_register.specs.declared.plans.UnitChange.{UnitChange}
-use Rattle.mgn_register.specs.Plans.{both_plan, bust_plan, bust_plan_at, fill_plan, fill_plan_at, hold_plan, move_plan, plan_of, release_plan, release_plan_at, trade_plan}
+use Rattle.mgn_plan.specs.declared.plans.Plan.TheVariants.{Nothing, One, Two}
+use Rattle.mgn_plan.specs.declared.plans.UnitChange.{UnitChange}
+use Rattle.mgn_plan.specs.Plans.{both_plan, bust_plan, bust_plan_at, fill_plan, fill_plan_at, hold_plan, move_plan, plan_of, release_plan, release_plan_at, trade_plan}
 use Rattle.mgn_world.specs.Claims.{IsAmong, before_close}
 use Rattle.mgn_world.specs.World.{in_order, plan_units, unit_found, units_found, units_of}
 use Rattle.mgn_world.proofs.Places.{bust_at, fill_at, hold_takes, move_at, parties_at, release_at, trade_at}

@@ -10,9 +10,9 @@ use Rattle.mgn_machine.specs.declared.request.Request.TheVariants.{Do, Switch}
 use Rattle.mgn_machine.specs.NewSet.{on_call, set_fits}
 use Rattle.mgn_machine.specs.Step.{step, switched}
 use Rattle.mgn_machine.proofs.Versions.{keeps_version}
-use Rattle.mgn_register.specs.declared.plans.Plan.{Plan}
-use Rattle.mgn_register.specs.declared.plans.Plan.TheVariants.{Nothing, One, Two}
-use Rattle.mgn_register.specs.Plans.{plan_of}
+use Rattle.mgn_plan.specs.declared.plans.Plan.{Plan}
+use Rattle.mgn_plan.specs.declared.plans.Plan.TheVariants.{Nothing, One, Two}
+use Rattle.mgn_plan.specs.Plans.{plan_of}
 use Rattle.mgn_world.specs.Claims.{KeepsSets, Switches}
 use Rattle.mgn_world.specs.declared.stages.Call.{Call}
 use Rattle.mgn_world.specs.declared.stages.Deed.{Deed}

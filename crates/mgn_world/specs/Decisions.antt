@@ -2,7 +2,7 @@
 use Rattle.std.specs.Prelude.{ℕ, ◌≡◌, ◌+◌, true, false}
 use Rattle.mgn_machine.specs.declared.request.Request.TheVariants.{Do}
 use Rattle.mgn_machine.specs.History.{calls}
-use Rattle.mgn_register.specs.Plans.{plan_of}
+use Rattle.mgn_plan.specs.Plans.{plan_of}
 use Rattle.mgn_book.specs.BookViews.{BookView, Committed}
 use Rattle.mgn_book.specs.declared.book.Outcome.TheVariants.{Done as Settled}
 use Rattle.mgn_book.specs.declared.by_desks.Decision.{Decision}

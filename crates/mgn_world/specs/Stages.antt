@@ -5,7 +5,7 @@ use Rattle.mgn_desk.specs.Portfolios.{FourNets}
 use Rattle.mgn_unit.specs.declared.prepared.CopiedNets.{CopiedNets}
 use Rattle.mgn_unit.specs.declared.row.PreparedUnit.{PreparedUnit}
 use Rattle.mgn_unit.specs.NewSets.{ArePrepared}
-use Rattle.mgn_register.specs.declared.plans.Plan.{Plan}
+use Rattle.mgn_plan.specs.declared.plans.Plan.{Plan}
 
 -- a unit, and the nets of its portfolios as they were looked at
 pub record Seen : Type 0 where

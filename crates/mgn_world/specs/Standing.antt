@@ -8,8 +8,8 @@ use Rattle.mgn_machine.specs.declared.command.Command.{Command}
 use Rattle.mgn_machine.specs.declared.origin.Origin.{Origin}
 use Rattle.mgn_machine.specs.Refusals.{IsKnown}
 use Rattle.mgn_machine.specs.State.{AccountState, State}
-use Rattle.mgn_register.specs.declared.plans.Plan.TheVariants.{Nothing}
-use Rattle.mgn_register.specs.Plans.{plan_of}
+use Rattle.mgn_plan.specs.declared.plans.Plan.TheVariants.{Nothing}
+use Rattle.mgn_plan.specs.Plans.{plan_of}
 use Rattle.mgn_world.specs.Claims.{HasPlan, IsAmong, IsReplayed, Rests, before_close}
 use Rattle.mgn_world.specs.declared.stages.Call.{Call}
 use Rattle.mgn_world.specs.declared.stages.Stage.{Stage}

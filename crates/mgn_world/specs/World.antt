@@ -22,10 +22,10 @@ use Rattle.mgn_machine.specs.State.{AccountState, State, account_at, start}
 use Rattle.mgn_machine.specs.Step.{step}
 use Rattle.mgn_unit.specs.NewSets.{is_covered}
 use Rattle.mgn_unit.specs.Rows.{row_of}
-use Rattle.mgn_register.specs.declared.plans.Plan.{Plan}
-use Rattle.mgn_register.specs.declared.plans.Plan.TheVariants.{Nothing, One, Two}
-use Rattle.mgn_register.specs.declared.plans.UnitChange.{UnitChange}
-use Rattle.mgn_register.specs.Plans.{nets_in, plan_of, planned_nets}
+use Rattle.mgn_plan.specs.declared.plans.Plan.{Plan}
+use Rattle.mgn_plan.specs.declared.plans.Plan.TheVariants.{Nothing, One, Two}
+use Rattle.mgn_plan.specs.declared.plans.UnitChange.{UnitChange}
+use Rattle.mgn_plan.specs.Plans.{nets_in, plan_of, planned_nets}
 use Rattle.mgn_pricing.specs.Desks.{four, moves_of}
 use Rattle.mgn_book.specs.BookViews.{sets_after}
 use Rattle.mgn_world.specs.declared.stages.Call.{Call}

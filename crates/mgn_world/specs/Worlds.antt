@@ -6,8 +6,8 @@ use Rattle.mgn_desk.specs.Portfolios.{AreFourNets, CanMove, FourNets}
 use Rattle.mgn_unit.specs.declared.change.Change.{Change}
 use Rattle.mgn_unit.specs.declared.row.Row.{Row}
 use Rattle.mgn_unit.specs.Prepared.{copied}
-use Rattle.mgn_register.specs.declared.plans.Plan.{Plan}
-use Rattle.mgn_register.specs.declared.plans.Plan.TheVariants.{Nothing, One, Two}
+use Rattle.mgn_plan.specs.declared.plans.Plan.{Plan}
+use Rattle.mgn_plan.specs.declared.plans.Plan.TheVariants.{Nothing, One, Two}
 use Rattle.mgn_pricing.specs.Desks.{moves_of}
 use Rattle.mgn_book.specs.BookViews.{Stands}
 use Rattle.mgn_world.specs.declared.stages.Stage.{Stage}

@@ -11,7 +11,7 @@ use crate::unit_desks::{apply, are_of, mark_first, take_back};
 use crate::units::Units;
 use crate::world::World;
 use mgn_machine::Command;
-use mgn_register::{Plan, UnitChange};
+use mgn_plan::{Plan, UnitChange};
 use mgn_unit::Row;
 use std::alloc::{AllocError, Global};
 

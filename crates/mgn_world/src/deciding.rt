@@ -14,7 +14,7 @@ use crate::stages::{Stage, set_failed, set_settled};
 use crate::world::{World, session_at};
 use mgn_book::Decision;
 use mgn_machine::Reply;
-use mgn_register::Plan;
+use mgn_plan::Plan;
 use std::alloc::{AllocError, Global};
 
 fn is_done(reply: &Reply) -> bool

@@ -6,7 +6,7 @@ ghost use Rattle.mgn_machine.specs.declared.reply.Refusal.{Refusal};
 ghost use Rattle.mgn_machine.specs.declared.reply.Reply.TheVariants.{Refused};
 ghost use Rattle.mgn_machine.specs.declared.request.Request.TheVariants.{Do};
 ghost use Rattle.mgn_machine.specs.Step.{step};
-ghost use Rattle.mgn_register.specs.Plans.{plan_of};
+ghost use Rattle.mgn_plan.specs.Plans.{plan_of};
 ghost use Rattle.mgn_world.specs.Claims.{HasPlan, IsAmong, IsIn, IsReached, IsReplayed, KeepsSets, Rests, Switches, before_close, shown_now};
 ghost use Rattle.mgn_world.specs.declared.stages.Call.{Call};
 ghost use Rattle.mgn_world.specs.declared.stages.Deed.TheVariants.{Commit};

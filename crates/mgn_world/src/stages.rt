@@ -7,7 +7,7 @@ ghost use Rattle.mgn_world.specs.Stages.{Gathering as GatheringValue, View};
 
 use mgn_machine::Command;
 use mgn_params::{ParamSet, Version};
-use mgn_register::Plan;
+use mgn_plan::Plan;
 use mgn_unit::{CopiedNets, PreparedUnit};
 use std::marker::Model;
 use std::mem;

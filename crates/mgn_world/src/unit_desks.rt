@@ -12,7 +12,7 @@ use crate::stages::Seen;
 use mgn_desk::{Desk, UnitNets};
 use mgn_params::{SetList, Shelf, Version, Work};
 use mgn_pricing::{is_of, moves_of};
-use mgn_register::{Plan, UnitChange};
+use mgn_plan::{Plan, UnitChange};
 use std::alloc::{AllocError, Global};
 
 /// Whether the desks of all units that were looked at are of a version.

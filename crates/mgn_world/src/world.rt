@@ -3,8 +3,8 @@
 ghost use Rattle.std.specs.Prelude.{◌≡◌, ◌+◌, ◌<◌, ◌≤◌, List, map, length, IfOk, OnOk};
 ghost use Rattle.mgn_params.specs.Tables.{Tables};
 ghost use Rattle.mgn_machine.specs.declared.request.Request.TheVariants.{Do};
-ghost use Rattle.mgn_register.specs.declared.plans.Plan.TheVariants.{Nothing};
-ghost use Rattle.mgn_register.specs.Plans.{plan_of};
+ghost use Rattle.mgn_plan.specs.declared.plans.Plan.TheVariants.{Nothing};
+ghost use Rattle.mgn_plan.specs.Plans.{plan_of};
 ghost use Rattle.mgn_world.specs.DeskMoves.{AreDesks, desk_shown};
 ghost use Rattle.mgn_world.specs.Standing.{Good};
 ghost use Rattle.mgn_world.specs.World.{entered, finished, in_force, lengthened, opening};

@@ -1,5 +1,6 @@
 use command_line::SetFile;
 use mgn_script::{Plain, run_script};
+use mgn_params::ParamSet;
 use mgn_session::{Conversation, Counted};
 use spand_lib::{Fault, Folder};
 use std::io;
@@ -9,12 +10,19 @@ use std::rt::Files;
 pub fn run<R: Files + Input + Print + AllocGlobal>(rt: &R, file: &SetFile) -> Result<(), Fault> {
     let mut folder = Folder::new(rt, file.dir.as_str());
     let first = spand_lib::read(rt.alloc(), &mut folder, file.set.as_str())?;
-    let mut plain = Plain::new(rt.alloc(), first.set)?;
+    answer(rt, first.set, &mut folder)
+}
+
+fn answer<R: Files + Input + Print + AllocGlobal>(
+    rt: &R,
+    first: ParamSet,
+    folder: &mut Folder<'_, R>,
+) -> Result<(), Fault> {
+    let mut plain = Plain::new(rt.alloc(), first)?;
     let reader = Counted::new(rt.reader());
     let writer = Counted::new(io::writer(rt));
     let mut talk = Conversation::new(rt.alloc(), reader, writer);
-    match run_script(rt.alloc(), &mut talk, &mut plain, &mut folder) {
-        Ok(_) => Ok(()),
-        Err(fault) => Err(Fault::Session(fault)),
-    }
+    run_script(rt.alloc(), &mut talk, &mut plain, folder)
+        .map(|_| ())
+        .map_err(Fault::Session)
 }

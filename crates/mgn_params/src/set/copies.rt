@@ -5,7 +5,7 @@ ghost use Rattle.mgn_params.specs.Limits.{class_names, commodity_names, contract
 
 use crate::commodity_rows::CommodityRows;
 use crate::set::ParamSet;
-use crate::tables::{Class, Commodity, Contract};
+use crate::tables::{Class, Commodity, Contract, CreditSpread, Month, SpotCharge, Spread};
 use mgn_ids::{ClassName, CommodityName, ContractName, Places};
 use std::alloc::{AllocError, Global};
 
@@ -59,23 +59,75 @@ fn copies_of_rows(alloc: Global, rows: &[CommodityRows]) -> Result<Vec<Commodity
 }
 
 impl ParamSet {
+    // Its commodities, months and contracts.
+    fn copied_contracts(
+        &self,
+        alloc: Global,
+    ) -> Result<(Vec<Commodity>, Vec<Month>, Vec<Contract>), AllocError>
+        ensures commodities { IfOk result (λ rows. rows.0.items ≡ self.now.commodities) }
+        ensures months { IfOk result (λ rows. rows.1.items ≡ self.now.months) }
+        ensures contracts { IfOk result (λ rows. rows.2.items ≡ self.now.contracts) }
+    {
+        let commodities = Vec::from_slice(alloc, self.commodities.as_slice())?;
+        let months = Vec::from_slice(alloc, self.months.as_slice())?;
+        let contracts = Vec::from_slice(alloc, self.contracts.as_slice())?;
+        Ok((commodities, months, contracts))
+    }
+
+    // Its spreads of both kinds, classes and spot charges.
+    fn copied_charges(
+        &self,
+        alloc: Global,
+    ) -> Result<(Vec<Spread>, Vec<CreditSpread>, Vec<Class>, Vec<SpotCharge>), AllocError>
+        ensures spreads { IfOk result (λ rows. rows.0.items ≡ self.now.spreads) }
+        ensures credits { IfOk result (λ rows. rows.1.items ≡ self.now.credits) }
+        ensures classes { IfOk result (λ rows. rows.2.items ≡ self.now.classes) }
+        ensures spots { IfOk result (λ rows. rows.3.items ≡ self.now.spots) }
+    {
+        let spreads = Vec::from_slice(alloc, self.spreads.as_slice())?;
+        let credits = Vec::from_slice(alloc, self.credits.as_slice())?;
+        let classes = Vec::from_slice(alloc, self.classes.as_slice())?;
+        let spots = Vec::from_slice(alloc, self.spots.as_slice())?;
+        Ok((spreads, credits, classes, spots))
+    }
+
+    // Where its names stand.
+    fn copied_places(
+        &self,
+        alloc: Global,
+    ) -> Result<(Places<CommodityName>, Places<ContractName>, Places<ClassName>), AllocError>
+        ensures commodities { IfOk result (λ places. places.0 ≡ commodity_names self.now.commodities) }
+        ensures contracts { IfOk result (λ places. places.1 ≡ contract_names self.now.contracts) }
+        ensures classes { IfOk result (λ places. places.2 ≡ class_names self.now.classes) }
+    {
+        let commodities = places_of_commodities(alloc, self.commodities.as_slice())?;
+        let contracts = places_of_contracts(alloc, self.contracts.as_slice())?;
+        let classes = places_of_classes(alloc, self.classes.as_slice())?;
+        Ok((commodities, contracts, classes))
+    }
+
     /// An equal set.
     pub fn copy(&self, alloc: Global) -> Result<ParamSet, AllocError>
         ensures { IfOk result (λ set. set ≡ self.now) }
     {
+        // (each way out drops all that it owns, so what is copied comes in parts)
+        let commodity_rows = copies_of_rows(alloc, self.commodity_rows.as_slice())?;
+        let (commodities, months, contracts) = self.copied_contracts(alloc)?;
+        let (spreads, credits, classes, spots) = self.copied_charges(alloc)?;
+        let (commodity_places, contract_places, class_places) = self.copied_places(alloc)?;
         Ok(ParamSet {
             name: self.name,
-            commodities: Vec::from_slice(alloc, self.commodities.as_slice())?,
-            months: Vec::from_slice(alloc, self.months.as_slice())?,
-            contracts: Vec::from_slice(alloc, self.contracts.as_slice())?,
-            spreads: Vec::from_slice(alloc, self.spreads.as_slice())?,
-            credits: Vec::from_slice(alloc, self.credits.as_slice())?,
-            classes: Vec::from_slice(alloc, self.classes.as_slice())?,
-            spots: Vec::from_slice(alloc, self.spots.as_slice())?,
-            commodity_places: places_of_commodities(alloc, self.commodities.as_slice())?,
-            contract_places: places_of_contracts(alloc, self.contracts.as_slice())?,
-            class_places: places_of_classes(alloc, self.classes.as_slice())?,
-            commodity_rows: copies_of_rows(alloc, self.commodity_rows.as_slice())?,
+            commodities,
+            months,
+            contracts,
+            spreads,
+            credits,
+            classes,
+            spots,
+            commodity_places,
+            contract_places,
+            class_places,
+            commodity_rows,
         })
     }
 }

@@ -2,7 +2,7 @@ use Rattle.std.proofs.Common.{ap, ◌∙◌, sym, subst}
 use Rattle.mgn_desk.specs.declared.moves.Moves.{Moves}
 use Rattle.mgn_desk.specs.Desks.{CanMoveMarked, Shown, marked_with, moved_desk}
 use Rattle.mgn_desk.specs.Portfolios.{opposite}
-use Rattle.mgn_register.specs.Plans.{nets_in}
+use Rattle.mgn_plan.specs.Plans.{nets_in}
 use Rattle.mgn_pricing.specs.Desks.{four}
 use Rattle.mgn_pricing.proofs.Moved.{can_move_back, moved-shown, ready-shown}
 use Rattle.mgn_pricing.proofs.desks.take_back.Goals as goal

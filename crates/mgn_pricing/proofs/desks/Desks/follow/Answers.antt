@@ -1,6 +1,6 @@
 use Rattle.std.proofs.Common.{sym, subst}
-use Rattle.mgn_register.specs.declared.plans.Plan.{Plan}
-use Rattle.mgn_register.specs.Plans.{IsPossible}
+use Rattle.mgn_plan.specs.declared.plans.Plan.{Plan}
+use Rattle.mgn_plan.specs.Plans.{IsPossible}
 use Rattle.mgn_pricing.specs.Desks.{AreDesks, KeepsUnplanned}
 use Rattle.mgn_pricing.proofs.Planned.{one-moved, two-keeps, two-moved}
 use Rattle.mgn_pricing.proofs.desks.Desks.follow.Goals as goal

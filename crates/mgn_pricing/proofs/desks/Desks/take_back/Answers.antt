@@ -1,6 +1,6 @@
 use Rattle.std.proofs.Common.{subst}
-use Rattle.mgn_register.specs.declared.plans.Plan.{Plan}
-use Rattle.mgn_register.specs.Plans.{IsPossible}
+use Rattle.mgn_plan.specs.declared.plans.Plan.{Plan}
+use Rattle.mgn_plan.specs.Plans.{IsPossible}
 use Rattle.mgn_pricing.specs.Desks.{AreDesks}
 use Rattle.mgn_pricing.proofs.Planned.{one-back, second-back}
 use Rattle.mgn_pricing.proofs.desks.Desks.take_back.Goals as goal

@@ -11,10 +11,10 @@ use Rattle.mgn_machine.specs.State.{AccountState, no_account, account_at, with_b
 use Rattle.mgn_register.specs.BookStates.{BookState, IsKept, book_state}
 use Rattle.mgn_register.proofs.Busts.{Busting, bust-roomy, bust-kept}
 use Rattle.mgn_register.proofs.Kept.{names-kept, kept-same}
-use Rattle.mgn_register.specs.declared.plans.Plan.{Plan}
-use Rattle.mgn_register.specs.declared.plans.Plan.TheVariants.{One}
+use Rattle.mgn_plan.specs.declared.plans.Plan.{Plan}
+use Rattle.mgn_plan.specs.declared.plans.Plan.TheVariants.{One}
 use Rattle.mgn_register.proofs.Following.{follows-planned}
-use Rattle.mgn_register.specs.Plans.{in_unit_of, bust_plan, bust_plan_at}
+use Rattle.mgn_plan.specs.Plans.{in_unit_of, bust_plan, bust_plan_at}
 use Rattle.mgn_register.proofs.register.Register.bust.Goals as goal
 
 pub bust_lot-requires-clause-roomy : goal.bust_lot-requires-clause-roomy

@@ -1,7 +1,7 @@
 use Rattle.std.proofs.Common.{rules, subst}
-use Rattle.mgn_register.specs.declared.plans.Plan.TheVariants.{Nothing}
+use Rattle.mgn_plan.specs.declared.plans.Plan.TheVariants.{Nothing}
 use Rattle.mgn_register.specs.BookStates.{BookState, IsKept, book_state}
-use Rattle.mgn_register.specs.Plans.{FollowsPlan}
+use Rattle.mgn_plan.specs.Plans.{FollowsPlan}
 use Rattle.mgn_register.proofs.Following.{follows-same}
 use Rattle.mgn_register.proofs.Kept.{kept-closed}
 use Rattle.mgn_register.proofs.register.Register.end.Goals as goal

@@ -15,10 +15,10 @@ use Rattle.mgn_machine.specs.State.{AccountState, no_account, account_at, traded
 use Rattle.mgn_register.specs.BookStates.{BookState, IsKept, book_state}
 use Rattle.mgn_register.proofs.Kept.{names-kept}
 use Rattle.mgn_register.proofs.Holding.{Reads, same-state, fill-roomy, fill-kept}
-use Rattle.mgn_register.specs.declared.plans.Plan.{Plan}
-use Rattle.mgn_register.specs.declared.plans.Plan.TheVariants.{One}
+use Rattle.mgn_plan.specs.declared.plans.Plan.{Plan}
+use Rattle.mgn_plan.specs.declared.plans.Plan.TheVariants.{One}
 use Rattle.mgn_register.proofs.Following.{follows-planned}
-use Rattle.mgn_register.specs.Plans.{in_unit_of, fill_plan, fill_plan_at}
+use Rattle.mgn_plan.specs.Plans.{in_unit_of, fill_plan, fill_plan_at}
 use Rattle.mgn_register.proofs.register.Register.fill.Goals as goal
 
 pub fill_hold-requires-clause-roomy : goal.fill_hold-requires-clause-roomy

@@ -14,10 +14,10 @@ use Rattle.mgn_register.specs.BookStates.{BookState, IsKept, Steps, book_state}
 use Rattle.mgn_register.specs.RoomAsked.{AsksRoom}
 use Rattle.mgn_register.proofs.Kept.{names-kept}
 use Rattle.mgn_register.proofs.Holding.{Reads, account-read, hold-roomy, hold-kept, hold-done, hold-refused, same-state}
-use Rattle.mgn_register.specs.declared.plans.Plan.{Plan}
-use Rattle.mgn_register.specs.declared.plans.Plan.TheVariants.{One}
+use Rattle.mgn_plan.specs.declared.plans.Plan.{Plan}
+use Rattle.mgn_plan.specs.declared.plans.Plan.TheVariants.{One}
 use Rattle.mgn_register.proofs.Following.{follows-planned}
-use Rattle.mgn_register.specs.Plans.{in_unit_of, hold_plan}
+use Rattle.mgn_plan.specs.Plans.{in_unit_of, hold_plan}
 use Rattle.mgn_register.proofs.register.Register.hold.Goals as goal
 
 pub enter_hold-requires-clause-roomy : goal.enter_hold-requires-clause-roomy

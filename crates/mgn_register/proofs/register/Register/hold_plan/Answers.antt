@@ -3,8 +3,8 @@ use Rattle.mgn_unit.specs.declared.change.Change.{Change}
 use Rattle.mgn_unit.specs.Changes.{hold_change}
 use Rattle.mgn_unit.specs.Rows.{IsChange}
 use Rattle.mgn_register.specs.BookStates.{BookState}
-use Rattle.mgn_register.specs.declared.plans.UnitChange.{UnitChange}
-use Rattle.mgn_register.specs.Plans.{CanChange, in_unit_of}
+use Rattle.mgn_plan.specs.declared.plans.UnitChange.{UnitChange}
+use Rattle.mgn_plan.specs.Plans.{CanChange, in_unit_of}
 use Rattle.mgn_register.proofs.Possible.{hold-possible}
 use Rattle.mgn_register.proofs.register.Register.hold_plan.Goals as goal
 

@@ -5,8 +5,8 @@ use Rattle.mgn_unit.specs.declared.change.Change.{Change}
 use Rattle.mgn_unit.specs.Changes.{moved_change}
 use Rattle.mgn_unit.specs.Rows.{IsChange}
 use Rattle.mgn_register.specs.BookStates.{BookState}
-use Rattle.mgn_register.specs.declared.plans.Plan.{Plan}
-use Rattle.mgn_register.specs.Plans.{CanChange, IsPossible, both_plan, in_unit_of}
+use Rattle.mgn_plan.specs.declared.plans.Plan.{Plan}
+use Rattle.mgn_plan.specs.Plans.{CanChange, IsPossible, both_plan, in_unit_of}
 use Rattle.mgn_register.proofs.Moving.{Moving, giver-takes, inside-set, taker-takes}
 use Rattle.mgn_register.proofs.Possible.{both-possible}
 use Rattle.mgn_register.proofs.register.Register.move_plan.Goals as goal

@@ -2,9 +2,9 @@ use Rattle.std.proofs.Common.{◌≡◌, ◌<◌, ◌++◌, ◌∷◌, [], List,
 use Rattle.mgn_machine.specs.State.{AccountState, fresh}
 use Rattle.mgn_register.specs.BookStates.{IsKept, book_state, BookState}
 use Rattle.mgn_register.proofs.Opened.{kept-open}
-use Rattle.mgn_register.specs.declared.plans.Plan.TheVariants.{Nothing}
+use Rattle.mgn_plan.specs.declared.plans.Plan.TheVariants.{Nothing}
 use Rattle.mgn_register.proofs.Following.{follows-same}
-use Rattle.mgn_register.specs.Plans.{FollowsPlan}
+use Rattle.mgn_plan.specs.Plans.{FollowsPlan}
 use Rattle.mgn_register.proofs.register.Register.open_in.Goals as goal
 
 pub returns-clause-kept : goal.returns-clause-kept

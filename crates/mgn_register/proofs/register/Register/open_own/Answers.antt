@@ -4,9 +4,9 @@ use Rattle.mgn_unit.specs.Rows.{no_row}
 use Rattle.mgn_unit.specs.declared.row.Row.{Row}
 use Rattle.mgn_register.specs.BookStates.{IsKept, book_state, BookState}
 use Rattle.mgn_register.proofs.Opened.{kept-open, kept-unit}
-use Rattle.mgn_register.specs.declared.plans.Plan.TheVariants.{Nothing}
+use Rattle.mgn_plan.specs.declared.plans.Plan.TheVariants.{Nothing}
 use Rattle.mgn_register.proofs.Following.{follows-more}
-use Rattle.mgn_register.specs.Plans.{FollowsPlan}
+use Rattle.mgn_plan.specs.Plans.{FollowsPlan}
 use Rattle.mgn_register.proofs.register.Register.open_own.Goals as goal
 
 pub returns-clause-kept : goal.returns-clause-kept

@@ -13,10 +13,10 @@ use Rattle.mgn_machine.specs.State.{AccountState, no_account, account_at}
 use Rattle.mgn_register.specs.BookStates.{BookState, IsKept, book_state}
 use Rattle.mgn_register.proofs.Kept.{names-kept}
 use Rattle.mgn_register.proofs.Holding.{Reads, same-state, release-roomy, release-kept}
-use Rattle.mgn_register.specs.declared.plans.Plan.{Plan}
-use Rattle.mgn_register.specs.declared.plans.Plan.TheVariants.{One}
+use Rattle.mgn_plan.specs.declared.plans.Plan.{Plan}
+use Rattle.mgn_plan.specs.declared.plans.Plan.TheVariants.{One}
 use Rattle.mgn_register.proofs.Following.{follows-planned}
-use Rattle.mgn_register.specs.Plans.{in_unit_of, release_plan, release_plan_at}
+use Rattle.mgn_plan.specs.Plans.{in_unit_of, release_plan, release_plan_at}
 use Rattle.mgn_register.proofs.register.Register.release.Goals as goal
 
 pub release_hold-requires-clause-roomy : goal.release_hold-requires-clause-roomy

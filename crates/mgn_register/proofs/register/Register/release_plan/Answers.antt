@@ -7,8 +7,8 @@ use Rattle.mgn_unit.specs.declared.change.Change.{Change}
 use Rattle.mgn_unit.specs.Changes.{release_change}
 use Rattle.mgn_unit.specs.Rows.{IsChange}
 use Rattle.mgn_register.specs.BookStates.{BookState}
-use Rattle.mgn_register.specs.declared.plans.UnitChange.{UnitChange}
-use Rattle.mgn_register.specs.Plans.{CanChange, in_unit_of}
+use Rattle.mgn_plan.specs.declared.plans.UnitChange.{UnitChange}
+use Rattle.mgn_plan.specs.Plans.{CanChange, in_unit_of}
 use Rattle.mgn_register.proofs.Possible.{release-possible}
 use Rattle.mgn_register.proofs.register.Register.release_plan.Goals as goal
 

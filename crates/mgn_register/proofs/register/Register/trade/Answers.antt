@@ -9,11 +9,11 @@ use Rattle.mgn_machine.specs.State.{AccountState, no_account, account_at, traded
 use Rattle.mgn_register.specs.BookStates.{BookState, IsKept, book_state}
 use Rattle.mgn_register.proofs.Kept.{names-kept, kept-same}
 use Rattle.mgn_register.proofs.Trades.{Trading, trade-roomy, trade-kept}
-use Rattle.mgn_register.specs.declared.plans.Plan.{Plan}
-use Rattle.mgn_register.specs.declared.plans.Plan.TheVariants.{One}
+use Rattle.mgn_plan.specs.declared.plans.Plan.{Plan}
+use Rattle.mgn_plan.specs.declared.plans.Plan.TheVariants.{One}
 use Rattle.mgn_register.proofs.Following.{follows-planned}
 use Rattle.mgn_machine.specs.Refusals.{trade_places}
-use Rattle.mgn_register.specs.Plans.{in_unit_of, trade_plan}
+use Rattle.mgn_plan.specs.Plans.{in_unit_of, trade_plan}
 use Rattle.mgn_register.proofs.register.Register.trade.Goals as goal
 
 pub enter_lot-requires-clause-roomy : goal.enter_lot-requires-clause-roomy

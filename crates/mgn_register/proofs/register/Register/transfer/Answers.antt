@@ -14,10 +14,10 @@ use Rattle.mgn_unit.specs.Changes.{moved_change}
 use Rattle.mgn_unit.specs.Rows.{IsChange}
 use Rattle.mgn_register.specs.declared.transfers.Party.{Party}
 use Rattle.mgn_register.specs.BookStates.{BookState, IsKept, Steps, book_state}
-use Rattle.mgn_register.specs.declared.plans.Plan.{Plan}
-use Rattle.mgn_register.specs.declared.plans.Plan.TheVariants.{Nothing, Two}
-use Rattle.mgn_register.specs.Plans.{FollowsPlan, in_unit_of, move_plan}
-use Rattle.mgn_register.specs.TransferRows.{TakesChange, party_of, row_at}
+use Rattle.mgn_plan.specs.declared.plans.Plan.{Plan}
+use Rattle.mgn_plan.specs.declared.plans.Plan.TheVariants.{Nothing, Two}
+use Rattle.mgn_plan.specs.Plans.{FollowsPlan, in_unit_of, move_plan, row_at}
+use Rattle.mgn_register.specs.TransferRows.{TakesChange, party_of}
 use Rattle.mgn_register.proofs.Following.{across-follows, both-none, both-two, change_of, within-follows}
 use Rattle.mgn_register.proofs.Moving.{Moving, EnteredAcross, EnteredWithin, giver_of, taker_of, inside-set, giver-takes, taker-takes, within-fits, within-after, within-steps, across-after, across-steps, names-after}
 use Rattle.mgn_register.proofs.register.Register.transfer.Goals as goal

@@ -1,7 +1,7 @@
 use Rattle.std.proofs.Common.{◌≡◌, ◌<◌, ◌+◌, ◌∙◌, arith, ap, length, sym, ℕ, Bor, [], ◌∷◌}
 use Rattle.mgn_params.specs.Shelves.{set_at}
 use Rattle.mgn_desk.specs.Desks.{DeskRows}
-use Rattle.mgn_register.specs.declared.plans.Plan.TheVariants.{One, Two}
+use Rattle.mgn_plan.specs.declared.plans.Plan.TheVariants.{One, Two}
 use Rattle.mgn_pricing.specs.Given.{IsRight}
 use Rattle.mgn_world.specs.declared.stages.Stage.TheVariants.{Applied}
 use Rattle.mgn_world.specs.Stages.{View}

@@ -1,6 +1,6 @@
 -- What a command changes in the rows of margin units, where nothing but want of room refuses it, and what the units then
 -- require (own profile).
-use Rattle.std.specs.Prelude.{ℕ, ◌≡◌, ◌≢◌, ◌<◌, ◌≤◌, ℤ, neg_ℤ, ◌==◌, if◌then◌else◌, IfSome, None, List, length, Result, Ok, Err}
+use Rattle.std.specs.Prelude.{ℕ, ◌≡◌, ◌≢◌, ◌<◌, ◌≤◌, ℤ, neg_ℤ, ◌==◌, if◌then◌else◌, IfSome, None, List, length, slice_index_or, Result, Ok, Err}
 use Rattle.mgn_params.specs.Tables.{Tables}
 use Rattle.mgn_lots.specs.declared.lot.Lot.{Lot}
 use Rattle.mgn_lots.specs.Lots.{lot_at}
@@ -22,12 +22,15 @@ use Rattle.mgn_machine.specs.Transfers.{move_places}
 use Rattle.mgn_unit.specs.Changes.{bust_change, fill_change, hold_change, lot_change, moved_change, release_change}
 use Rattle.mgn_unit.specs.declared.change.Change.{Change}
 use Rattle.mgn_unit.specs.declared.row.Row.{Row}
-use Rattle.mgn_unit.specs.Rows.{IsChange, IsRoomy, IsRow, Prices, more_at}
-use Rattle.mgn_register.specs.declared.plans.Known.{Known}
-use Rattle.mgn_register.specs.declared.plans.Plan.{Plan}
-use Rattle.mgn_register.specs.declared.plans.Plan.TheVariants.{Nothing, One, Two}
-use Rattle.mgn_register.specs.declared.plans.UnitChange.{UnitChange}
-use Rattle.mgn_register.specs.TransferRows.{row_at}
+use Rattle.mgn_unit.specs.Rows.{IsChange, IsRoomy, IsRow, Prices, more_at, no_row}
+use Rattle.mgn_plan.specs.declared.plans.Known.{Known}
+use Rattle.mgn_plan.specs.declared.plans.Plan.{Plan}
+use Rattle.mgn_plan.specs.declared.plans.Plan.TheVariants.{Nothing, One, Two}
+use Rattle.mgn_plan.specs.declared.plans.UnitChange.{UnitChange}
+
+-- the row of a unit
+abbrev pub row_at : Tables → List Row → ℕ → Row
+row_at set rows u = slice_index_or rows u (no_row set)
 
 -- a change in the row of the unit of the account at a place
 abbrev pub in_unit_of : State → ℕ → Change → UnitChange

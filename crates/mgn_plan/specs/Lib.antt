@@ -1,0 +1,2 @@
+-- The plans of commands.
+pub mod Plans
