@@ -1,7 +1,7 @@
 //! A file without quotes, carriage returns and byte order marks, read by one reader: making one takes longer than most
 //! lines do.
 
-ghost use Rattle.std.specs.Prelude.{◌≡◌, true, Ok, Some, IfSome, List};
+ghost use Rattle.std.specs.Prelude.{◌≡◌, [], true, Ok, None, Some, IfSome, List};
 ghost use Rattle.std.specs.List.{list_all};
 ghost use Rattle.mgn_setfile.specs.File.{outcome, records_of, version_told};
 ghost use Rattle.mgn_setfile.specs.Fields.{Fields};
@@ -54,7 +54,31 @@ fn read_rest(
     false
 }
 
-// The set of a plain text. `None` where a record is wrong, there is no record or a growth was refused.
+// What the records of a plain text give, before any of which is read. `None` where one is wrong, there is none or a
+// growth was refused.
+fn read_records(
+    alloc: Global,
+    text: &[u8],
+    reader: &mut Reader<&[u8]>,
+    row: &mut ByteRecord,
+) -> Option<Draft>
+    requires plain { is_plain text.now ≡ true }
+    requires start { HasRead text.now reader.old None [] }
+    ensures { IfSome result (Gives text.now) }
+{
+    let Ok(true) = reader.read_byte_record(row) else {
+        return None;
+    };
+    let Ok(mut draft) = add_first(alloc, row) else {
+        return None;
+    };
+    if !read_rest(alloc, text, reader, row, &mut draft) {
+        return None;
+    }
+    Some(draft)
+}
+
+// The set of a plain text. `None` where its records give none.
 pub(crate) fn read_plain(alloc: Global, text: &[u8]) -> Option<SetFile>
     requires { is_plain text.now ≡ true }
     ensures set { IfSome result (λ file. outcome (records_of text.now) ≡ Ok file.set) }
@@ -65,14 +89,6 @@ pub(crate) fn read_plain(alloc: Global, text: &[u8]) -> Option<SetFile>
         .flexible(true)
         .from_reader(alloc, text);
     let mut row = ByteRecord::new(alloc);
-    let Ok(true) = reader.read_byte_record(&mut row) else {
-        return None;
-    };
-    let Ok(mut draft) = add_first(alloc, &row) else {
-        return None;
-    };
-    if !read_rest(alloc, text, &mut reader, &mut row, &mut draft) {
-        return None;
-    }
+    let draft = read_records(alloc, text, &mut reader, &mut row)?;
     file_of(Some(draft)).ok()
 }
