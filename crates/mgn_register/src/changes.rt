@@ -11,12 +11,12 @@ ghost use Rattle.mgn_plan.specs.Plans.{FollowsPlan, Foresees, bust_plan, trade_p
 ghost use Rattle.mgn_plan.specs.declared.plans.Plan.TheVariants.{Nothing};
 
 use crate::fault::Fault;
-use mgn_plan::{Known, Plan};
 use crate::register::Register;
 use mgn_ids::{AccountName, ClassName, ContractName, LotId, LotQuantity, Premium, Units};
 use mgn_lots::{Lot, Mark};
 use mgn_machine::{Refusal, Trade};
 use mgn_params::{ParamSet, Work};
+use mgn_plan::{Known, Plan};
 use mgn_unit::{Account, Change, Priced, Row};
 use std::alloc::{AllocError, Global};
 

@@ -13,13 +13,13 @@ ghost use Rattle.mgn_register.specs.RoomAsked.{AsksRoom};
 
 use crate::changes::{price, traded_lot};
 use crate::fault::Fault;
-use mgn_plan::{Known, Plan};
 use crate::register::{Register, contract_of, is_over, known_contract, premium_fits, refuse_if};
 use mgn_holds::Held;
 use mgn_ids::{AccountName, OrderId, Premium};
 use mgn_lots::Lot;
 use mgn_machine::{Fill, Hold, Refusal};
 use mgn_params::ParamSet;
+use mgn_plan::{Known, Plan};
 use mgn_unit::{Account, Change, Priced, Row};
 use std::alloc::{AllocError, Global};
 

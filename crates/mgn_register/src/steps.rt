@@ -7,11 +7,11 @@ ghost use Rattle.mgn_plan.specs.Plans.{FollowsPlan, Foresees, LeavesNets, plan_o
 ghost use Rattle.mgn_plan.specs.declared.plans.Plan.TheVariants.{Nothing};
 
 use crate::fault::Fault;
-use mgn_plan::{Known, Plan};
 use crate::register::{Register, refuse_if};
 use mgn_ids::AccountName;
 use mgn_machine::{Command, Refusal, Reply};
 use mgn_params::ParamSet;
+use mgn_plan::{Known, Plan};
 use std::alloc::Global;
 
 impl Register {

@@ -15,13 +15,13 @@ ghost use Rattle.mgn_register.specs.TransferRows.{AskBoth, TakesChange, TakesLot
 
 use crate::changes::price;
 use crate::fault::Fault;
-use mgn_plan::Known;
 use crate::register::{Register, contract_of, passes_limit, refuse_if};
 use mgn_ids::{ContractName, LotId, LotQuantity};
 use mgn_lots::{Lot, Mark};
 use mgn_machine::{Refusal, Transfer};
 use mgn_num::Quantity;
 use mgn_params::ParamSet;
+use mgn_plan::Known;
 use mgn_unit::{Account, Change, Priced, Row, add_both};
 use std::alloc::{AllocError, Global};
 

@@ -11,8 +11,8 @@ ghost use Rattle.mgn_world.specs.World.{are_of, desks_with, desks_without, mark_
 use crate::stages::Seen;
 use mgn_desk::{Desk, UnitNets};
 use mgn_params::{SetList, Shelf, Version, Work};
-use mgn_pricing::{is_of, moves_of};
 use mgn_plan::{Plan, UnitChange};
+use mgn_pricing::{is_of, moves_of};
 use std::alloc::{AllocError, Global};
 
 /// Whether the desks of all units that were looked at are of a version.

@@ -1,6 +1,6 @@
 use command_line::SetFile;
-use mgn_script::{Plain, run_script};
 use mgn_params::ParamSet;
+use mgn_script::{Plain, run_script};
 use mgn_session::{Conversation, Counted};
 use spand_lib::{Fault, Folder};
 use std::io;

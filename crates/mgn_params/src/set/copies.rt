@@ -95,7 +95,14 @@ impl ParamSet {
     fn copied_places(
         &self,
         alloc: Global,
-    ) -> Result<(Places<CommodityName>, Places<ContractName>, Places<ClassName>), AllocError>
+    ) -> Result<
+        (
+            Places<CommodityName>,
+            Places<ContractName>,
+            Places<ClassName>,
+        ),
+        AllocError,
+    >
         ensures commodities { IfOk result (λ places. places.0 ≡ commodity_names self.now.commodities) }
         ensures contracts { IfOk result (λ places. places.1 ≡ contract_names self.now.contracts) }
         ensures classes { IfOk result (λ places. places.2 ≡ class_names self.now.classes) }
