@@ -28,19 +28,26 @@ pub enum Request {
     Check(SetFile),
 }
 
+// An option that each command must be given, with a value.
+fn needed<'a>(alloc: Global, name: &'a str, value: &'a str, help: &'a str) -> Arg<'a> {
+    Arg::new(alloc, name)
+        .long(name)
+        .value_name(value)
+        .help(help)
+        .required(true)
+}
+
 // A command over the file of a set.
 fn over_a_set<'a>(alloc: Global, name: &'a str, about: &'a str) -> Result<Command<'a>, AllocError> {
-    let dir = Arg::new(alloc, "dir")
-        .long("dir")
-        .value_name("DIR")
-        .help("The folder of the parameter sets")
-        .required(true);
-    let set = Arg::new(alloc, "set")
-        .long("set")
-        .value_name("NAME")
-        .help("The parameter set, the file DIR/NAME.csv")
-        .required(true);
-    Command::new(alloc, name).about(about).arg(dir)?.arg(set)
+    Command::new(alloc, name)
+        .about(about)
+        .arg(needed(alloc, "dir", "DIR", "The folder of the parameter sets"))?
+        .arg(needed(
+            alloc,
+            "set",
+            "NAME",
+            "The parameter set, the file DIR/NAME.csv",
+        ))
 }
 
 fn command<'a>(alloc: Global) -> Result<Command<'a>, AllocError> {
@@ -49,17 +56,17 @@ fn command<'a>(alloc: Global) -> Result<Command<'a>, AllocError> {
         "script",
         "Answers the commands on standard input, a line each, on standard output",
     )?;
+    let command = Command::new(alloc, "spand")
+        .about("Margin and order credit for clearing members")
+        .version(VERSION)
+        .subcommand_required(true)
+        .subcommand(script)?;
     let check = over_a_set(
         alloc,
         "check",
         "Tells what a parameter set has, or why its file is none",
     )?;
-    Command::new(alloc, "spand")
-        .about("Margin and order credit for clearing members")
-        .version(VERSION)
-        .subcommand_required(true)
-        .subcommand(script)?
-        .subcommand(check)
+    command.subcommand(check)
 }
 
 // An error of the command line, with its text.
@@ -72,21 +79,28 @@ fn text_of(alloc: Global, matches: &ArgMatches<'_>, id: &str) -> Result<String, 
     String::from_str(alloc, matches.get_str(id).unwrap_or(""))
 }
 
-fn request_of(alloc: Global, words: &[String]) -> Result<Request, Error> {
-    let mut command = command(alloc)?;
-    let matches = command.try_get_matches_from_mut(words)?;
+fn set_file(alloc: Global, matches: &ArgMatches<'_>) -> Result<SetFile, AllocError> {
+    let dir = text_of(alloc, matches, "dir")?;
+    let set = text_of(alloc, matches, "set")?;
+    Ok(SetFile { dir, set })
+}
+
+// What the words that were found ask for.
+fn request_in(alloc: Global, matches: &ArgMatches<'_>) -> Result<Request, Error> {
     let Some((name, found)) = matches.subcommand() else {
         return Err(error_of(alloc, ErrorKind::MissingSubcommand, "no command is given")?);
     };
-    let file = SetFile {
-        dir: text_of(alloc, found, "dir")?,
-        set: text_of(alloc, found, "set")?,
-    };
+    let file = set_file(alloc, found)?;
     if name == "check" {
         Ok(Request::Check(file))
     } else {
         Ok(Request::Script(file))
     }
+}
+
+fn request_of(alloc: Global, words: &[String]) -> Result<Request, Error> {
+    let matches = command(alloc)?.try_get_matches_from(words)?;
+    request_in(alloc, &matches)
 }
 
 // The words of the command line. Words that are no text are a wrong command line.
