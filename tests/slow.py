@@ -1,12 +1,15 @@
 #!/usr/bin/env python3
-"""Proves a crate from nothing, with one job, and tells how long each of its functions took, the slowest first.
+"""Proves a crate from nothing, with one job, and tells how long each of its functions took, the slowest first, and of what that was:
+`Lts` is the flow of control, with what each way out drops; `Proof` the search for a proof; `Tie`, `Kinds`, `Layout`, `Reads` how the
+code lies on its types. A file of lemmas stands in a line of its own, and the crate's name is what the libraries took to load.
 
   CRATE     its name; the libraries below it are built first where they are not
   --test    with its tests
-  --least N only those that took as many seconds (5)
+  --only FN this function alone, and those that it calls (may be repeated)
+  --least N only what took as many seconds (3)
 
-What stands first in a run has the time of loading the libraries, some ten seconds, in it. Nothing is kept, and nothing that is
-kept is used."""
+Nothing that is kept is used, and nothing is kept. The times are those between the files that the check leaves of its modules, so
+other work on the machine is in them."""
 import argparse
 import os
 import re
@@ -14,34 +17,38 @@ import shutil
 import subprocess
 import sys
 import tempfile
-import time
+from collections import Counter, defaultdict
 
 import source
 
+# A module of a function's proof: the function, and which part it is.
+PART = re.compile(r"(.+?)\.(Lts|Proof|Tie|Kinds|Layout|Reads|Named|Code|Answers|Goals|Given|Invariants|Statement|Met|Key|Carried)\b.*")
 
-def functions_of(crate, rtlib, words):
-    """Proves a copy of the crate, and returns for each function in turn its seconds and its name, and the last line."""
-    with tempfile.TemporaryDirectory(prefix="slow-") as room:
-        for part in rtlib.PARTS:
-            if os.path.isdir(f"{crate.folder}/{part}"):
-                shutil.copytree(f"{crate.folder}/{part}", f"{room}/{part}")
-        found, last, before = [], "", time.monotonic()
-        how = {"stdin": subprocess.DEVNULL, "stdout": subprocess.PIPE, "stderr": subprocess.STDOUT, "text": True, "errors": "replace"}
-        with subprocess.Popen(words, cwd=room, **how) as ran:
-            for last in ran.stdout:
-                told = re.match(r"checked (\S+), \d+ of \d+", last)
-                if told:
-                    now = time.monotonic()
-                    found.append((now - before, told[1]))
-                    before = now
-        return found, last.strip()
+
+def modules_of(folder):
+    """Returns the modules that a check left in the folder, in the order in which it ended them, each with the seconds since the one before."""
+    (inside,) = os.listdir(folder)
+    files = (it for it in os.scandir(f"{folder}/{inside}") if it.name.endswith(".oantt"))
+    ended = sorted((it.stat().st_mtime, it.name.removesuffix(".oantt")) for it in files)
+    return [(now[0] - before[0], now[1]) for before, now in zip(ended, ended[1:])]
+
+
+def times_by_function(crate, modules):
+    """Returns for each function, or other module, its seconds by part."""
+    found = defaultdict(Counter)
+    for seconds, name in modules:
+        inside = re.sub(rf"^Rattle[-.]{crate}(-proofs|-specs)?\.?", "", name) or crate
+        part = PART.fullmatch(inside)
+        found[part[1] if part else inside][part[2] if part else "all"] += seconds
+    return found
 
 
 def main():
     options = argparse.ArgumentParser(description=__doc__, formatter_class=argparse.RawDescriptionHelpFormatter)
     options.add_argument("crate")
     options.add_argument("--test", action="store_true")
-    options.add_argument("--least", type=float, default=5)
+    options.add_argument("--only", action="append", default=[])
+    options.add_argument("--least", type=float, default=3)
     given = options.parse_args()
     rt = source.load_rt()
     crate = next((it for it in rt.rtlib.crates_below(source.TOP) if it.name == given.crate), None)
@@ -50,13 +57,22 @@ def main():
     for below in crate.below():
         if below.build_rlib(["--jobs", "1"], anew=False):
             sys.exit(f"{below.name} was not built")
-    words = [*rt.rtlib.guarded(), rt.rtlib.RATTLE, "check", *crate.words(["--jobs", "1"], keeps=False), "--progress"]
-    found, last = functions_of(crate, rt.rtlib, words + ["--test"] * given.test)
-    for seconds, name in sorted(found, reverse=True):
-        if given.least <= seconds:
-            print(f"{seconds:7.1f} {name}")
-    print(f"{sum(seconds for seconds, _ in found):7.1f} all {len(found)} functions: {last}")
-    return 0 if last.startswith("logic=proved") else 1
+    with tempfile.TemporaryDirectory(prefix="slow-") as room:
+        for part in rt.rtlib.PARTS:
+            if os.path.isdir(f"{crate.folder}/{part}"):
+                shutil.copytree(f"{crate.folder}/{part}", f"{room}/{part}")
+        words = [*rt.rtlib.guarded(), rt.rtlib.RATTLE, "check", *crate.words(["--jobs", "1"], keeps=False), "--incremental", f"{room}/kept"]
+        words += ["--test"] * given.test + [word for it in given.only for word in ("--only", it)]
+        ran = subprocess.run(words, cwd=room, stdin=subprocess.DEVNULL, stdout=subprocess.PIPE, stderr=subprocess.STDOUT, text=True, errors="replace", check=False)
+        last = ran.stdout.rstrip().rpartition("\n")[2]
+        modules = modules_of(f"{room}/kept")
+    times = times_by_function(crate.name, modules)
+    for name, parts in sorted(times.items(), key=lambda it: -it[1].total()):
+        if given.least <= parts.total():
+            told = ", ".join(f"{part} {seconds:.1f}" for part, seconds in parts.most_common() if 0.5 <= seconds)
+            print(f"{parts.total():7.1f} {name} ({told})")
+    print(f"{sum(seconds for seconds, _ in modules):7.1f} all: {last}")
+    return 0 if ran.returncode == 0 else 1
 
 
 if __name__ == "__main__":
