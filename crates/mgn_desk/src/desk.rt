@@ -83,10 +83,12 @@ impl Desk {
         ensures refused { OnErr result (self.new ≡ self.old) }
     {
         let portfolios = Portfolios::of_nets(alloc, set, nets)?;
-        self.marked = Some(Marked {
+        let marked = Marked {
             version,
             portfolios,
-        });
+        };
+        // What it had is dropped by one call: after an assignment a proof goes through each field.
+        drop(self.marked.replace(marked));
         Ok(())
     }
 

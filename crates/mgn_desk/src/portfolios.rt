@@ -52,8 +52,7 @@ impl Portfolios {
     {
         let buys = Branch::of_nets(alloc, set, nets.lots, nets.buys)?;
         let sales = Branch::of_nets(alloc, set, nets.lots, nets.sales)?;
-        let all = Branch::of_nets(alloc, set, nets.lots, nets.all)?;
-        Ok((buys, sales, all))
+        Branch::of_nets(alloc, set, nets.lots, nets.all).map(|all| (buys, sales, all))
     }
 
     // Keeps those apart that are to move by something else than the lots.
