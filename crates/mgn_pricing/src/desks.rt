@@ -14,6 +14,7 @@ use mgn_plan::{Known, Plan, UnitChange};
 use mgn_unit::{Change, Priced, Row};
 use std::alloc::{AllocError, Global};
 use std::marker::Model;
+use std::mem;
 
 /// The desks of the margin units of a book, by the units' numbers. A unit whose desk is not there, or is empty, or of an
 /// older version, is marked when it is next asked for.
@@ -162,7 +163,8 @@ impl Desks {
         ensures long { length self.new ≡ length self.old }
     {
         if let Some(desk) = self.desks.get_mut(unit) {
-            *desk = Desk::empty(unit);
+            // Dropped by one call: after an assignment a proof goes through each field of a desk.
+            drop(mem::replace(desk, Desk::empty(unit)));
         }
     }
 
