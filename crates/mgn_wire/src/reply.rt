@@ -120,41 +120,49 @@ fn print_set(told: NewSet, out: &mut Vec<u8>) -> Result<(), AllocError>
     print_number(u64::from(told.on_call), out)
 }
 
+// That a command was done, and the place of its answer.
+fn print_done(place: Option<u64>, out: &mut Vec<u8>) -> Result<(), AllocError>
+    ensures ok { OnOk result (out.new.items ≡ out.old.items ++ (codes "OK" ++ place_text place)) }
+    ensures kept { take (length out.old.items) out.new.items ≡ out.old.items }
+{
+    print("OK", out)?;
+    print_place(place, out)
+}
+
+fn print_refused(refusal: Refusal, place: Option<u64>, out: &mut Vec<u8>) -> Result<(), AllocError>
+    ensures ok { OnOk result (out.new.items ≡ out.old.items
+        ++ (codes "ERR" ++ place_text place ++ codes " " ++ refusal_text refusal)) }
+    ensures kept { take (length out.old.items) out.new.items ≡ out.old.items }
+{
+    print("ERR", out)?;
+    print_place(place, out)?;
+    print(" ", out)?;
+    print(refusal_text(refusal), out)
+}
+
 fn print_answer(answer: &Answer, out: &mut Vec<u8>) -> Result<(), AllocError>
     ensures ok { OnOk result (out.new.items ≡ out.old.items ++ reply_of answer.now.place answer.now.reply) }
     ensures kept { take (length out.old.items) out.new.items ≡ out.old.items }
 {
     match &answer.reply {
-        Reply::Done => {
-            print("OK", out)?;
-            print_place(answer.place, out)
-        }
+        Reply::Done => print_done(answer.place, out),
         Reply::Figures(figures) => {
-            print("OK", out)?;
-            print_place(answer.place, out)?;
+            print_done(answer.place, out)?;
             print_figures(figures, out)
         }
         Reply::Totals(totals) => {
-            print("OK", out)?;
-            print_place(answer.place, out)?;
+            print_done(answer.place, out)?;
             print_totals(totals, out)
         }
         Reply::NewSet(told) => {
-            print("OK", out)?;
-            print_place(answer.place, out)?;
+            print_done(answer.place, out)?;
             print_set(*told, out)
         }
         Reply::Statement(shared) => {
-            print("OK", out)?;
-            print_place(answer.place, out)?;
+            print_done(answer.place, out)?;
             print_number(line_count(shared.statement()), out)
         }
-        Reply::Refused(refusal) => {
-            print("ERR", out)?;
-            print_place(answer.place, out)?;
-            print(" ", out)?;
-            print(refusal_text(*refusal), out)
-        }
+        Reply::Refused(refusal) => print_refused(*refusal, answer.place, out),
     }
 }
 

@@ -51,14 +51,23 @@ fn print_mark(mark: Mark, out: &mut Vec<u8>) -> Result<(), AllocError>
     }
 }
 
+// The account, its origin and how that is margined.
+fn print_owner(heading: &Heading, out: &mut Vec<u8>) -> Result<(), AllocError>
+    ensures ok { OnOk result (out.new.items ≡ out.old.items
+        ++ (name_text heading.now.account ++ name_text heading.now.origin ++ mode_text heading.now.mode)) }
+    ensures kept { take (length out.old.items) out.new.items ≡ out.old.items }
+{
+    print_name(heading.account.as_bytes(), out)?;
+    print_name(heading.origin.as_bytes(), out)?;
+    print_mode(heading.mode, out)
+}
+
 fn print_account(heading: &Heading, out: &mut Vec<u8>) -> Result<(), AllocError>
     ensures ok { OnOk result (out.new.items ≡ out.old.items ++ account_line heading.now) }
     ensures kept { take (length out.old.items) out.new.items ≡ out.old.items }
 {
     print("S", out)?;
-    print_name(heading.account.as_bytes(), out)?;
-    print_name(heading.origin.as_bytes(), out)?;
-    print_mode(heading.mode, out)?;
+    print_owner(heading, out)?;
     print_name(heading.set.as_bytes(), out)?;
     print_number(u64::from(heading.version.number()), out)?;
     print("\n", out)
@@ -106,15 +115,34 @@ fn print_option_value(heading: &Heading, out: &mut Vec<u8>) -> Result<(), AllocE
     print("\n", out)
 }
 
+// The contract, the quantity and the price of a lot or an order.
+fn print_terms(
+    contract: &[u8],
+    quantity: Quantity,
+    price: u64,
+    out: &mut Vec<u8>,
+) -> Result<(), AllocError>
+    ensures ok { OnOk result (out.new.items ≡ out.old.items
+        ++ (name_text contract.now ++ field quantity ++ number_text price)) }
+    ensures kept { take (length out.old.items) out.new.items ≡ out.old.items }
+{
+    print_name(contract, out)?;
+    print_quantity(quantity, out)?;
+    print_number(price, out)
+}
+
 fn print_lot(lot: &Lot, out: &mut Vec<u8>) -> Result<(), AllocError>
     ensures ok { OnOk result (out.new.items ≡ out.old.items ++ lot_text lot.now) }
     ensures kept { take (length out.old.items) out.new.items ≡ out.old.items }
 {
     print("L", out)?;
     print_number(lot.number.number(), out)?;
-    print_name(lot.contract.as_bytes(), out)?;
-    print_quantity(lot.quantity, out)?;
-    print_number(u64::from(lot.premium), out)?;
+    print_terms(
+        lot.contract.as_bytes(),
+        lot.quantity,
+        u64::from(lot.premium),
+        out,
+    )?;
     print_mark(lot.mark, out)?;
     print("\n", out)
 }
@@ -125,9 +153,12 @@ fn print_hold(held: &Held, out: &mut Vec<u8>) -> Result<(), AllocError>
 {
     print("O", out)?;
     print_number(held.order.number(), out)?;
-    print_name(held.contract.as_bytes(), out)?;
-    print_quantity(held.quantity, out)?;
-    print_number(u64::from(held.limit), out)?;
+    print_terms(
+        held.contract.as_bytes(),
+        held.quantity,
+        u64::from(held.limit),
+        out,
+    )?;
     print("\n", out)
 }
 
