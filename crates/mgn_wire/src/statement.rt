@@ -182,7 +182,6 @@ fn print_class(line: &ClassLine, out: &mut Vec<u8>) -> Result<(), AllocError>
     print("\n", out)
 }
 
-#[tactic(auto, using(crate::proofs::KeptFront::kept_before))]
 fn print_commodities(lines: &[CommodityLine], out: &mut Vec<u8>) -> Result<(), AllocError>
     ensures ok { OnOk result (out.new.items ≡ out.old.items ++ flat_map commodity_text lines.now) }
     ensures kept { take (length out.old.items) out.new.items ≡ out.old.items }
@@ -193,7 +192,6 @@ fn print_commodities(lines: &[CommodityLine], out: &mut Vec<u8>) -> Result<(), A
     Ok(())
 }
 
-#[tactic(auto, using(crate::proofs::KeptFront::kept_before))]
 fn print_lots(lots: &[Lot], out: &mut Vec<u8>) -> Result<(), AllocError>
     ensures ok { OnOk result (out.new.items ≡ out.old.items ++ flat_map lot_text lots.now) }
     ensures kept { take (length out.old.items) out.new.items ≡ out.old.items }
@@ -204,7 +202,6 @@ fn print_lots(lots: &[Lot], out: &mut Vec<u8>) -> Result<(), AllocError>
     Ok(())
 }
 
-#[tactic(auto, using(crate::proofs::KeptFront::kept_before))]
 fn print_holds(holds: &[Held], out: &mut Vec<u8>) -> Result<(), AllocError>
     ensures ok { OnOk result (out.new.items ≡ out.old.items ++ flat_map hold_text holds.now) }
     ensures kept { take (length out.old.items) out.new.items ≡ out.old.items }
@@ -215,7 +212,6 @@ fn print_holds(holds: &[Held], out: &mut Vec<u8>) -> Result<(), AllocError>
     Ok(())
 }
 
-#[tactic(auto, using(crate::proofs::KeptFront::kept_before))]
 fn print_classes(lines: &[ClassLine], out: &mut Vec<u8>) -> Result<(), AllocError>
     ensures ok { OnOk result (out.new.items ≡ out.old.items ++ flat_map class_text lines.now) }
     ensures kept { take (length out.old.items) out.new.items ≡ out.old.items }
