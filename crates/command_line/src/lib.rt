@@ -56,17 +56,17 @@ fn command<'a>(alloc: Global) -> Result<Command<'a>, AllocError> {
         "script",
         "Answers the commands on standard input, a line each, on standard output",
     )?;
-    let command = Command::new(alloc, "spand")
-        .about("Margin and order credit for clearing members")
-        .version(VERSION)
-        .subcommand_required(true)
-        .subcommand(script)?;
     let check = over_a_set(
         alloc,
         "check",
         "Tells what a parameter set has, or why its file is none",
     )?;
-    command.subcommand(check)
+    Command::new(alloc, "spand")
+        .about("Margin and order credit for clearing members")
+        .version(VERSION)
+        .subcommand_required(true)
+        .subcommand(script)?
+        .subcommand(check)
 }
 
 // An error of the command line, with its text.
