@@ -1,4 +1,5 @@
 #!/bin/sh
-# Proves the program and every crate below it, builds it, and answers its stored run. While it proves it tells how far it
-# is. What is proved is kept: a second run takes seconds. Only `tests/gate.sh` proves everything anew.
-exec python3 "$(dirname -- "$0")/tests/first.py"
+# Answers the stored run of the program in a minute or two, before any proof, and says so; proves the program and every crate below
+# it, and tells how far it is; then answers the same run by the proved program. `sh first.sh --try` gives the first answer alone.
+# What is proved is kept: a second run gives the proved answer alone, in seconds.
+exec python3 "$(dirname -- "$0")/tests/first.py" "$@"

@@ -18,26 +18,25 @@ from the start. Edits that are not Rattle are found by the places of the errors,
   -j N          N checks side by side; by default one a processor
   --top DIR     the repository
   --built       trust the libraries that a run of `rt ci` has just left in crates/*/out, and what they hold of each crate's own check
-  --times FILE  write what each crate took, a line `CRATE EDITS CHECKS SECONDS LARGEST_KIB FAILED`
   --look        try nothing: say which edits cannot be applied
-  --sort        try nothing: move each edit, those of crates/*/must-fail too, to the crate in whose files its text stands
-The last line is `N passed, M failed`.
+A crate that is done has a line `CRATE: N edits refused, M not`. The last line is `N passed, M failed`.
 """
 import argparse
-import json
+import itertools
 import os
 import re
 import shutil
 import subprocess
 import sys
 import tempfile
-import threading
-from collections import Counter, defaultdict, namedtuple
+from collections import Counter, namedtuple
 from concurrent.futures import FIRST_COMPLETED, ThreadPoolExecutor, wait
 
+import kit
 import source
 
 NAME = re.compile(r"[A-Za-z0-9_-][A-Za-z0-9_.-]*\.edit")
+PARTS = ("src", "specs", "proofs")
 # A proof file that names what the edit took away, or what cites a proof that was not admitted.
 NAMES = re.compile(r"has no field|is not in scope|has no `|was not admitted")
 CALLS = re.compile(r"it calls [^;]*which (is|are) not proved")
@@ -104,31 +103,33 @@ def changed_bytes(old, new):
     return start, max(len(old) - end, start)
 
 
+def changes(edit, folder):
+    """Returns what the edit changes, as (path, from which byte, to which byte)."""
+    return [(path, *changed_bytes(text_of(folder, path), text)) for path, text in apply([edit], folder).items()]
+
+
 def function_of(edit, folder, standing):
-    """Returns the one function whose block has all that the edit changes, or None."""
-    texts, original = apply([edit], folder), {}
-    found = set()
-    for path in texts:
-        original[path] = text_of(folder, path)
-        if not path.startswith("src/") or not standing.get(path):
-            return None
-        start, end = changed_bytes(original[path], texts[path])
-        around = source.around(standing[path], start, end)
-        if not around:
-            # (in its signature and clauses)
-            around = next((it for it in standing[path] if it.start <= start and end <= it.body), None)
-            around = around if around and is_named_once(around, path, folder) else None
-        found.add((path, around))
-    return found.pop() if len(found) == 1 and None not in {it for _, it in found} else None
+    """Returns the one function whose block, or whose clauses where they concern it alone, have all that the edit changes, or None."""
+    changed = changes(edit, folder)
+    if len(changed) != 1:
+        return None
+    path, start, end = changed[0]
+    found = source.around(standing.get(path) or [], start, end)
+    if not found:
+        # (in its signature and clauses)
+        found = next((it for it in standing.get(path) or [] if it.start <= start and end <= it.body), None)
+        found = found if found and is_named_once(found, folder) else None
+    return (path, found) if found else None
 
 
-def is_named_once(function, path, folder):
+def is_named_once(function, folder):
     """Returns whether nothing in the crate but its own proof names the function, so that its clauses too concern it alone."""
     word, count = re.compile(rf"(?<![\w-]){re.escape(function.name)}(?![\w-])"), 0
     for part, ending in (("src", ".rt"), ("specs", ".antt"), ("proofs", ".antt")):
-        for file in files_below(f"{folder}/{part}", ending):
-            if not re.search(rf"/tests/|[/_]tests\.rt$|/{re.escape(function.name)}/[^/]*$", file):
-                text = text_of(folder, os.path.relpath(file, folder))
+        for file in source.files_below(f"{folder}/{part}", ending):
+            path = os.path.relpath(file, folder)
+            if not source.is_of_tests(path) and os.path.basename(os.path.dirname(path)) != function.name:
+                text = text_of(folder, path)
                 text = re.sub(r"(?m)^\s*(pub(\([^)]*\))? )?use [^;]*;|//.*|(^|\s)--\s.*", "", text)
                 count += len(word.findall(text))
     return count == 1
@@ -138,8 +139,7 @@ def read_edits(crate, folder):
     """Returns the crate's edits that can be applied, and what to say of those that cannot."""
     good, bad = [], []
     names = sorted(os.listdir(folder)) if os.path.isdir(folder) else []
-    rows = source.tokens(files_below(f"{crate.folder}/src", ".rt")) if names else {}
-    standing = {os.path.relpath(file, crate.folder): row and source.functions(row) for file, row in rows.items()}
+    standing = source.functions_of(crate.folder) if names else {}
     for name in names:
         try:
             if not NAME.fullmatch(name):
@@ -149,10 +149,6 @@ def read_edits(crate, folder):
         except (Bad, OSError, UnicodeDecodeError) as why:
             bad.append(f"{crate.name}/{name.removesuffix('.edit')}: BAD EDIT: {why}")
     return good, bad
-
-
-def files_below(folder, ending):
-    return sorted(f"{at}/{it}" for at, _, names in os.walk(folder) for it in names if it.endswith(ending))
 
 
 def batches_of(edits):
@@ -178,82 +174,51 @@ def batches_of(edits):
 
 
 class Runs:
-    """The checks of this run, with what each crate's took."""
+    """The checks of this run, each in a folder of its own."""
 
-    def __init__(self, rt, room, built):
-        self.rt, self.room, self.built, self.number, self.lock = rt, room, built, 0, threading.Lock()
-        self.took = defaultdict(lambda: [0, 0.0, 0])
+    def __init__(self, room, built):
+        self.room, self.built, self.numbers = room, built, itertools.count()
 
     def folder(self):
-        with self.lock:
-            self.number += 1
-            return f"{self.room}/{self.number}"
+        return f"{self.room}/{next(self.numbers)}"
 
     def check(self, crate, texts, kept, *more):
         """Checks a copy of the crate with these texts in place of its own, with the words of `rt ci`, over the kept work."""
-        rtlib, copy = self.rt.rtlib, self.folder()
-        for part in rtlib.PARTS:
+        copy = self.folder()
+        os.mkdir(copy)
+        for part in PARTS:
             if os.path.isdir(f"{crate.folder}/{part}"):
                 shutil.copytree(f"{crate.folder}/{part}", f"{copy}/{part}")
         for path, text in texts.items():
             with open(f"{copy}/{path}", "w", encoding="utf-8") as it:
                 it.write(text)
-        words = [*rtlib.guarded(), rtlib.RATTLE, "check", *crate.words(["--jobs", "1"], keeps=False), "--incremental", kept, *more]
-        with open(f"{copy}/said", "w+", errors="replace") as said:
-            ran = subprocess.Popen(words, cwd=copy, stdin=subprocess.DEVNULL, stdout=said, stderr=subprocess.STDOUT)
-            _, status, used = os.wait4(ran.pid, 0)
-            ran.returncode = os.waitstatus_to_exitcode(status)
-            said.seek(0)
-            lines = said.read().rstrip("\n").split("\n")
-        with self.lock:
-            took = self.took[crate.name]
-            took[0] += 1
-            took[1] += used.ru_utime + used.ru_stime
-            took[2] = max(took[2], used.ru_maxrss)
+        how = {"stdin": subprocess.DEVNULL, "stdout": subprocess.PIPE, "stderr": subprocess.STDOUT, "text": True}
+        ran = subprocess.run(kit.check_words(crate, kept, *more), cwd=copy, **how, errors="replace", check=False)
+        lines = ran.stdout.rstrip("\n").split("\n")
         shutil.rmtree(copy)
         whole = ran.returncode == 1 and lines[-1].startswith("logic=not-proved") or ran.returncode == 0
         return Ran(ran.returncode, lines, whole)
 
-    def begin(self, crate, kept):
-        """Has the kept work begin with the modules that the crate's library holds of its own check: a check keeps the same ones."""
-        held = f"{crate.rlib}/toolchain"
-        if not os.path.isfile(f"{held}/checked.json"):
-            return
-        # (a check that proves nothing makes the folder in which this build of rattle looks for modules)
-        self.check(crate, {}, kept, "--only", "")
-        (inside,) = os.listdir(kept)
-        with open(f"{held}/checked.json", encoding="utf-8") as rows, open(f"{held}/checked.a", "rb") as modules:
-            for name, start, size in map(json.loads, rows):
-                if "/" not in name and len(name) < 250:
-                    modules.seek(start)
-                    with open(f"{kept}/{inside}/{name}.oantt", "wb") as it:
-                        it.write(modules.read(size))
-
     def prove(self, crate):
-        """Proves the crate, and returns the folder of what that kept, or None and what was said."""
-        kept, own = self.folder(), f"{crate.folder}/{self.rt.rtlib.KEPT[1]}"
+        """Proves the crate, and returns the folder of what that kept, or None, and the run."""
+        kept, own = self.folder(), f"{crate.folder}/{kit.KEPT}"
         if os.path.isdir(own):
             shutil.copytree(own, kept)
         elif self.built:
-            self.begin(crate, kept)
+            # (a check that proves nothing makes the folder in which this build of the toolchain looks for modules)
+            self.check(crate, {}, kept, "--only", "")
+            kit.take_modules(crate, kept)
         ran = self.check(crate, {}, kept)
         return (kept, ran) if ran.status == 0 else (None, ran)
 
     def on_copy(self, edits, kept):
         """Tries the edits together over a copy of the kept work."""
-        copy = self.folder()
+        copy, crate = self.folder(), edits[0].crate
         # (a check replaces what it keeps anew, and writes into no file that is there)
-        self.rt.linked(kept, copy)
-        crate = edits[0].crate
+        shutil.copytree(kept, copy, copy_function=os.link)
         ran = self.check(crate, apply(edits, crate.folder), copy)
         shutil.rmtree(copy, ignore_errors=True)
         return ran
-
-
-def unread(rt, lines, paths):
-    """Returns the first line that says that a text could not be read, so that no contract was tried."""
-    stale = next((it for it in lines if rt.rtlib.STALE.search(it)), "")
-    return stale or next((it for it in lines if rt.unread(it, paths)), "")
 
 
 def lines_on(edit, lines):
@@ -295,10 +260,10 @@ def judge(edit, ran):
     return None, next(said for _, said in found if said != "proved")[:160]
 
 
-def judge_alone(rt, edit, ran):
+def judge_alone(edit, ran):
     """Returns whether the prover refused the crate with this edit alone, and what to say, as `rt ci` does."""
     paths = {path for path, _, _ in edit.pairs}
-    bad = unread(rt, ran.lines, paths)
+    bad = kit.unread(ran.lines, paths)
     if bad:
         return False, f"BAD EDIT: the prover cannot read the edited text, so no contract was tried: {bad[:200]}"
     if ran.status == 0:
@@ -329,9 +294,9 @@ def try_group(runs, edits, kept):
     except OSError as why:
         return [(it, False, f"NOT TRIED: {why}") for it in edits], []
     if len(edits) == 1:
-        return [(edits[0], *judge_alone(runs.rt, edits[0], ran))], []
+        return [(edits[0], *judge_alone(edits[0], ran))], []
     paths = {path for it in edits for path, _, _ in it.pairs}
-    if not ran.whole or unread(runs.rt, ran.lines, paths):
+    if not ran.whole or kit.unread(ran.lines, paths):
         blamed = [it for it in edits if is_blamed(it, ran.lines)]
         rest = [it for it in edits if it not in blamed]
         half = len(edits) // 2
@@ -349,7 +314,7 @@ def try_group(runs, edits, kept):
 def try_all(runs, groups, jobs, tell):
     """Proves each crate and then tries its groups, those of the largest crates first."""
     with ThreadPoolExecutor(jobs) as pool:
-        largest = sorted(groups, key=lambda it: -it.count(rb"\n"))
+        largest = sorted(groups, key=lambda it: -source.size_of(it.folder))
         running = {pool.submit(runs.prove, it): it for it in largest}
         kept, left = {}, {it: 0 for it in groups}
         while running:
@@ -374,54 +339,41 @@ def try_all(runs, groups, jobs, tell):
                     shutil.rmtree(kept[crate], ignore_errors=True)
 
 
-def sort_edits(crates, top):
-    """Moves each edit to the crate, and the file, where its text stands."""
-    files = {}
+def read_all(crates, top, given):
+    """Returns the groups of each crate's edits, how many edits it has, and what to say of those that cannot be applied."""
+    groups, number, bad = {}, {}, []
     for crate in crates:
-        for part in ("src", "specs", "proofs"):
-            for file in files_below(f"{crate.folder}/{part}", ""):
-                files[file] = (crate, os.path.relpath(file, crate.folder))
-    texts = {it: open(it, encoding="utf-8", errors="replace").read() for it in files}
-    folders = [f"{top}/edits/{it}" for it in sorted(os.listdir(f"{top}/edits"))] if os.path.isdir(f"{top}/edits") else []
-    folders += [f"{top}/crates/{it}/must-fail" for it in sorted(os.listdir(f"{top}/crates"))]
-    lost = 0
-    for folder in filter(os.path.isdir, folders):
-        was = os.path.basename(folder if os.path.dirname(folder).endswith("/edits") else os.path.dirname(folder))
-        for name in sorted(os.listdir(folder)):
-            file = f"{folder}/{name}"
-            try:
-                pairs = read_pairs(file)
-            except Bad as why:
-                print(f"{os.path.relpath(file, top)}: {why}")
-                lost += 1
-                continue
-            path, old, _ = pairs[0]
-            own = f"{top}/crates/{was}/{path}"
-            found = [own] if texts.get(own, "").count(old) == 1 else [it for it, text in texts.items() if text.count(old) == 1]
-            found = [it for it in found if os.path.basename(it) == os.path.basename(path)] or found
-            if len(found) != 1 or len({it for it, _, _ in pairs}) != 1:
-                if found != [own]:
-                    print(f"{os.path.relpath(file, top)}: its text stands in {len(found)} files: move it by hand")
-                    lost += 1
-                    continue
-            crate, inside = files[found[0]]
-            to = f"{top}/edits/{crate.name}/{name}"
-            if to == file and inside == path:
-                continue
-            if to != file and os.path.exists(to):
-                print(f"{os.path.relpath(file, top)}: edits/{crate.name} has one of that name: move it by hand")
-                lost += 1
-                continue
-            with open(file, encoding="utf-8") as it:
-                text = it.read()
-            os.makedirs(os.path.dirname(to), exist_ok=True)
-            os.remove(file)
-            with open(to, "w", encoding="utf-8") as it:
-                it.write(text.replace(f"file: {path}\n", f"file: {inside}\n") if inside != path else text)
-        if not os.listdir(folder):
-            os.rmdir(folder)
-    print(f"{lost} to be moved by hand")
-    return 1 if lost else 0
+        good, wrong = read_edits(crate, f"{top}/edits/{crate.name}")
+        bad += wrong
+        number[crate] = len(good) + len(wrong)
+        if good:
+            groups[crate] = [[it] for it in good] if given.alone else batches_of(good)
+    return groups, number, bad
+
+
+def build_below(groups, built):
+    """Has all libraries that the crates with edits stand on."""
+    for crate in groups:
+        for below in crate.below():
+            if not built and not below.is_built():
+                subprocess.run(["rt", "lib", "--jobs", "1"], cwd=below.folder, check=False)
+            if not os.path.isdir(below.rlib):
+                sys.exit(f"{below.name} is not built")
+
+
+class Told:
+    """Says what becomes of each edit, and of each crate once all of its edits are judged."""
+
+    def __init__(self, number, bad):
+        self.number, self.passed, self.failed = number, Counter(), Counter(it.partition("/")[0] for it in bad)
+
+    def tell(self, found):
+        for edit, refused, said in found:
+            name = edit.crate.name
+            (self.passed if refused else self.failed)[name] += 1
+            print(f"{name}/{edit.name}: {said}", flush=True)
+            if self.passed[name] + self.failed[name] == self.number[edit.crate]:
+                print(f"{name}: {self.passed[name]} edits refused, {self.failed[name]} not", flush=True)
 
 
 def main():
@@ -431,56 +383,24 @@ def main():
     options.add_argument("-j", type=int, default=len(os.sched_getaffinity(0)))
     options.add_argument("--top", default=source.TOP)
     options.add_argument("--built", action="store_true")
-    options.add_argument("--times")
     options.add_argument("--look", action="store_true")
-    options.add_argument("--sort", action="store_true")
     given = options.parse_args()
-    top, rt = os.path.abspath(given.top), source.load_rt()
-    crates = rt.rtlib.crates_below(top)
-    if given.sort:
-        return sort_edits(crates, top)
-    unknown = {*(given.crate or []), *(os.listdir(f"{top}/edits") if os.path.isdir(f"{top}/edits") else [])} - {it.name for it in crates}
-    for it in sorted(unknown):
-        print(f"edits/{it}: crates.txt names no such crate")
-    if given.crate:
-        crates = [it for it in crates if it.name in given.crate]
-    groups, passed, failed, number, wrong = {}, [], sorted(unknown), {}, Counter()
-    for crate in crates:
-        good, bad = read_edits(crate, f"{top}/edits/{crate.name}")
-        print(*bad, sep="\n", end="\n" * bool(bad))
-        failed += bad
-        wrong[crate.name] += len(bad)
-        number[crate.name] = len(good) + len(bad)
-        if good:
-            groups[crate] = [[it] for it in good] if given.alone else batches_of(good)
+    top = os.path.abspath(given.top)
+    crates = kit.crates(top)
+    names = {*(given.crate or []), *(os.listdir(f"{top}/edits") if os.path.isdir(f"{top}/edits") else [])}
+    unknown = sorted(names - {it.name for it in crates})
+    crates = [it for it in crates if not given.crate or it.name in given.crate]
+    groups, number, bad = read_all(crates, top, given)
+    print(*(f"edits/{it}: crates.txt names no such crate" for it in unknown), *bad, sep="\n", end="\n" * bool(unknown + bad))
     if given.look:
-        print(f"{sum(number.values()) - len(failed)} passed, {len(failed)} failed")
-        return 1 if failed else 0
-    for crate in groups:
-        for below in crate.below():
-            if not given.built and below.build_rlib(["--jobs", "1"], anew=False):
-                sys.exit(f"{below.name} was not built")
-            if given.built and not os.path.isdir(below.rlib):
-                sys.exit(f"{below.name} is not built")
-
-    def tell(found):
-        for edit, refused, said in found:
-            (passed if refused else failed).append(edit)
-            wrong[edit.crate.name] += not refused
-            print(f"{edit.crate.name}/{edit.name}: {said}", flush=True)
-
+        print(f"{sum(number.values()) - len(bad)} passed, {len(unknown + bad)} failed")
+        return 1 if unknown + bad else 0
+    build_below(groups, given.built)
+    told = Told(number, bad)
     with tempfile.TemporaryDirectory(prefix="edits-") as room:
-        runs = Runs(rt, room, given.built)
-        try_all(runs, groups, max(given.j, 1), tell)
-    for crate in groups:
-        checks, seconds, largest = runs.took[crate.name]
-        print(f"{crate.name}: {number[crate.name]} edits in {checks} checks, {seconds:.0f} seconds of one core, {largest // 1024} MiB at most")
-    if given.times:
-        with open(given.times, "w", encoding="utf-8") as it:
-            for crate in groups:
-                checks, seconds, largest = runs.took[crate.name]
-                it.write(f"{crate.name} {number[crate.name]} {checks} {seconds:.1f} {largest} {wrong[crate.name]}\n")
-    print(f"{len(passed)} passed, {len(failed)} failed")
+        try_all(Runs(room, given.built), groups, max(given.j, 1), told.tell)
+    failed = told.failed.total() + len(unknown)
+    print(f"{told.passed.total()} passed, {failed} failed")
     return 1 if failed else 0
 
 

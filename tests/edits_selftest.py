@@ -123,7 +123,7 @@ def main():
     if [*places] != ["double", "quadruple", "above_both", "half", "third", "stepped", "taken"] or places["half"] != (30, 34):
         wrong.append(f"functions were found at {places}")
     print(*wrong, sep="\n", end="\n" * bool(wrong))
-    print(f"edits.py on itself: {len(EDITS)} edits, {len(wrong)} wrong")
+    print(f"{max(len(EDITS) - len(wrong), 0)} passed, {len(wrong)} failed")
     return 1 if wrong else 0
 
 

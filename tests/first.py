@@ -1,8 +1,12 @@
-"""Proves the program and every crate below it, builds it, and answers its stored run. Called by first.sh.
+"""Answers the stored run of the program before any proof, proves the program and every crate below it, and answers the run again
+by what is proved. Called by first.sh.
 
-A run of rt keeps all others out of the crates below its own, so that it builds one after another. Here each crate is proved in a
-copy of its own as soon as those below it are, several side by side, and what that keeps goes to crates/*/out. So a second run
-takes seconds. Only tests/gate.sh proves everything anew.
+  --try    only the first answer
+
+`rt try` reads sources alone, keeps no file and waits for no other run of rt, so it needs no copy. A proof keeps all others
+out of the crates below its own. So each crate is proved in a copy of its own as soon as those below it are, several side by
+side, and what that keeps goes to crates/*/out. Proofs leave two processors to the first answer: it runs in a session of its
+own, and between sessions Linux need not go by how far processes give way.
 """
 import os
 import re
@@ -13,11 +17,55 @@ import tempfile
 import time
 from concurrent.futures import FIRST_COMPLETED, ThreadPoolExecutor, wait
 
+import kit
 import source
 
 PROGRAM = "spand"
+PROGRAM_FOLDER = f"{source.TOP}/crates/{PROGRAM}"
+ARGUMENTS = ["--", "script", "--dir", "data", "--set", "FUT"]
 # What a check holds at most, but for a few, in bytes; no machine is asked for more than it has free.
 HELD = 5 * 2**30
+BEGAN = time.time()
+
+
+def say(text):
+    print(f"{(time.time() - BEGAN) / 60:.1f} min: {text}", flush=True)
+
+
+def say_replies(head, replies):
+    """Says the replies, with their head before each line."""
+    lines = replies.decode(errors="replace").splitlines()
+    say("\n".join([f"the stored run, {head}", *(f"    {head}: {it}" for it in lines)]))
+
+
+def first_answer():
+    """Runs the stored run without any proof, and returns its replies, or None."""
+    data = [word for it in sorted(os.listdir(f"{PROGRAM_FOLDER}/data")) for word in ("--data", f"data/{it}=data/{it}")]
+    with open(f"{PROGRAM_FOLDER}/stdin", "rb") as lines:
+        words = ["rt", "try", *data, *ARGUMENTS]
+        ran = subprocess.run(words, cwd=PROGRAM_FOLDER, stdin=lines, capture_output=True, check=False)
+    if ran.returncode:
+        say(f"the stored run gave NO ANSWER before its proof:\n{ran.stderr.decode(errors='replace')}")
+        return None
+    say_replies("NOT YET PROVED", ran.stdout)
+    return ran.stdout
+
+
+def proved_answer():
+    """Proves and builds the program and runs it, and returns its replies, or None."""
+    jobs = max(1, min(processors(), 4, free_memory() // HELD))
+    with open(f"{PROGRAM_FOLDER}/stdin", "rb") as lines:
+        words = ["rt", "run", "--jobs", str(jobs), *ARGUMENTS]
+        ran = subprocess.run(words, cwd=PROGRAM_FOLDER, stdin=lines, stdout=subprocess.PIPE, check=False)
+    if ran.returncode:
+        say(f"{PROGRAM} NOT PROVED, or its run failed (status {ran.returncode})")
+        return None
+    say_replies("PROVED", ran.stdout)
+    return ran.stdout
+
+
+def processors():
+    return len(os.sched_getaffinity(0))
 
 
 def free_memory():
@@ -40,18 +88,13 @@ def copy_of(crate, room):
         shutil.move(f"{crate.folder}/out", f"{room}/crates/{crate.name}/out")
 
 
-def size_of(crate):
-    """Returns how many bytes of code, definitions and proofs a crate has, which its proof takes longer the more there are."""
-    files = (f"{at}/{it}" for part in ("src", "specs", "proofs") for at, _, names in os.walk(f"{crate.folder}/{part}") for it in names)
-    return sum(os.path.getsize(it) for it in files)
-
-
 def heights(crates):
     """Returns for each crate the size of the longest chain from it upwards."""
     found = {}
     # (lowest first, so that each crate comes behind those below it)
     for it in reversed(crates):
-        found[it] = size_of(it) + max((found[one] for one in crates if it in one.below() and one in found), default=0)
+        longest = max((found[one] for one in crates if it in one.below() and one in found), default=0)
+        found[it] = source.size_of(it.folder) + longest
     return found
 
 
@@ -62,55 +105,76 @@ def prove(crate, jobs, give_way):
         copy_of(crate, room)
         folder = f"{room}/crates/{crate.name}"
         how = {"stdin": subprocess.DEVNULL, "stdout": subprocess.PIPE, "stderr": subprocess.STDOUT, "text": True}
-        ran = subprocess.run(["nice", "-n", str(give_way), "rt", "lib", "--jobs", str(jobs)], cwd=folder, **how, errors="replace", check=False)
+        words = ["nice", "-n", str(give_way), "rt", "lib", "--jobs", str(jobs)]
+        ran = subprocess.run(words, cwd=folder, **how, errors="replace", check=False)
         if os.path.isdir(f"{folder}/out"):
             shutil.move(f"{folder}/out", f"{crate.folder}/out")
     return crate, ran.returncode == 0 and crate.is_built(), ran.stdout, time.time() - began
 
 
-def prove_all(crates):
+def tell(crate, is_proved, said, seconds, crates):
+    """Says what became of a crate, and how far the proofs are."""
+    functions = re.search(r"^logic=proved functions=(\d+)", said, re.M)
+    told = f"{functions[1]} functions, {seconds:.0f} s" if is_proved and functions else f"{seconds:.0f} s"
+    done = len([it for it in crates if it.is_built()])
+    say(f"{crate.name} {'proved' if is_proved else 'NOT PROVED'} ({told}); {done} of {len(crates)} crates")
+    if not is_proved:
+        print(said, flush=True)
+
+
+def prove_all(crates, first):
     """Proves the crates, each once those below it are; returns whether all are proved."""
-    processors = len(os.sched_getaffinity(0))
-    at_once = max(1, min(processors, free_memory() // HELD))
-    waiting, done = [it for it in crates if not it.is_built()], len([it for it in crates if it.is_built()])
-    began, running, failed, above = time.time(), set(), False, heights(crates)
+    at_once = max(1, min(processors(), free_memory() // HELD))
+    waiting, running, failed, above = [it for it in crates if not it.is_built()], set(), False, heights(crates)
     with ThreadPoolExecutor(at_once) as pool:
         while (waiting and not failed) or running:
-            # (the crate below the longest chain comes first, and all others give way to it; several jobs prove a crate sooner,
-            # but take a quarter more processor time, so only that one has them)
+            free = (at_once if first.done() else max(1, at_once - 2)) - len(running)
             ready = [it for it in waiting if all(one.is_built() for one in it.below())] if not failed else []
-            for it in sorted(ready, key=lambda it: -above[it])[: at_once - len(running)]:
-                is_first = all(above[one] <= above[it] for one in crates if not one.is_built())
+            for it in sorted(ready, key=lambda it: -above[it])[: max(free, 0)]:
                 waiting.remove(it)
-                running.add(pool.submit(prove, it, *((min(processors, 4), 0) if is_first else (1, 15))))
-            ended, running = wait(running, return_when=FIRST_COMPLETED)
+                is_longest = all(above[one] <= above[it] for one in crates if not one.is_built())
+                running.add(pool.submit(prove, it, *share_of(is_longest, first.done())))
+            ended = wait(running if first.done() else running | {first}, return_when=FIRST_COMPLETED).done & running
+            running -= ended
             for it in ended:
-                crate, is_proved, said, seconds = it.result()
-                done += is_proved
-                functions = re.search(r"^logic=proved functions=(\d+)", said, re.M)
-                told = f"{functions[1]} functions, {seconds:.0f} s" if is_proved and functions else f"{seconds:.0f} s"
-                minutes = f"{(time.time() - began) / 60:.1f} min"
-                print(f"{minutes}: {crate.name} {'proved' if is_proved else 'NOT PROVED'} ({told}); {done} of {len(crates)} crates", flush=True)
-                if not is_proved:
-                    print(said, flush=True)
-                    failed = True
+                tell(*it.result(), crates)
+                failed |= not it.result()[1]
     return not failed
 
 
-def main():
-    top, rt = source.TOP, source.load_rt()
-    program = next(it for it in rt.rtlib.crates_below(top) if it.name == PROGRAM)
-    os.makedirs(f"{top}/out", exist_ok=True)
-    try:
-        if not prove_all(program.below()):
-            return 1
-    finally:
-        shutil.rmtree(f"{top}/out", ignore_errors=True)
-    os.chdir(program.folder)
-    jobs = max(1, min(len(os.sched_getaffinity(0)), 4, free_memory() // HELD))
-    with open("stdin", "rb") as lines:
-        return subprocess.run(["rt", "run", "--jobs", str(jobs), "--", "script", "--dir", "data", "--set", "FUT"], stdin=lines, check=False).returncode
+def share_of(is_longest, is_answered):
+    """Returns how many jobs a proof has, and how far it gives way to others."""
+    # (the crate below the longest chain comes first, and all others give way to it; several jobs prove a crate sooner, but
+    # take a quarter more processor time, so only that one has them, and not while the first answer is awaited)
+    return (min(processors(), 4) if is_answered else 1, 0) if is_longest else (1, 15)
+
+
+def main(words):
+    if words not in ([], ["--try"]):
+        print(__doc__)
+        return 2
+    if words:
+        return int(first_answer() is None)
+    program = next(it for it in kit.crates(source.TOP) if it.name == PROGRAM)
+    if all(it.is_built() for it in program.below()) and os.path.isfile(f"{PROGRAM_FOLDER}/out/{PROGRAM}"):
+        # (an answer before the proof would come after the proved one)
+        return int(proved_answer() is None)
+    os.makedirs(f"{source.TOP}/out", exist_ok=True)
+    with ThreadPoolExecutor(1) as pool:
+        first = pool.submit(first_answer)
+        try:
+            is_proved = prove_all(program.below(), first)
+        finally:
+            shutil.rmtree(f"{source.TOP}/out", ignore_errors=True)
+        proved = proved_answer() if is_proved else None
+    if proved is None:
+        return 1
+    if proved != first.result():
+        say("the replies of the PROVED program DIFFER from those that came first")
+        return 1
+    say("the replies are those that came first, and now they are proved")
+    return 0
 
 
 if __name__ == "__main__":
-    sys.exit(main())
+    sys.exit(main(sys.argv[1:]))

@@ -1,42 +1,42 @@
-"""What the gate remembers of each crate that passed: when, and the hashes of what was tried. Called by tests/gate.py."""
+"""Which crates' edits were all refused, so that the short run need not try them again. Called by tests/gate.py.
+
+A line counts while its key is that of the crate as it stands. It speaks of edits alone: no proof and no test is left out for it.
+"""
 import hashlib
 import os
 import re
 import subprocess
 from collections import namedtuple
-from datetime import datetime, timedelta, timezone
+from datetime import datetime, timezone
 
 import source
 
 GREEN = "tests/green.txt"
-# What was tried longer ago than this is tried again.
-OLDEST = timedelta(days=10)
-# The scripts that say what was tried: where one changes, every crate counts as changed.
-SCRIPTS = ("tests/edits.py", "tests/green.py", "tests/source.py")
-HEADING = """# Written by `tests/gate.sh --all` and `tests/gate.sh --crate` alone, a line for each crate that passed with its tests and edits:
-# the hashes of its own files, of the definitions of the crates below it, and of its files and those of all crates below it; when it
-# was tried; and with which release of the toolchain."""
-WHEN = "%Y-%m-%dT%H:%MZ"
-# own, definitions and whole: the three hashes; when it was tried, and with which release of the toolchain
-Line = namedtuple("Line", "own definitions whole when release")
+# The scripts that decide whether an edit was refused.
+SCRIPTS = ("edits.py", "green.py", "kit.py", "source.py")
+HEADING = """# Written by tests/gate.sh: a line for each crate all of whose edits were refused. Its name; the key, a hash of all that
+# this depends on; when it was seen, and under which release of the toolchain. A line with another key counts for nothing."""
+# Items of an .antt file that mean something by themselves: what is no statement of a lemma, or equation of its proof.
+DEFINES = re.compile(r"(pub )?(use|mod|abbrev|unfoldable|opaque|data|record|infix[lr]?)\b")
+# What a crate above can name of proofs/ stands in none of these: they are each one function's.
+OWN_PROOFS = ("Proof.antt", "Answers.antt", "Invariants.antt")
+# when: as it is written; release: of the toolchain
+Line = namedtuple("Line", "key when release")
 
 
 def tracked(top):
-    """Returns the repository's files: what git has or would take, or all but what rt makes."""
-    ran = subprocess.run(["git", "-C", top, "ls-files", "-z", "-co", "--exclude-standard"], capture_output=True, text=True)
-    if ran.returncode == 0 and os.path.exists(f"{top}/.git"):
-        return sorted({it for it in ran.stdout.split("\0") if it and os.path.isfile(f"{top}/{it}")})
-    found = []
-    for at, folders, names in os.walk(top):
-        folders[:] = [it for it in folders if it not in (".git", "out")]
-        found += [os.path.relpath(f"{at}/{it}", top) for it in names]
-    return sorted(found)
+    """Returns the repository's files: what git has or would take, or all but what runs leave."""
+    if os.path.exists(f"{top}/.git"):
+        words = ["git", "-C", top, "ls-files", "-z", "-co", "--exclude-standard"]
+        said = subprocess.run(words, stdout=subprocess.PIPE, text=True, check=True).stdout
+        return sorted({it for it in said.split("\0") if os.path.isfile(f"{top}/{it}")})
+    inside = (os.path.relpath(it, top) for it in source.files_below(top))
+    return sorted(it for it in inside if not {"out", "__pycache__"} & {*it.split("/")[:-1]})
 
 
 def version():
-    """Returns the toolchain's release, and the sum of the logic that its proofs stand on."""
-    release, *logic = subprocess.run(["rt", "version"], capture_output=True, text=True).stdout.split()
-    return release, " ".join(logic)
+    """Returns the whole line of `rt version`."""
+    return subprocess.run(["rt", "version"], capture_output=True, text=True, check=True).stdout.strip()
 
 
 def hash_of(parts):
@@ -44,97 +44,96 @@ def hash_of(parts):
     for it in parts:
         made.update(it if isinstance(it, bytes) else it.encode())
         made.update(b"\0")
-    return made.hexdigest()[:16]
+    return made.hexdigest()[:32]
 
 
 class Repository:
-    """The crates of crates.txt, with what each stands on and its hashes."""
+    """The crates of crates.txt, with what each stands on and its key."""
 
     def __init__(self, top):
-        self.top, self.lines, named = top, {}, {}
+        self.top, self.lines, self.files = top, {}, tracked(top)
         with open(f"{top}/crates.txt", encoding="utf-8") as it:
             for line in it:
                 if line.strip() and not line.startswith("#"):
-                    head, _, words = line.partition(":")
-                    self.lines[head.split()[0]] = line.strip()
-                    named[head.split()[0]] = words.split()
-        self.named = {name: [it for it in words if it in named] for name, words in named.items()}
-        self.files = tracked(top)
+                    self.lines[line.partition(":")[0].split()[0]] = line.strip()
 
     def below(self, name):
         """Returns the repository's crates below this one, lowest first."""
         found = []
-        for it in self.named[name]:
-            found += [one for one in [*self.below(it), it] if one not in found]
+        for it in self.lines[name].partition(":")[2].split():
+            if it in self.lines:
+                found += [one for one in [*self.below(it), it] if one not in found]
         return found
 
-    def with_below(self, names):
-        return {one for it in names for one in [*self.below(it), it]}
+    def with_edits(self):
+        return [it for it in self.lines if any(file.startswith(f"edits/{it}/") for file in self.files)]
 
-    def files_of(self, name):
-        return [it for it in self.files if it.startswith((f"crates/{name}/", f"edits/{name}/"))]
+    def keys(self):
+        """Returns for each crate with edits the hash of all that their verdicts depend on."""
+        scripts = [f"tests/{it}" for it in SCRIPTS]
+        common = hash_of([version(), *self.texts(it for it in self.files if it in ("HANDLES", *scripts))])
+        stated = {name: hash_of(self.statements(name)) for name in self.lines}
+        key = lambda name: hash_of([common, *self.own(name), *map(stated.get, self.below(name))])
+        return {name: key(name) for name in self.with_edits()}
 
-    def hashes(self):
-        """Returns the three hashes of each crate."""
-        scripts = [source.bytes_of(f"{self.top}/{it}") for it in (*SCRIPTS, "HANDLES") if os.path.isfile(f"{self.top}/{it}")]
-        common = hash_of([version()[1], *scripts])
-        own, stated = {}, {}
-        for name, line in self.lines.items():
-            pairs = [part for it in self.files_of(name) for part in (it, source.bytes_of(f"{self.top}/{it}"))]
-            own[name] = hash_of([common, line, *pairs])
-            stated[name] = hash_of(self.statements(name))
-        given = {}
-        for name in self.lines:
-            below = self.below(name)
-            definitions = hash_of([common, *[part for it in below for part in (it, stated[it])]])
-            given[name] = (own[name], definitions, hash_of([own[name], *[own[it] for it in below]]))
-        return given
+    def texts(self, files):
+        return [part for it in files for part in (it, source.bytes_of(f"{self.top}/{it}"))]
+
+    def own(self, name):
+        folders = *(f"crates/{name}/{part}/" for part in ("src", "specs", "proofs")), f"edits/{name}/"
+        return [self.lines[name], *self.texts(it for it in self.files if it.startswith(folders))]
 
     def statements(self, name):
-        """Returns what a crate above sees of this one: its specs, and its code without comments, functions' blocks and tests."""
-        mine = self.files_of(name)
-        specs = [it for it in mine if it.startswith(f"crates/{name}/specs/")]
-        code = [it for it in mine if it.startswith(f"crates/{name}/src/") and it.endswith(".rt")]
-        code = [it for it in code if not re.search(r"/tests/|[/_]tests\.rt$", it)]
-        rows = source.tokens(f"{self.top}/{it}" for it in code)
-        found = [part for it in specs for part in (it, source.bytes_of(f"{self.top}/{it}"))]
-        for it in code:
-            row = rows[f"{self.top}/{it}"]
-            if row is None:
-                found += [it, source.bytes_of(f"{self.top}/{it}")]
-                continue
-            blocks = [(one.body, one.end) for one in source.functions(row)]
-            seen = [one.text for one in row if not any(start <= one.start < end for start, end in blocks)]
-            found += [it, " ".join(seen)]
+        """Returns what a crate above can rely on: specs/, statements of lemmas, and code without functions' blocks and comments."""
+        mine = [it.removeprefix(f"crates/{name}/") for it in self.files if it.startswith(f"crates/{name}/")]
+        folder, found = f"{self.top}/crates/{name}", [self.lines[name]]
+        found += self.texts(f"crates/{name}/{it}" for it in mine if it.startswith("specs/"))
+        for it in mine:
+            if it.startswith("proofs/") and os.path.basename(it) not in OWN_PROOFS:
+                found += [it, *lemmas(source.bytes_of(f"{folder}/{it}").decode(errors="replace"))]
+        code = [it for it in mine if it.startswith("src/") and not source.is_of_tests(it)]
+        for file, rows in source.tokens(f"{folder}/{it}" for it in code if it.endswith(".rt")).items():
+            found += [os.path.relpath(file, folder), signatures(file, rows)]
         return found
 
 
-def now_of(top):
-    """Returns the time of what is tried: of the last commit, so that a commit that passed goes on passing, or now where files differ
-    from it."""
-    git = lambda *words: subprocess.run(["git", "-C", top, *words], capture_output=True, text=True)
-    seen = git("log", "-1", "--format=%ct")
-    if seen.returncode or not seen.stdout.strip() or git("status", "--porcelain").stdout.strip():
-        return datetime.now(timezone.utc)
-    return datetime.fromtimestamp(int(seen.stdout), timezone.utc)
-
-
-def greens(top):
-    """Returns for each crate that passed what is told of it."""
-    found = {}
-    if os.path.isfile(f"{top}/{GREEN}"):
-        with open(f"{top}/{GREEN}", encoding="utf-8") as it:
-            rows = [line.split() for line in it if line.strip() and not line.startswith("#")]
-        for name, own, definitions, whole, when, release in rows:
-            found[name] = Line(own, definitions, whole, datetime.strptime(when, WHEN).replace(tzinfo=timezone.utc), release)
+def lemmas(text):
+    """Returns the items of a proof file without comments, private statements and the equations by which statements are proved."""
+    found, is_definition = [], False
+    for item in re.findall(r"(?m)^\S.*\n?(?:(?:[ \t}].*)?\n)*", text):
+        if item.startswith("--"):
+            continue
+        if DEFINES.match(item):
+            is_definition = True
+        elif item.startswith("pub ") or re.match(r"\S+ :\s", item):
+            is_definition = False
+        if is_definition or item.startswith("pub "):
+            found.append(re.sub(r"(?m)^\s*--.*\n?", "", item).rstrip())
     return found
 
 
-def write(top, hashes, tried):
-    """Writes that these crates passed now, and keeps what is told of the others that there still are."""
-    told, now, (release, _) = greens(top), datetime.now(timezone.utc), version()
-    told |= {it: Line(*hashes[it], now, release) for it in tried}
-    rows = [f"{it} {one.own} {one.definitions} {one.whole} {one.when:{WHEN}} {one.release}" for it, one in told.items() if it in hashes]
-    rows.sort(key=lambda it: [*hashes].index(it.split()[0]))
+def signatures(file, rows):
+    """Returns the text of a .rt file without comments and without what stands in functions' blocks."""
+    if rows is None:
+        return source.bytes_of(file)
+    blocks = [(it.body, it.end) for it in source.functions(rows)]
+    return " ".join(it.text for it in rows if not any(start <= it.start < end for start, end in blocks))
+
+
+def read(top):
+    """Returns what is told of each crate."""
+    if not os.path.isfile(f"{top}/{GREEN}"):
+        return {}
+    with open(f"{top}/{GREEN}", encoding="utf-8") as it:
+        rows = [line.split() for line in it if line.strip() and not line.startswith("#")]
+    return {row[0]: Line(*row[1:]) for row in rows if len(row) == 4}
+
+
+def write(top, key_of):
+    """Writes that all edits of these crates were refused now, under these keys, and keeps what is told of other crates."""
+    now, (release, *_) = datetime.now(timezone.utc), version().split()
+    told = read(top) | {name: Line(key, f"{now:%Y-%m-%dT%H:%MZ}", release) for name, key in key_of.items()}
+    rows = [" ".join([it, *told[it]]) for it in Repository(top).lines if it in told]
+    os.makedirs(f"{top}/tests", exist_ok=True)
     with open(f"{top}/{GREEN}", "w", encoding="utf-8") as it:
         it.write("\n".join([HEADING, *rows]) + "\n")

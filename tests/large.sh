@@ -11,7 +11,7 @@ failed=0
 cc -shared -fPIC -O1 -o "$work/short_io.so" "$here/short_io.c" || exit 1
 
 # Makes a session by an awk program that calls say(COMMAND, REPLY) in turn. A reply is given without its place: OK, OK
-# and figures, or the code and the name of a refusal, for which an entry is counted too.
+# and figures, or the code and the name of a refusal, for which an entry is counted too; `bare` says one that has no entry.
 make_session() {
     awk -v lines="$work/in" -v replies="$work/want" '
         function say(command, reply) {
@@ -19,6 +19,10 @@ make_session() {
             print command > lines
             if (reply ~ /^OK/) print "OK " place substr(reply, 3) > replies
             else print "ERR " place " " reply > replies
+        }
+        function bare(command, reply) {
+            print command > lines
+            print "ERR " reply > replies
         }
         function begin(origin, mode, account) {
             say("ORIGIN " origin " " mode, "OK")
@@ -59,6 +63,12 @@ make_session '
     say("ASK A1", "OK 0 76500 100000 100000 23500")
     say("HOLD A1 256 AAA1 1 0", "OK")
     say("HOLD A1 257 AAA1 1 0", "31 LIMIT")
+    say("HOLD A1 257 AAA1 1000000 0", "31 LIMIT")
+    say("HOLD A1 257 AAA1 1 5", "32 PREMIUM")
+    say("HOLD A1 257 BBB1 1 5", "23 NOCONTRACT")
+    say("HOLD A1 256 BBB1 1 5", "22 DUP")
+    say("HOLD A1 1 AAA1 1 0", "22 DUP")
+    say("HOLD A2 257 AAA1 1 0", "20 NOACCT")
     say("ASK A1", "OK 0 76800 100000 100000 23200")
     say("FILL A1 100 1 1 0", "OK")
     say("HOLD A1 257 AAA1 1 0", "OK")
@@ -73,12 +83,14 @@ look "256 holds of an account" "$here/../sets" FUT 0 ""
 make_session '
     for (n = 1; n <= 64; n++) say("SWITCH ONE", "OK " n " 0")
     say("SWITCH ONE", "43 SETS")
+    bare("SWITCH NOPE", "40 NOSET")
     begin("CUST", "GROSS", "A1")
     say("TRADE A1 1 BBB1 1 0", "OK")
     say("SWITCH FUT", "42 MISSING")
     say("SWITCH TWO", "43 SETS")
     say("END", "OK")
     say("SWITCH TWO", "50 CLOSED")
+    say("SWITCH FUT", "50 CLOSED")
 '
 look "64 new sets" "$here/../sets" ONE 0 ""
 
@@ -91,6 +103,9 @@ make_session '
     say("OPEN A1025 CUST", "31 LIMIT")
     say("ASK A1025", "20 NOACCT")
     say("OPEN A1024 CUST", "22 DUP")
+    say("OPEN A1025 NONE", "21 NOORIGIN")
+    say("OPEN A1 NONE", "21 NOORIGIN")
+    say("ORIGIN CUST NET", "22 DUP")
     say("ORIGIN HOUSE NET", "31 LIMIT")
     say("ORIGIN MORE GROSS", "OK")
     say("OPEN A1025 MORE", "31 LIMIT")
@@ -105,6 +120,8 @@ make_session '
     for (n = 1; n <= 1022; n++) say("OPEN A" n " CUST", "OK")
     say("ORIGIN LAST NET", "OK")
     say("OPEN A1023 CUST", "31 LIMIT")
+    say("OPEN A1022 CUST", "22 DUP")
+    say("ORIGIN HOUSE NET", "22 DUP")
     say("OPEN H2 HOUSE", "OK")
     say("OPEN H3 HOUSE", "31 LIMIT")
 '
@@ -118,12 +135,26 @@ make_session '
     say("BUST A1 1", "OK")
     say("TRADE A1 65537 AAA1 1 0", "31 LIMIT")
     say("ASK A1", "OK 300 300 0 0 -300")
+    say("TRADE A1 65537 AAA1 1 5", "32 PREMIUM")
+    say("TRADE A1 65537 BBB1 1 5", "23 NOCONTRACT")
+    say("TRADE A1 1 AAA1 1 0", "22 DUP")
     say("POST A1 CASH 300", "OK")
     say("HOLD A1 1 AAA1 1 0", "OK")
     say("FILL A1 1 65537 1 0", "31 LIMIT")
+    say("FILL A1 1 65537 2 0", "33 OVER")
+    say("FILL A1 1 65537 -1 0", "33 OVER")
+    say("FILL A1 1 65537 1 5", "32 PREMIUM")
+    say("FILL A1 2 65537 1 0", "25 NOORDER")
+    say("FILL A1 1 1 1 0", "22 DUP")
     say("OPEN A2 CUST", "OK")
     say("MOVE 65537 A1 A2 AAA1 1", "31 LIMIT")
     say("MOVE 65537 A2 A1 AAA1 1", "31 LIMIT")
+    say("MOVE 65537 A1 A2 BBB1 1", "23 NOCONTRACT")
+    say("MOVE 1 A2 A1 AAA1 1", "22 DUP")
+    say("ORIGIN HOUSE NET", "OK")
+    say("OPEN H1 HOUSE", "OK")
+    say("MOVE 65537 A1 H1 AAA1 1", "34 ORIGIN")
+    say("MOVE 65537 H1 A1 AAA1 1", "34 ORIGIN")
 '
 look "65,536 lots of an account" "$here/../sets" FUT 0 ""
 
@@ -163,6 +194,52 @@ make_session '
     say("END", "OK")
 '
 look "a set and a book of full size" "$work" FULL 0 ""
+
+# As many rows as a table may have, and one more: the number of the record that gives it.
+rows() {
+    awk -v table="$1" -v count="$2" '
+        function contract(k, g) { print "K,K" k ",G" g ",1,F,F,0,0,0,0,0,0,0,0,0,0,0,0,0,0,0,0,0,0" }
+        BEGIN {
+            print "H,1,ROWS"
+            if (table != "G" && table != "N") print "G,G0,0"
+            if (table == "K") print "M,G0,1,1"
+            if (table == "I") print "G,G1,0"
+            if (table == "N") for (g = 0; g <= 16; g++) print "G,G" g ",0\nM,G" g ",1,1"
+            for (n = 0; n < count; n++) {
+                if (table == "G") print "G,G" n ",0"
+                if (table == "M") print "M,G0," n + 1 ",1"
+                if (table == "K") contract(n, 0)
+                if (table == "N") contract(n, int(n / 256))
+                if (table == "S") print "S,G0,1,1,2,1,0"
+                if (table == "I") print "I,0,G0,A,1,G1,B,1"
+                if (table == "V") print "V,V" n ",0,0"
+            }
+        }' > "$work/$1$2.csv"
+}
+for it in G256 G257 M64 M65 K256 K257 N4096 N4097 S32 S33 I64 I65 V16 V17; do
+    rows "$(echo $it | cut -c1)" "$(echo $it | cut -c2-)"
+done
+make_session '
+    say("SWITCH G256", "OK 1 0")
+    bare("SWITCH G257", "41 BADSET 258")
+    say("SWITCH M64", "OK 2 0")
+    bare("SWITCH M65", "41 BADSET 67")
+    say("SWITCH K256", "OK 3 0")
+    bare("SWITCH K257", "41 BADSET 260")
+    say("SWITCH N4096", "OK 4 0")
+    bare("SWITCH N4097", "41 BADSET 4132")
+    say("SWITCH S32", "OK 5 0")
+    bare("SWITCH S33", "41 BADSET 35")
+    say("SWITCH I64", "OK 6 0")
+    bare("SWITCH I65", "41 BADSET 68")
+    say("SWITCH V16", "OK 7 0")
+    bare("SWITCH V17", "41 BADSET 19")
+    say("END", "OK")
+    bare("SWITCH V17", "41 BADSET 19")
+    bare("SWITCH NOPE", "40 NOSET")
+    say("SWITCH V16", "50 CLOSED")
+'
+look "tables of a set that are full" "$work" V16 0 ""
 
 # A line more than a session answers, and no such line: its first byte ends the session.
 awk 'BEGIN { for (n = 1; n <= 1000000; n++) print ""; printf "A" }' > "$work/in"

@@ -1,7 +1,8 @@
 #!/bin/sh
 # Lets each allocation of the stored run fail in turn. Each run must end with `spand: memory`, with `spand: session
 # MEMORY` and a front of the replies, or with one reply `ERR 90 MEMORY`, and then the other replies are those to the
-# script without that line. It needs a C compiler, `cc`, and an allocator of the C library that can be stood before.
+# script without that line. A check of the set must end with `spand: memory` and a front of what it tells, or tell all.
+# It needs a C compiler, `cc`, and an allocator of the C library that can be stood before.
 # Usage: tests/memory.sh [PROGRAM], by default the program that `rt run` or `rt ci` leaves.
 here=$(CDPATH= cd -- "$(dirname -- "$0")" && pwd)
 program=${1:-$here/../crates/spand/out/spand}
@@ -60,5 +61,23 @@ while [ $whole -lt 300 ]; do
         fi
     fi
 done
+FAIL_ALLOC=0 "$program" check --dir "$stored/data" --set FUT > told 2> err || exit 1
+checks=0
+whole=0
+while [ $whole -lt 300 ]; do
+    checks=$((checks + 1))
+    FAIL_ALLOC=$checks LD_PRELOAD=$work/failing_alloc.so "$program" check --dir "$stored/data" --set FUT > out 2> err
+    status=$?
+    if [ $status = 0 ] && [ ! -s err ] && cmp -s out told; then
+        whole=$((whole + 1))
+    else
+        whole=0
+        if [ $status != 6 ] || [ "$(cat err)" != 'spand: memory' ] || ! head -c "$(wc -c < out)" told | cmp -s - out; then
+            failed=$((failed + 1))
+            echo "FAILED: allocation $checks of a check: status $status, out: $(head -c 200 out), err: $(head -c 200 err)"
+        fi
+    fi
+done
+runs=$((runs - 300 + checks))
 echo "$((runs - whole)) allocations, $failed failed"
 [ $failed -eq 0 ]

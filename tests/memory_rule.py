@@ -5,11 +5,17 @@ answer, which its contract would let it do.
 
 A word that ends in `Memory`, or `AllocError`, in a function's block is one of
   a pattern, a type, or a value that is compared;
-  in `impl From<AllocError>`, or in an arm whose pattern or guard has such a word: handed up;
+  in `impl From<AllocError>`, or in an arm whose pattern names nothing but such words, or whose guard asks for one: handed up;
   in the `Err` arm of a `match`, the block of an `if let Err(..) =` or of `if CALL.is_err()`, the `else` of a `let Ok(..) =`, or
   the closure of `map_err`, each of a call that can fail only for memory: handed up.
 All else makes it, and fails. A call can fail only for memory where all functions of that name in the repository give an
 `AllocError` or a `Memory`, or where LIBRARY has the name.
+
+Nor is a call made that no machine could meet. What `reserve`, `resize`, `with_capacity` and `vec!` are asked for is a sum of
+  numbers, and constants with numbers, up to MOST_ASKED;
+  calls of `len`, of `count` and of what ends in `_count`;
+  the function's parameters, and names that `let` gives one of these.
+What a caller hands to a parameter is not followed.
 The last line is `N passed, M failed`, of the places that were looked at."""
 import os
 import re
@@ -20,8 +26,13 @@ import source
 
 WORD = re.compile(r"\w*Memory|AllocError")
 ONLY_MEMORY = {"AllocError", "Memory"}
-# Calls of the libraries that fail for want of memory alone: growth, and reading a record of text that is in memory.
-LIBRARY = {"push", "reserve", "extend_from_slice", "insert", "read_byte_record"}
+# Calls of the libraries that fail for want of memory alone: growth, of a table too, whose 2^63 places no memory holds, and
+# reading a record of text that is in memory.
+LIBRARY = {"push", "push_shown", "reserve", "extend_from_slice", "insert", "read_byte_record"}
+# What may be asked for in one call, in items.
+MOST_ASKED = 1_000_000
+# Where among the arguments the number of items stands.
+GROWTHS = {"reserve": 0, "resize": 0, "with_capacity": -1}
 # The last resort: places by (file, function) that are right and look like none of these.
 ALLOWED = set()
 
@@ -41,6 +52,17 @@ class Text:
             self.inside.append(opened[-1] if opened else None)
             if word in "{[(":
                 opened.append(at)
+
+    def is_literal(self, at):
+        """Returns whether the brace there opens the fields of a struct, in a value or a pattern."""
+        return self.words[at] == "{" and bool(re.fullmatch(r"[A-Z]\w*[a-z]\w*", self.words[at - 1]))
+
+    def parts(self, opened, mark=","):
+        """Returns what stands between the marks inside a bracket, each as (begin, end)."""
+        end = self.partner[opened]
+        cuts = [it for it in range(opened + 1, end) if self.words[it] == mark and self.inside[it] == opened]
+        found = zip([opened, *cuts], [*cuts, end])
+        return [(begin + 1, stop) for begin, stop in found if begin + 1 < stop]
 
     def back(self, at, stops):
         """Returns where the words begin that lead up to this place, back to one of these on the same level."""
@@ -81,9 +103,22 @@ def gives_memory(text, begin, end, names):
     return bool(names.get(text.callee(end)))
 
 
-def is_in_tuple(text, at):
-    """Returns whether a comma stands there between the parts of a tuple, or of a call's arguments."""
-    return text.words[at] == "," and text.inside[at] is not None and text.words[text.inside[at]] == "("
+def is_inside_pattern(text, at):
+    """Returns whether a pattern may go on behind what stands there."""
+    if at == len(text.words):
+        return False
+    word, inside = text.words[at], text.inside[at]
+    if word == ",":
+        return inside is not None and (text.words[inside] == "(" or text.is_literal(inside))
+    if word in "{}":
+        return text.is_literal(at if word == "{" else text.partner[at])
+    return word not in ("=", ";", "?")
+
+
+def is_field(text, begin):
+    """Returns whether the value, or the pattern, that begins there is a field's of a struct."""
+    inside = text.inside[begin]
+    return inside is not None and text.is_literal(inside) and text.words[begin - 3] in "{,"
 
 
 def is_read(text, at):
@@ -94,7 +129,7 @@ def is_read(text, at):
     before, after = words[begin - 1], words[at + 1]
     if after == ":" and words[at + 2] == ":" or before == "<" or after in ">" or words[begin - 2 : begin] == ["=", "="]:
         return True
-    if before == ":" or words[begin - 2 : begin] == ["-", ">"]:
+    if before == ":" and not is_field(text, begin) or words[begin - 2 : begin] == ["-", ">"]:
         return True
     inside = text.inside[at]
     while inside is not None and words[inside] == "(":
@@ -103,11 +138,21 @@ def is_read(text, at):
         inside = text.inside[inside]
     # A pattern leads to => or, behind `let`, to =, with nothing but patterns and a guard between.
     to = at + 1
-    while words[to] in (")", "|", "]") or is_in_tuple(text, to) or words[to] not in ("=", ",", ";", "{", "}") and words[to] != "?":
-        to = text.partner[to] + 1 if words[to] in "([" else to + 1
-    if words[to] != "=":
+    while is_inside_pattern(text, to):
+        to = text.partner[to] + 1 if words[to] in "([{" else to + 1
+    if words[to : to + 1] != ["="]:
         return False
     return words[to + 1] == ">" or "let" in words[text.back(begin, ";{}") : begin] and words[to + 1] != "="
+
+
+def names_memory_alone(pattern):
+    """Returns whether a pattern, with its guard, is met for want of memory alone."""
+    cut = pattern.index("if") if "if" in pattern else len(pattern)
+    asked = [it.split() for it in " ".join(pattern[cut + 1 :]).split("| |")]
+    named = [it.split() for it in " ".join(pattern[:cut]).split("|")]
+    if all(any(map(WORD.fullmatch, it)) for it in named if it):
+        return True
+    return "!" not in pattern and all(any(map(WORD.fullmatch, it)) for it in asked)
 
 
 def is_handed_up(text, at, function, names):
@@ -124,7 +169,7 @@ def is_handed_up(text, at, function, names):
                 start = len(head) - 1 - head[::-1].index("match") + begin + 1
                 arrow = arrow_before(text, inside, at)
                 pattern = words[text.back(arrow, ("{", ",", "}")) : arrow] if arrow else []
-                if any(map(WORD.fullmatch, pattern)):
+                if pattern and names_memory_alone(pattern):
                     return True
                 if pattern[:2] == ["Err", "("] and "if" not in pattern and gives_memory(text, start, inside, names):
                     return True
@@ -136,8 +181,8 @@ def is_handed_up(text, at, function, names):
                 start = len(head) - 1 - head[::-1].index("if")
                 if head[start + 1 : start + 4] == ["let", "Err", "("]:
                     equals = begin + start + head[start:].index("=")
-                    pattern = words[begin + start : equals]
-                    if any(map(WORD.fullmatch, pattern)) or gives_memory(text, equals + 1, inside, names):
+                    pattern = words[begin + start + 2 : equals]
+                    if names_memory_alone(pattern) or gives_memory(text, equals + 1, inside, names):
                         return True
                 elif all_failed(text, begin + start + 1, inside, names):
                     return True
@@ -167,31 +212,109 @@ def all_failed(text, begin, end, names):
     return not {"!", "&"} & {*joined}
 
 
-def wrong_places(files):
-    """Returns how many places were looked at, and those that make a fault of memory, as (file, line, function, text)."""
-    texts = {file: Text(rows or []) for file, rows in source.tokens(files).items()}
+def sizes_asked(text):
+    """Returns what is asked for where lists grow, as (begin, end)."""
+    found = []
+    for at, word in enumerate(text.words[:-2]):
+        if word in GROWTHS and text.words[at + 1] == "(" and text.words[at - 1] != "fn":
+            found += text.parts(at + 1)[GROWTHS[word] :][:1]
+        elif text.words[at : at + 3] == ["vec", "!", "["] and len(text.parts(at + 2, ";")) == 3:
+            found.append(text.parts(at + 2, ";")[2])
+    return found
+
+
+def small_constants(texts):
+    """Returns the names of constants that are all numbers up to MOST_ASKED where they are numbers."""
+    values = {}
+    for text in texts:
+        for at, word in enumerate(text.words):
+            if word == "const" and text.words[at + 2] == ":" and "=" in text.words[at:]:
+                equals = text.words.index("=", at)
+                values.setdefault(text.words[at + 1], []).append(text.words[equals + 1 : text.words.index(";", equals)])
+    numbers = {name: [it for it in found if it[:1] != ["["]] for name, found in values.items()}
+    return {name for name, found in numbers.items() if found and all(len(it) == 1 and is_small_number(it[0]) for it in found)}
+
+
+def is_small_number(word):
+    found = re.fullmatch(r"(\d[\d_]*?)_?([ui](\d+|size))?", word)
+    return bool(found) and int(found[1].replace("_", "")) <= MOST_ASKED
+
+
+def is_small(text, begin, end, function, constants):
+    """Returns whether a size that is asked for is one that a machine can have."""
+    cuts = [it for it in range(begin, end) if text.words[it] == "+" and text.inside[it] == text.inside[begin]]
+    terms = [text.words[start + 1 : stop] for start, stop in zip([begin - 1, *cuts], [*cuts, end])]
+    return all(is_small_term(text, begin, it, function, constants) for it in terms)
+
+
+def is_small_term(text, at, words, function, constants):
+    if words[-2:] == ["(", ")"]:
+        return bool(re.fullmatch(r"len|count|\w+_count", words[-3])) and not {"MAX", "*", "<"} & {*words}
+    word = words[-1] if words else ""
+    if len(words) != 1:
+        return words[-3:-1] == [":", ":"] and word in constants
+    if is_small_number(word) or word in constants:
+        return True
+    head = [it.text for it in text.rows if function.start <= it.start < function.body]
+    if any(head[it : it + 2] == [word, ":"] for it in range(len(head))):
+        return True
+    for it in range(at - 1, 0, -1):
+        if text.rows[it].start < function.body:
+            break
+        if text.words[it : it + 2] == [word, "="] and text.words[it - 1] in ("let", "mut"):
+            return is_small(text, it + 2, text.words.index(";", it), function, constants)
+    return False
+
+
+def innermost(text, row):
+    inside = [it for it in text.functions if it.body < row.start < it.end]
+    return min(inside, key=lambda it: it.end - it.body, default=None)
+
+
+def makers(text, names):
+    """Yields each place where a fault of memory stands in code, with its function and whether it may stand there."""
+    for at, row in enumerate(text.rows):
+        if not WORD.fullmatch(row.text):
+            continue
+        function, head = innermost(text, row), text.words[text.back(at, ";{}") : at]
+        if function is None and not ({"const", "static"} & {*head} and "=" in head) or head[:1] == ["use"]:
+            continue
+        yield at, function, bool(function) and (is_read(text, at) or is_handed_up(text, at, function, names))
+
+
+def growths(text, constants):
+    """Yields each place where a list grows, with its function and whether it may ask for so much."""
+    for begin, end in sizes_asked(text):
+        function = innermost(text, text.rows[begin])
+        if function:
+            yield begin, function, is_small(text, begin, end, function, constants)
+
+
+def fails_for_memory(texts):
+    """Returns for names of functions whether what they fail for is memory alone."""
     errors = {}
-    for text in texts.values():
+    for text in texts:
         for it in text.functions:
             error = text.error_of(it)
             if error is not None:
                 errors.setdefault(it.name, set()).add(error)
     names = {name: found <= ONLY_MEMORY for name, found in errors.items()}
-    names.update({it: names.get(it, True) for it in LIBRARY})
+    return names | {it: names.get(it, True) for it in LIBRARY}
+
+
+def wrong_places(files):
+    """Returns how many places were looked at, and those that are wrong, as (file, line, function, why, text)."""
+    texts = {file: Text(rows or []) for file, rows in source.tokens(files).items()}
+    names, constants = fails_for_memory(texts.values()), small_constants(texts.values())
     looked, wrong = 0, []
     for file, text in texts.items():
-        for at, row in enumerate(text.rows):
-            if not WORD.fullmatch(row.text):
-                continue
-            inside = [it for it in text.functions if it.body < row.start < it.end]
-            function = min(inside, key=lambda it: it.end - it.body, default=None)
-            head = text.words[text.back(at, ";{}") : at]
-            if function is None and not ({"const", "static"} & {*head} and "=" in head) or head[:1] == ["use"]:
-                continue
-            looked += 1
-            if function and (is_read(text, at) or is_handed_up(text, at, function, names)):
-                continue
-            wrong.append((file, row.line, function.name if function else "", " ".join(text.words[at - 4 : at + 2])))
+        rules = {"makes a fault of memory": makers(text, names), "asks for more than is sure to be small": growths(text, constants)}
+        for why, places in rules.items():
+            for at, function, is_right in places:
+                looked += 1
+                if not is_right:
+                    name, said = function.name if function else "", " ".join(text.words[at - 4 : at + 2])
+                    wrong.append((file, text.rows[at].line, name, why, said))
     return looked, wrong
 
 
@@ -211,6 +334,22 @@ fn if_other(x: &[u8]) -> Result<(), Fault> { if let Err(_) = parse(x) { return E
 fn answered(n: u64) -> Answer { if n == 7 { Answer::refused(Refusal::Memory) } else { Answer::done() } }
 impl From<Other> for Fault { fn from(_e: Other) -> Fault { Fault::Memory } }
 const FAULT: Fault = Fault::Memory;
+fn other_cause(e: Cause) -> Reply { match e { Cause::Memory | Cause::Limit => Reply::Memory, Cause::Line => Reply::Line, } }
+fn other_decision(d: Decision) -> Outcome { match d { Decision::Done => Outcome::Done, Decision::Full | Decision::Memory => Outcome::Memory, } }
+fn inside(e: Result<u8, Cause>) -> Result<u8, Cause> { match e { Ok(n) => Ok(n), Err(Cause::Memory | Cause::Limit) => Err(Cause::Memory), Err(e) => Err(e), } }
+fn if_either(e: Result<u8, Cause>) -> Result<u8, Cause> { if let Err(Cause::Memory | Cause::Limit) = e { return Err(Cause::Memory); } e }
+fn asks_either(e: Error) -> Fault { match e { e if e.kind() == Kind::OutOfMemory || e.kind() == Kind::Other => Fault::Memory, _ => Fault::Taken, } }
+fn asks_other(e: Error) -> Fault { match e { e if e.kind() != Kind::OutOfMemory => Fault::Memory, _ => Fault::Taken, } }
+fn nested(place: Option<u64>) -> Answer { Answer { place: None, reply: Reply::Refused(Refusal::Memory) } }
+fn field() -> Answer { Answer { reply: Refusal::Memory } }
+fn field_in_arm(x: Option<u8>) -> Answer { match x { None => Answer { place: None, reply: Refusal::Memory }, Some(n) => Answer::done(n), } }
+fn asks_for_all(v: &mut Vec<u8>) -> Result<(), AllocError> { v.reserve(usize::MAX)?; Ok(()) }
+fn asks_for_much(v: &mut Vec<u8>) -> Result<(), AllocError> { v.reserve(1_000_001)?; Ok(()) }
+fn asks_by_name(alloc: Global) -> Result<Vec<u8>, AllocError> { Vec::with_capacity(alloc, LARGE) }
+fn asks_by_let(alloc: Global) -> Result<Vec<u8>, AllocError> { let count = u64::MAX as usize; Vec::with_capacity(alloc, count) }
+fn asks_by_product(v: &mut Vec<u8>, n: usize) -> Result<(), AllocError> { v.resize(n * 1_000_000, 0)?; Ok(()) }
+fn asks_by_macro(alloc: Global) -> Result<Vec<u8>, AllocError> { vec![in alloc; 0u8; 1 << 40] }
+fn asks_by_sum(v: &mut Vec<u8>, w: &[u8]) -> Result<(), AllocError> { v.reserve(w.len() + LARGE)?; Ok(()) }
 """
 GOOD = """
 use std::alloc::AllocError;
@@ -230,6 +369,14 @@ fn asks(e: &Fault) -> bool { matches!(e, Fault::Memory) || *e == Fault::Memory }
 fn if_let(v: &mut Vec<u8>) -> Result<(), Fault> { if let Err(AllocError) = v.push(3) { return Err(Fault::Memory); } Ok(()) }
 fn typed(v: &mut Vec<u8>) -> Result<(), Memory> { let done: Result<(), AllocError> = grow(v); Ok(done?) }
 impl From<AllocError> for Fault { fn from(_e: AllocError) -> Fault { Fault::Memory } }
+const LARGE: usize = 1_000_000_000;
+const CHUNK: usize = 65_536;
+fn two_of_memory(e: Cause) -> Reply { match e { Cause::Memory | Cause::OutOfMemory => Reply::Memory, Cause::Line => Reply::Line, } }
+fn field_read(a: Answer) -> bool { match a { Answer { reply: Refusal::Memory, .. } => true, _ => false } }
+fn nested_read(a: Answer) -> bool { match a { Answer { reply: Reply::Refused(Refusal::Memory), place: None } => true, _ => false } }
+fn field_handed(v: &mut Vec<u8>) -> Answer { match v.push(1) { Ok(()) => Answer::done(), Err(_) => Answer { place: None, reply: Refusal::Memory }, } }
+fn asks_for_some(alloc: Global, v: &mut Vec<u8>, n: usize) -> Result<Vec<u8>, AllocError> { v.reserve(1)?; v.reserve(n)?; v.resize(1_000_000, 0)?; Vec::with_capacity(alloc, CHUNK) }
+fn asks_for_as_many(alloc: Global, set: &ParamSet, w: &[u8]) -> Result<Vec<u8>, AllocError> { let count = set.contract_count(); let all = Vec::with_capacity(alloc, count + 1)?; vec![in alloc; 0u8; w.len()] }
 """
 
 
@@ -240,7 +387,7 @@ def selftest():
             with open(f"{room}/{name}", "w", encoding="utf-8") as it:
                 it.write(text)
         _, wrong = wrong_places([f"{room}/bad.rt", f"{room}/good.rt"])
-    found = {(os.path.basename(file), line) for file, line, _, _ in wrong}
+    found = {(os.path.basename(file), line) for file, line, *_ in wrong}
     wanted = {("bad.rt", at + 1) for at, line in enumerate(BAD.split("\n")) if line}
     for file, line in sorted(found ^ wanted):
         text = (BAD if file == "bad.rt" else GOOD).split("\n")[line - 1]
@@ -250,19 +397,15 @@ def selftest():
 
 def main():
     missed = selftest()
-    files = [
-        f"{at}/{it}"
-        for at, _, names in os.walk(f"{source.TOP}/crates")
-        for it in sorted(names)
-        if it.endswith(".rt") and re.search(r"/src(/|$)", at) and not re.search(r"/tests/|[/_]tests\.rt$", f"{at}/{it}")
-    ]
+    crates = [it.path for it in os.scandir(f"{source.TOP}/crates") if it.is_dir()]
+    files = [it for crate in crates for it in source.files_below(f"{crate}/src", ".rt") if not source.is_of_tests(os.path.relpath(it, crate))]
     looked, wrong = wrong_places(sorted(files))
     failed = 0
-    for file, line, function, text in wrong:
+    for file, line, function, why, text in wrong:
         path = os.path.relpath(file, source.TOP)
         if (path, function) not in ALLOWED:
             failed += 1
-            print(f"{path}:{line}: {function or 'a constant'} makes a fault of memory: {text}")
+            print(f"{path}:{line}: {function or 'a constant'} {why}: {text}")
     print(f"{looked - failed} passed, {failed + missed} failed")
     return 1 if failed or missed else 0
 

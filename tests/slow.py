@@ -19,17 +19,16 @@ import sys
 import tempfile
 from collections import Counter, defaultdict
 
+import kit
 import source
 
 # A module of a function's proof: the function, and which part it is.
 PART = re.compile(r"(.+?)\.(Lts|Proof|Tie|Kinds|Layout|Reads|Named|Code|Answers|Goals|Given|Invariants|Statement|Met|Key|Carried)\b.*")
 
 
-def modules_of(folder):
-    """Returns the modules that a check left in the folder, in the order in which it ended them, each with the seconds since the one before."""
-    (inside,) = os.listdir(folder)
-    files = (it for it in os.scandir(f"{folder}/{inside}") if it.name.endswith(".oantt"))
-    ended = sorted((it.stat().st_mtime, it.name.removesuffix(".oantt")) for it in files)
+def modules_of(kept):
+    """Returns the modules that a check left in the folder, as it ended them, each with the seconds since the one before."""
+    ended = sorted((it.stat().st_mtime, it.name.removesuffix(".oantt")) for it in kit.modules_in(kept))
     return [(now[0] - before[0], now[1]) for before, now in zip(ended, ended[1:])]
 
 
@@ -43,6 +42,18 @@ def times_by_function(crate, modules):
     return found
 
 
+def prove(crate, more):
+    """Proves a copy of the crate from nothing, and returns whether it is proved, what was said last, and the modules."""
+    with tempfile.TemporaryDirectory(prefix="slow-") as room:
+        for part in ("src", "specs", "proofs"):
+            if os.path.isdir(f"{crate.folder}/{part}"):
+                shutil.copytree(f"{crate.folder}/{part}", f"{room}/{part}")
+        how = {"stdin": subprocess.DEVNULL, "stdout": subprocess.PIPE, "stderr": subprocess.STDOUT, "text": True}
+        words = kit.check_words(crate, f"{room}/kept", *more)
+        ran = subprocess.run(words, cwd=room, **how, errors="replace", check=False)
+        return ran.returncode == 0, ran.stdout.rstrip().rpartition("\n")[2], modules_of(f"{room}/kept")
+
+
 def main():
     options = argparse.ArgumentParser(description=__doc__, formatter_class=argparse.RawDescriptionHelpFormatter)
     options.add_argument("crate")
@@ -50,29 +61,21 @@ def main():
     options.add_argument("--only", action="append", default=[])
     options.add_argument("--least", type=float, default=3)
     given = options.parse_args()
-    rt = source.load_rt()
-    crate = next((it for it in rt.rtlib.crates_below(source.TOP) if it.name == given.crate), None)
+    crate = next((it for it in kit.crates(source.TOP) if it.name == given.crate), None)
     if not crate:
         sys.exit(f"crates.txt names no {given.crate}")
     for below in crate.below():
-        if below.build_rlib(["--jobs", "1"], anew=False):
+        if not below.is_built() and subprocess.run(["rt", "lib", "--jobs", "1"], cwd=below.folder, check=False).returncode:
             sys.exit(f"{below.name} was not built")
-    with tempfile.TemporaryDirectory(prefix="slow-") as room:
-        for part in rt.rtlib.PARTS:
-            if os.path.isdir(f"{crate.folder}/{part}"):
-                shutil.copytree(f"{crate.folder}/{part}", f"{room}/{part}")
-        words = [*rt.rtlib.guarded(), rt.rtlib.RATTLE, "check", *crate.words(["--jobs", "1"], keeps=False), "--incremental", f"{room}/kept"]
-        words += ["--test"] * given.test + [word for it in given.only for word in ("--only", it)]
-        ran = subprocess.run(words, cwd=room, stdin=subprocess.DEVNULL, stdout=subprocess.PIPE, stderr=subprocess.STDOUT, text=True, errors="replace", check=False)
-        last = ran.stdout.rstrip().rpartition("\n")[2]
-        modules = modules_of(f"{room}/kept")
+    more = ["--test"] * given.test + [word for it in given.only for word in ("--only", it)]
+    is_proved, last, modules = prove(crate, more)
     times = times_by_function(crate.name, modules)
     for name, parts in sorted(times.items(), key=lambda it: -it[1].total()):
         if given.least <= parts.total():
             told = ", ".join(f"{part} {seconds:.1f}" for part, seconds in parts.most_common() if 0.5 <= seconds)
             print(f"{parts.total():7.1f} {name} ({told})")
     print(f"{sum(seconds for seconds, _ in modules):7.1f} all: {last}")
-    return 0 if ran.returncode == 0 else 1
+    return 0 if is_proved else 1
 
 
 if __name__ == "__main__":

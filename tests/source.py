@@ -1,16 +1,11 @@
-"""What the scripts of the gate share: the toolchain, the tokens of a .rt file as the check itself reads them, and where each
-function stands."""
-import importlib.machinery
-import importlib.util
+"""What the scripts of the gate share: the tokens of a .rt file as the check itself reads them, and where each function stands."""
 import json
 import os
 import re
-import shutil
-import subprocess
-import sys
 from collections import namedtuple
 
-sys.dont_write_bytecode = True
+import kit
+
 TOP = os.path.dirname(os.path.dirname(os.path.abspath(__file__)))
 
 Token = namedtuple("Token", "line start end kind text")
@@ -18,26 +13,6 @@ Token = namedtuple("Token", "line start end kind text")
 # trait that the impl is of; start: of the word `fn`; body and end: of its block, from `{` to behind `}`, in bytes; line and
 # last: of the word `fn` and of the `}`.
 Function = namedtuple("Function", "name module of by start line body end last")
-
-
-def toolchain():
-    """Returns the toolchain's folder of commands."""
-    found = shutil.which("rt")
-    if not found:
-        sys.exit("there is no command rt")
-    return os.path.dirname(os.path.realpath(found))
-
-
-def load_rt():
-    """Returns `rt` as a module: its crates and the words by which it has the prover called."""
-    if "rt" not in sys.modules:
-        loader = importlib.machinery.SourceFileLoader("rt", f"{toolchain()}/rt")
-        made = importlib.util.module_from_spec(importlib.util.spec_from_loader("rt", loader))
-        sys.modules["rt"] = made
-        loader.exec_module(made)
-        # (its first call sets a signal's handler, which only the main thread may)
-        made.rtlib.guarded()
-    return sys.modules["rt"]
 
 
 def bytes_of(file):
@@ -50,16 +25,29 @@ def tokens(files):
     files = list(files)
     if not files:
         return {}
-    ran = subprocess.run([f"{toolchain()}/rattle", "fmt", "--tokens", *files], capture_output=True, text=True, errors="replace")
-    parts = re.split(r"(?m)^file \d+\n", ran.stdout)[1:]
-    if ran.returncode or len(parts) != len(files):
+    told = kit.token_lines(files)
+    if told is None:
         # One file that cannot be read hides the others.
         return {files[0]: None} if len(files) == 1 else {it: tokens([it])[it] for it in files}
     found = {}
-    for file, part in zip(files, parts):
-        rows = [it.split(" ", 4) for it in part.splitlines()]
+    for file, lines in zip(files, told):
+        rows = [it.split(" ", 4) for it in lines]
         found[file] = [Token(int(it[0]), int(it[1]), int(it[2]), it[3], json.loads(it[4])) for it in rows]
     return found
+
+
+def files_below(folder, ending=""):
+    return sorted(f"{at}/{it}" for at, _, names in os.walk(folder) for it in names if it.endswith(ending))
+
+
+def size_of(folder):
+    """Returns how many bytes of code, definitions and proofs a crate has, which its proof takes longer the more there are."""
+    return sum(os.path.getsize(it) for part in ("src", "specs", "proofs") for it in files_below(f"{folder}/{part}"))
+
+
+def is_of_tests(path):
+    """Returns whether a file of a crate, by its path there, is one of its tests."""
+    return bool(re.search(r"(^|/)tests/|(^|[/_])tests\.rt$", path))
 
 
 def functions(rows):
@@ -88,6 +76,12 @@ def functions(rows):
         else:
             head.append(it)
     return found
+
+
+def functions_of(folder):
+    """Returns the functions of each file of a crate's src/, by its path in the crate, None where the file cannot be read."""
+    rows = tokens(files_below(f"{folder}/src", ".rt"))
+    return {os.path.relpath(file, folder): row and functions(row) for file, row in rows.items()}
 
 
 def opened(head):

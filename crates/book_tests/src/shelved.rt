@@ -3,7 +3,7 @@
 use mgn_book::{Book, Outcome};
 use mgn_ids::{AccountName, SessionNo};
 use mgn_machine::{Answer, Command, Request};
-use mgn_params::{ParamSet, SetList};
+use mgn_params::{ParamSet, SetList, Work};
 use mgn_wire::{LineReply, reply_text, statement_text};
 use std::alloc::{AllocError, Global};
 use std::marker::Model;
@@ -39,12 +39,25 @@ impl Shelved {
         let alloc = self.alloc;
         let outcome = match request {
             Request::Do(command) => {
-                self.book
-                    .commit_plain(alloc, session, number, &command, &self.shelf)
+                self.book.commit_plain(
+                    alloc,
+                    session,
+                    number,
+                    &command,
+                    &self.shelf,
+                    &mut Work::new(),
+                )
             }
             Request::Switch(set) => {
-                self.book
-                    .commit_switch(alloc, session, number, set, &mut self.shelf, &[])
+                self.book.commit_switch(
+                    alloc,
+                    session,
+                    number,
+                    set,
+                    &mut self.shelf,
+                    &[],
+                    &mut Work::new(),
+                )
             }
         };
         match outcome {

@@ -7,8 +7,8 @@ use std::alloc::{AllocError, Global};
 use std::io;
 use std::rt::Env;
 
-/// The version of the program, and the toolchain that it is proved and built with.
-const VERSION: &str = "0.2.0 (rattle-kit-13f logic dac8208d650f15bf)";
+/// The version of the program, and the logic of the toolchain that proved it, as `rt version` names it.
+const VERSION: &str = "0.2.0 (logic dac8208d650f15bf)";
 
 /// The file of a parameter set, DIR/NAME.csv.
 #[derive(Drop)]

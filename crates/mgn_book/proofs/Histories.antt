@@ -1,13 +1,12 @@
 -- A book with one more entry.
 use Rattle.std.proofs.Common.{eqb, get_or, ◌≡◌, ◌+◌, ◌<◌, ℕ, Bool, true, false, cond, suc, List, length, length-append, arith, [], ◌∷◌, ◌++◌, sym, ap, ◌∙◌, subst, ◌≤◌, ◌-◌, ◌⊎◌, ◌≢◌, inl, inr, refl}
 use Rattle.std.specs.Prelude.{◌==◌, slice_set as set'}
-use Rattle.std.proofs.lemmas.List.{append-nil, get_or-set_same, get_or-set_other, length-set}
+use Rattle.std.proofs.lemmas.List.{get_or-set_same, get_or-set_other, length-set}
 use Rattle.std.proofs.lemmas.Bool.Decides.{eqb_tells}
 use Rattle.mgn_params.specs.Shelves.{set_at}
 use Rattle.mgn_params.specs.Tables.{Tables}
 use Rattle.mgn_machine.specs.declared.entry.Entry.{Entry}
 use Rattle.mgn_machine.specs.declared.reply.Reply.{Reply}
-use Rattle.mgn_machine.specs.declared.reply.Reply.TheVariants.{Done, Figures, NewSet, Statement, Totals, Refused}
 use Rattle.mgn_machine.specs.declared.request.Request.TheVariants.{Switch}
 use Rattle.mgn_machine.specs.declared.request.Request.{Request}
 use Rattle.mgn_machine.specs.State.{State, start}
@@ -17,6 +16,7 @@ use Rattle.mgn_machine.proofs.Histories.{calls-push, replay-push, legal_from-pus
 use Rattle.mgn_register.specs.BookStates.{BookState, IsKept}
 use Rattle.mgn_book.specs.BookViews.{AreCounts, BookView, IsBook, Stands, sets_after}
 use Rattle.mgn_book.specs.Switches.{IsSwitched}
+use Rattle.mgn_book.proofs.Begun.{begins_after}
 
 -- where no set comes into force
 pub stands-next : (sets : List Tables) (old : BookView) (f : BookState) (session number : ℕ) (request : Request) (reply : Reply) (items : List Entry)
@@ -46,19 +46,10 @@ stands-next sets old f session number request reply items stands stepped asked s
     again : step sets (replay sets old.history) request ≡ next sets (replay sets old.history) e
     again = ap (λ (r : Request). step sets (replay sets old.history) r) (sym asked)
 
--- a switch puts a set after the others, or none
-put-more : (sets : List Tables) (t : Tables) (reply : Reply) → (more : List Tables) × (sets_after sets (Switch t) reply ≡ sets ++ more)
-put-more sets t (NewSet told) = (t ∷ [], refl)
-put-more sets t (Refused why) = ([], sym (append-nil sets))
-put-more sets t Done = ([], sym (append-nil sets))
-put-more sets t (Figures figures) = ([], sym (append-nil sets))
-put-more sets t (Totals totals) = ([], sym (append-nil sets))
-put-more sets t (Statement told) = ([], sym (append-nil sets))
-
 -- the day so far under the sets as they are then
 stands-before : (sets now : List Tables) (old : BookView) (t : Tables) (reply : Reply) → Stands sets old → now ≡ sets_after sets (Switch t) reply → Legal now old.history × (replay now old.history ≡ old.book.state) × (length sets ≤ length now)
 stands-before sets now old t reply stands put =
-    let more = put-more sets t reply in
+    let more = begins_after sets (Switch t) reply in
     rw (put ∙ more.1) (legal-more sets more.0 old.history stands.legal, replay-more sets more.0 old.history stands.legal ∙ sym stands.state, omega (arith, length-append sets more.0))
 
 -- where a set comes into force or is refused

@@ -54,6 +54,7 @@ switched-in_force sets t f rows shown kept fits covered long are =
       asked = ap (λ (x : Tables). Switch x) last;
       shown = omega (arith, shown, length-append sets (t ∷ []));
       kept = subst (λ (x : Tables). IsKept x (book_state f.state.origins f.state.accounts rows f.state.closed (f.state.version + 1))) (sym last) (in-force-kept (set_at sets f.state.version) t f rows (f.state.version + 1) kept covered long are);
+      rows = long;
     }
   where
     told : {m n : ℕ} → length rows ≡ f.state.units → m ≡ n → ((book_state f.state.origins f.state.accounts rows f.state.closed (f.state.version + 1)).state, NewSet record { version = f.state.version + 1; on_call = m }) ≡ switched f.state n (Ok tt)
@@ -66,6 +67,7 @@ switched-refused sets t f why shown kept fits = record {
   asked = refl;
   shown = shown;
   kept = kept;
+  rows = refl;
 }
 
 -- where the set was put and the rows were taken over

@@ -64,11 +64,30 @@ sets_after sets (Switch set) (Figures figures) = sets
 sets_after sets (Switch set) (Totals totals) = sets
 sets_after sets (Switch set) (Statement told) = sets
 
+-- a list, as of sets or of entries, begins with another
+abbrev pub Begins : {X : Type 0} → List X → List X → Type 0
+Begins {X = X} first all = (more : List X) × (all ≡ first ++ more)
+
 -- what a commit does to the sets of the shelf
 abbrev pub Shelves : List Tables → Request → Outcome → List Tables → Type 0
 Shelves old request (Done place reply) new = new ≡ sets_after old request reply
 Shelves old request Full new = new ≡ old
 Shelves old request Memory new = new ≡ old
+
+-- what a reply to a switch leaves of the rows: as many under the set that came into force, else the same ones
+abbrev pub KeepsRows : List Row → Reply → List Row → Type 0
+KeepsRows old (NewSet told) new = length new ≡ length old
+KeepsRows old (Refused why) new = new ≡ old
+KeepsRows old Settled new = new ≡ old
+KeepsRows old (Figures figures) new = new ≡ old
+KeepsRows old (Totals totals) new = new ≡ old
+KeepsRows old (Statement told) new = new ≡ old
+
+-- what the commit of a switch leaves of the rows
+abbrev pub LeavesRows : List Row → Outcome → List Row → Type 0
+LeavesRows old (Done place reply) new = KeepsRows old reply new
+LeavesRows old Full new = new ≡ old
+LeavesRows old Memory new = new ≡ old
 
 -- the entry at a place, which counts from 1; none where there is no such entry
 abbrev pub entry_at : List Entry → ℕ → Option Entry

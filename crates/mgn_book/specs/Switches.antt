@@ -7,7 +7,7 @@ use Rattle.mgn_machine.specs.declared.request.Request.TheVariants.{Switch}
 use Rattle.mgn_machine.specs.History.{recorded, request_of}
 use Rattle.mgn_machine.specs.Step.{step}
 use Rattle.mgn_register.specs.BookStates.{BookState, IsKept}
-use Rattle.mgn_book.specs.BookViews.{sets_after}
+use Rattle.mgn_book.specs.BookViews.{KeepsRows, sets_after}
 
 -- one step of the machine, which the entry tells again under the sets as they are then; the version in force is that of
 -- the last of them, and the rows are those under it
@@ -17,3 +17,4 @@ pub record IsSwitched (sets now : List Tables) (old new : BookState) (set : Tabl
   pub asked : request_of now (recorded (Switch set) reply) ≡ Switch set
   pub shown : length now ≡ new.state.version + 1
   pub kept : IsKept (set_at now new.state.version) new
+  pub rows : KeepsRows old.rows reply new.rows

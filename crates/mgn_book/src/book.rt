@@ -6,15 +6,16 @@ ghost use Rattle.mgn_machine.specs.Refusals.{place_of};
 ghost use Rattle.mgn_machine.specs.declared.request.Request.TheVariants.{Do, Switch};
 ghost use Rattle.mgn_machine.specs.History.{calls};
 ghost use Rattle.mgn_unit.specs.NewSets.{ArePrepared};
+ghost use Rattle.mgn_unit.specs.Prepared.{ArePreparedFor};
 ghost use Rattle.mgn_register.specs.BookStates.{account_unit, statement_found};
-ghost use Rattle.mgn_plan.specs.Plans.{Foresees, IsPossible, plan_of};
-ghost use Rattle.mgn_book.specs.BookViews.{Committed, Leaves, Shelves, Stands, command_at, opening, reply_at, session_at};
+ghost use Rattle.mgn_plan.specs.Plans.{Foresees, IsIdle, IsPossible, plan_of};
+ghost use Rattle.mgn_book.specs.BookViews.{Committed, Leaves, LeavesRows, Shelves, Stands, command_at, opening, reply_at, session_at};
 
 use crate::history::History;
 use crate::in_force::switch_set;
 use mgn_ids::{AccountName, SessionNo};
 use mgn_machine::{Command, Reply, Statement};
-use mgn_params::{ParamSet, Shelf, Version};
+use mgn_params::{ParamSet, Shelf, Version, Work};
 use mgn_plan::{Known, Plan};
 use mgn_register::{Fault, Register, step};
 use mgn_unit::{PreparedUnit, Row};
@@ -175,6 +176,7 @@ impl Book {
         number: u64,
         command: &Command,
         shelf: &S,
+        work: &mut Work,
     ) -> Outcome
         requires stands { Stands (S.sets shelf.now) self.old }
         requires number { number ≡ calls session self.old.history + 1 }
@@ -193,11 +195,12 @@ impl Book {
             shelf,
             &plan,
             &Known::NOTHING,
+            work,
         )
     }
 
     /// The same by the command's plan, so that what it found is not looked for again. What its units require once it is
-    /// done may be known: then nothing is worked out for them.
+    /// done may be known: where all of it is, nothing is worked out.
     pub fn commit_known<S: Shelf>(
         &mut self,
         alloc: Global,
@@ -207,6 +210,7 @@ impl Book {
         shelf: &S,
         plan: &Plan,
         known: &Known,
+        work: &mut Work,
     ) -> Outcome
         requires stands { Stands (S.sets shelf.now) self.old }
         requires number { number ≡ calls session self.old.history + 1 }
@@ -220,6 +224,7 @@ impl Book {
         ensures nets { let state = self.old.book.state in
             let set = set_at (S.sets shelf.now) state.version in
             Leaves set (plan_of set state command.now) self.old.book.rows result self.new.book.rows }
+        ensures idle { IsIdle plan.now known.now work.old work.new }
     {
         if self.history.len() >= MOST_ENTRIES {
             return Outcome::Full;
@@ -230,7 +235,7 @@ impl Book {
         let Some(set) = shelf.get(self.register.version()) else {
             unreachable!();
         };
-        let reply = match step(&mut self.register, alloc, set, command, plan, known) {
+        let reply = match step(&mut self.register, alloc, set, command, plan, known, work) {
             Ok(reply) => reply,
             Err(Fault::Memory) => return Outcome::Memory,
             Err(Fault::Refused(_)) => unreachable!(),
@@ -267,7 +272,7 @@ impl Book {
     /// on the shelf.
     ///
     /// What units require under the set may have been prepared, by their numbers. It is used where a unit's nets are
-    /// still the same; any other unit is worked out here.
+    /// still the same; any other unit is worked out here. Where it is so of all units, no risk array is read.
     pub fn commit_switch<S: Shelf>(
         &mut self,
         alloc: Global,
@@ -276,6 +281,7 @@ impl Book {
         set: ParamSet,
         shelf: &mut S,
         prepared: &[Option<PreparedUnit>],
+        work: &mut Work,
     ) -> Outcome
         requires stands { Stands (S.sets shelf.old) self.old }
         requires number { number ≡ calls session self.old.history + 1 }
@@ -284,6 +290,9 @@ impl Book {
         ensures stands { Stands (S.sets shelf.new) self.new }
         ensures committed { Committed (S.sets shelf.new) self.old session number (Switch set) result self.new }
         ensures sets { Shelves (S.sets shelf.old) (Switch set) result (S.sets shelf.new) }
+        ensures rows { LeavesRows self.old.book.rows result self.new.book.rows }
+        ensures idle { let old = set_at (S.sets shelf.old) self.old.book.state.version in
+            ArePreparedFor old set self.old.book.rows prepared.now → work.new ≡ work.old }
     {
         if MOST_ENTRIES <= self.history.len() {
             return Outcome::Full;
@@ -300,6 +309,7 @@ impl Book {
             set,
             shelf,
             prepared,
+            work,
         );
         let reply = match switched {
             Ok(reply) => reply,

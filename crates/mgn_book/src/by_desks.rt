@@ -12,7 +12,7 @@ use crate::book::{Book, MOST_ENTRIES, Outcome};
 use mgn_desk::Desk;
 use mgn_ids::SessionNo;
 use mgn_machine::{Command, Reply};
-use mgn_params::{Shelf, Version};
+use mgn_params::{Shelf, Version, Work};
 use mgn_pricing::{is_one_older, known_by};
 use std::alloc::Global;
 
@@ -33,8 +33,8 @@ pub enum Decision {
 
 impl Book {
     /// One step of the machine and its entry in the history, what its units require being told by their desks. These
-    /// have been moved by the command's plan; none is needed for a command that has no plan. Nothing is worked out in
-    /// the book.
+    /// have been moved by the command's plan; none is needed for a command that has no plan. Nothing that units require
+    /// is worked out in the book: no risk array is counted. (What a statement tells is worked out apart.)
     ///
     /// `Full` where the history has 1,000,000 entries. Else `Stale` where a desk is of a version before the one in
     /// force. Else `Apart` where a unit of the command's plan, as it is now, has no desk here, or one that is empty, of
@@ -48,6 +48,7 @@ impl Book {
         command: &Command,
         shelf: &S,
         desks: &[&Desk],
+        work: &mut Work,
     ) -> Decision
         requires stands { Stands (S.sets shelf.now) self.old }
         requires number { number ≡ calls session self.old.history + 1 }
@@ -59,6 +60,7 @@ impl Book {
         ensures nets { let state = self.old.book.state in
             let set = set_at (S.sets shelf.now) state.version in
             LeavesBy set (plan_of set state command.now) self.old.book.rows result self.new.book.rows }
+        ensures idle { work.new ≡ work.old }
     {
         if self.len() >= MOST_ENTRIES {
             return Decision::Full;
@@ -74,7 +76,7 @@ impl Book {
         let Some(known) = known_by(desks, version, set, self.rows(), &plan) else {
             return Decision::Apart;
         };
-        match self.commit_known(alloc, session, number, command, shelf, &plan, &known) {
+        match self.commit_known(alloc, session, number, command, shelf, &plan, &known, work) {
             Outcome::Done(place, reply) => Decision::Done(place, reply),
             Outcome::Full => unreachable!(),
             Outcome::Memory => Decision::Memory,

@@ -4,13 +4,14 @@ ghost use Rattle.mgn_machine.specs.declared.request.Recorded.TheVariants.{InForc
 ghost use Rattle.mgn_machine.specs.declared.request.Request.TheVariants.{Switch};
 ghost use Rattle.mgn_machine.specs.History.{entry, recorded};
 ghost use Rattle.mgn_unit.specs.NewSets.{ArePrepared, row_on_call};
+ghost use Rattle.mgn_unit.specs.Prepared.{ArePreparedFor};
 ghost use Rattle.mgn_register.specs.BookStates.{IsKept, book_state};
 ghost use Rattle.mgn_book.specs.Switches.{IsSwitched};
 
 use crate::history::History;
 use mgn_ids::SessionNo;
 use mgn_machine::{NewSet, Refusal, Reply};
-use mgn_params::{ParamSet, PutFault, Shelf};
+use mgn_params::{ParamSet, PutFault, Shelf, Work};
 use mgn_register::{Fault, Register};
 use mgn_unit::{PreparedUnit, Row};
 use std::alloc::Global;
@@ -93,6 +94,7 @@ pub(crate) fn switch_set<S: Shelf>(
     set: ParamSet,
     shelf: &mut S,
     prepared: &[Option<PreparedUnit>],
+    work: &mut Work,
 ) -> Result<Reply, Fault>
     requires reserved { history.old.reserved ≡ true }
     requires few_entries { length history.old.entries < 1000000 }
@@ -110,11 +112,13 @@ pub(crate) fn switch_set<S: Shelf>(
     ensures same_register { OnErr result (register.new ≡ register.old) }
     ensures same_history { OnErr result (history.new.entries ≡ history.old.entries) }
     ensures same_sets { OnErr result (S.sets shelf.new ≡ S.sets shelf.old) }
+    ensures idle { let old = set_at (S.sets shelf.old) register.old.state.version in
+        ArePreparedFor old set register.old.rows prepared.now → work.new ≡ work.old }
 {
     let Some(old) = shelf.get(register.version()) else {
         unreachable!();
     };
-    match register.rows_under(alloc, old, &set, prepared) {
+    match register.rows_under(alloc, old, &set, prepared, work) {
         Ok(rows) => enter_set(register, history, session, number, set, rows, shelf),
         Err(Fault::Refused(why)) => refuse_set(history, session, number, set, why),
         Err(Fault::Memory) => Err(Fault::Memory),

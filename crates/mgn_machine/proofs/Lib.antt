@@ -1,4 +1,5 @@
 -- Laws of histories and steps.
 pub mod Histories
+pub mod Items
 pub mod Names
 pub mod Versions

@@ -43,6 +43,8 @@ pub enum Refusal {
     Memory,
     /// The history is full.
     Full,
+    /// A service that several sessions share found its book and its passes apart. It is closed.
+    Broken,
 }
 
 /// The figures of a margin unit, in cents.

@@ -1,6 +1,6 @@
 -- What a command changes in the rows of margin units, where nothing but want of room refuses it, and what the units then
 -- require (own profile).
-use Rattle.std.specs.Prelude.{ℕ, ◌≡◌, ◌≢◌, ◌<◌, ◌≤◌, ℤ, neg_ℤ, ◌==◌, if◌then◌else◌, IfSome, None, List, length, slice_index_or, Result, Ok, Err}
+use Rattle.std.specs.Prelude.{ℕ, ◌≡◌, ◌≢◌, ◌<◌, ◌≤◌, ℤ, neg_ℤ, ◌==◌, if◌then◌else◌, IfSome, IsSome, None, List, length, slice_index_or, Result, Ok, Err}
 use Rattle.mgn_params.specs.Tables.{Tables}
 use Rattle.mgn_lots.specs.declared.lot.Lot.{Lot}
 use Rattle.mgn_lots.specs.Lots.{lot_at}
@@ -110,6 +110,16 @@ Foresees set rows (One u) known = IfSome known.first (Prices set u.change (row_a
 Foresees set rows (Two u v) known =
     IfSome known.first (Prices set u.change (row_at set rows u.unit))
     × IfSome known.second (Prices set v.change (row_at set rows v.unit))
+
+-- what each unit of a plan requires is known
+abbrev pub KnowsAll : Plan → Known → Type 0
+KnowsAll Nothing known = Unit {0}
+KnowsAll (One u) known = IsSome known.first
+KnowsAll (Two u v) known = IsSome known.first × IsSome known.second
+
+-- where all is known nothing is worked out: as many risk arrays are read as were
+abbrev pub IsIdle : Plan → Known → ℕ → ℕ → Type 0
+IsIdle plan known old new = KnowsAll plan known → new ≡ old
 
 -- a row can change so: nets and sizes stay within their limits
 pub record CanChange (set : Tables) (rows : List Row) (u : UnitChange) : Type 0 where

@@ -9,29 +9,53 @@ use Rattle.mgn_span.specs.Scan.{value_at}
 use Rattle.mgn_desk.specs.declared.desk.Marked.{Marked}
 use Rattle.mgn_desk.specs.declared.moves.Requirements.{Requirements}
 use Rattle.mgn_desk.specs.Desks.{CanMoveMarked, DeskRows, IsMarkedBy, MarkedNets, Requires, Shown, marked_nets, marked_with, moved_desk, moved_marked, shown}
-use Rattle.mgn_desk.specs.Portfolios.{AreSmall, CanMove, FourNets, moved_by, nets_of, opposite, requirements_of}
+use Rattle.mgn_desk.specs.Portfolios.{AreFourNets, AreNets, AreSmall, CanMove, FourNets, moved_by, nets_of, opposite, requirements_of}
 use Rattle.mgn_unit.specs.declared.change.Change.{Change}
 use Rattle.mgn_unit.specs.declared.row.Priced.{Priced}
 use Rattle.mgn_unit.specs.declared.row.Row.{Row}
 use Rattle.mgn_unit.specs.Rows.{IsChange, IsRoomy, IsRow, Prices, more_at}
 use Rattle.mgn_plan.specs.Plans.{UnitNets, moved_nets, nets_in}
-use Rattle.mgn_pricing.specs.Desks.{IsReady, four, moves_of, required_by}
+use Rattle.mgn_pricing.specs.Desks.{CanGain, IsReady, four, moves_of, required_by}
 
 -- a net that moves stays within its limit
 pub net-moved : (nets : List ℤ) (i : ℕ) (quantity : ℤ) → i < length nets → All IsNet (more_at nets i quantity) → IsNet (value_at nets i +ℤ quantity)
 net-moved nets i quantity inside small =
     subst IsNet (get_or-set_same nets i (value_at nets i +ℤ quantity) (pos 0) inside) (small i (pos 0) (omega (arith, length-set nets i (value_at nets i +ℤ quantity), inside)))
 
--- the desk of a row can move as a change that the row can take
-pub can_move : (set' : Tables) (version : ℕ) (row : Row) (change : Change) (now : Option Marked) → IsRow set' row → IsChange set' change → IsRoomy change row → IsReady set' version (nets_in row) now → CanMoveMarked (moves_of change) now
-can_move set' version row change None is possible roomy ready = tt
-can_move set' version row change (Some m) is possible roomy ready =
+-- a desk can move as its nets can change
+pub can_move : (set' : Tables) (version : ℕ) (nets : UnitNets) (change : Change) (now : Option Marked) → CanGain set' nets change → IsReady set' version nets now → CanMoveMarked (moves_of change) now
+can_move set' version nets change None can ready = tt
+can_move set' version nets change (Some m) can ready =
     subst (λ (n : FourNets). CanMove (moves_of change) n) (sym ready.shows) record {
-      lots = net-moved row.lots.nets change.contract change.lots.quantity (omega (arith, is.lots.one_each, possible.contract)) roomy.lots;
-      buys = net-moved row.buys.nets change.contract change.buys.quantity (omega (arith, is.buys.one_each, possible.contract)) roomy.buys;
-      sales = net-moved row.sales.nets change.contract change.sales.quantity (omega (arith, is.sales.one_each, possible.contract)) roomy.sales;
-      all = net-moved row.all.nets change.contract change.all.quantity (omega (arith, is.all.one_each, possible.contract)) roomy.all;
+      lots = net-moved nets.lots change.contract change.lots.quantity (omega (arith, can.before.lots.one_each, can.contract)) can.after.lots.small;
+      buys = net-moved nets.buys change.contract change.buys.quantity (omega (arith, can.before.buys.one_each, can.contract)) can.after.buys.small;
+      sales = net-moved nets.sales change.contract change.sales.quantity (omega (arith, can.before.sales.one_each, can.contract)) can.after.sales.small;
+      all = net-moved nets.all change.contract change.all.quantity (omega (arith, can.before.all.one_each, can.contract)) can.after.all.small;
     }
+
+-- the nets of a row are within their limits, and can change as the row can
+pub row-nets : (set' : Tables) (row : Row) → IsRow set' row → AreFourNets set' (four (nets_in row))
+row-nets set' row is = record {
+  lots = record { one_each = is.lots.one_each; small = is.lots.nets };
+  buys = record { one_each = is.buys.one_each; small = is.buys.nets };
+  sales = record { one_each = is.sales.one_each; small = is.sales.nets };
+  all = record { one_each = is.all.one_each; small = is.all.nets };
+}
+
+more-nets : (set' : Tables) (nets : List ℤ) (i : ℕ) (quantity : ℤ) → length nets ≡ length set'.contracts → All IsNet (more_at nets i quantity) → AreNets set' (more_at nets i quantity)
+more-nets set' nets i quantity one_each small = record { one_each = length-set nets i (value_at nets i +ℤ quantity) ∙ one_each; small = small }
+
+pub row-gains : (set' : Tables) (row : Row) (change : Change) → IsRow set' row → IsChange set' change → IsRoomy change row → CanGain set' (nets_in row) change
+row-gains set' row change is possible roomy = record {
+  contract = possible.contract;
+  before = row-nets set' row is;
+  after = record {
+    lots = more-nets set' row.lots.nets change.contract change.lots.quantity is.lots.one_each roomy.lots;
+    buys = more-nets set' row.buys.nets change.contract change.buys.quantity is.buys.one_each roomy.buys;
+    sales = more-nets set' row.sales.nets change.contract change.sales.quantity is.sales.one_each roomy.sales;
+    all = more-nets set' row.all.nets change.contract change.all.quantity is.all.one_each roomy.all;
+  };
+}
 
 pub is_marked : (set' : Tables) (version : ℕ) (nets : UnitNets) (now : Option Marked) → IsReady set' version nets now → IsMarkedBy set' now
 is_marked set' version nets None ready = ready
@@ -74,14 +98,15 @@ net-back nets i quantity inside small =
     back : (z : ℤ) → IsNet z → IsNet ((z +ℤ quantity) +ℤ neg_ℤ quantity)
     back z is = omega (arith, ints, is)
 
-pub can_move_back : (set' : Tables) (version : ℕ) (row : Row) (change : Change) (now : Option Marked) → IsRow set' row → IsChange set' change → IsReady set' version (moved_nets change (nets_in row)) now → CanMoveMarked (opposite (moves_of change)) now
-can_move_back set' version row change None is possible ready = tt
-can_move_back set' version row change (Some m) is possible ready =
+pub can_move_back : (set' : Tables) (version : ℕ) (nets : UnitNets) (change : Change) (now : Option Marked) → change.contract < length set'.contracts → AreFourNets set' (four nets) → IsReady set' version (moved_nets change nets) now
+    → CanMoveMarked (opposite (moves_of change)) now
+can_move_back set' version nets change None inside before ready = tt
+can_move_back set' version nets change (Some m) inside before ready =
     subst (λ (n : FourNets). CanMove (opposite (moves_of change)) n) (sym ready.shows) record {
-      lots = net-back row.lots.nets change.contract change.lots.quantity (omega (arith, is.lots.one_each, possible.contract)) is.lots.nets;
-      buys = net-back row.buys.nets change.contract change.buys.quantity (omega (arith, is.buys.one_each, possible.contract)) is.buys.nets;
-      sales = net-back row.sales.nets change.contract change.sales.quantity (omega (arith, is.sales.one_each, possible.contract)) is.sales.nets;
-      all = net-back row.all.nets change.contract change.all.quantity (omega (arith, is.all.one_each, possible.contract)) is.all.nets;
+      lots = net-back nets.lots change.contract change.lots.quantity (omega (arith, before.lots.one_each, inside)) before.lots.small;
+      buys = net-back nets.buys change.contract change.buys.quantity (omega (arith, before.buys.one_each, inside)) before.buys.small;
+      sales = net-back nets.sales change.contract change.sales.quantity (omega (arith, before.sales.one_each, inside)) before.sales.small;
+      all = net-back nets.all change.contract change.all.quantity (omega (arith, before.all.one_each, inside)) before.all.small;
     }
 
 -- what a moved desk showed before

@@ -1,15 +1,14 @@
 -- The desks of margin units beside the rows of a book (own profile).
-use Rattle.std.specs.Prelude.{ℕ, ◌≡◌, ◌≢◌, ◌≤◌, ◌==◌, ◌||◌, Bool, true, false, List, length, slice_index_or, Option, Some, None, is_some}
+use Rattle.std.specs.Prelude.{ℕ, ◌≡◌, ◌≢◌, ◌<◌, ◌≤◌, ◌==◌, ◌||◌, Bool, false, List, length, slice_index_or, Option, Some, None}
 use Rattle.mgn_params.specs.Tables.{Tables}
 use Rattle.mgn_desk.specs.declared.desk.Marked.{Marked}
 use Rattle.mgn_desk.specs.declared.moves.Moves.{Moves}
 use Rattle.mgn_desk.specs.declared.moves.Requirements.{Requirements}
 use Rattle.mgn_desk.specs.Desks.{DeskRows}
-use Rattle.mgn_desk.specs.Portfolios.{ArePortfolios, FourNets, nets_of}
+use Rattle.mgn_desk.specs.Portfolios.{AreFourNets, ArePortfolios, FourNets, nets_of}
 use Rattle.mgn_unit.specs.declared.change.Change.{Change}
 use Rattle.mgn_unit.specs.declared.row.Priced.{Priced}
 use Rattle.mgn_unit.specs.declared.row.Row.{Row}
-use Rattle.mgn_plan.specs.declared.plans.Known.{Known}
 use Rattle.mgn_plan.specs.declared.plans.Plan.{Plan}
 use Rattle.mgn_plan.specs.declared.plans.Plan.TheVariants.{Nothing, One, Two}
 use Rattle.mgn_plan.specs.declared.plans.UnitChange.{UnitChange}
@@ -32,6 +31,12 @@ required_by r = record { lots = r.lots; buys = r.buys; sales = r.sales; all = r.
 -- nets as a desk shows them
 abbrev pub four : UnitNets → FourNets
 four nets = record { lots = nets.lots; buys = nets.buys; sales = nets.sales; all = nets.all }
+
+-- nets can change so: they are within their limits before and after
+pub record CanGain (set : Tables) (nets : UnitNets) (change : Change) : Type 0 where
+  pub contract : change.contract < length set.contracts
+  pub before : AreFourNets set (four nets)
+  pub after : AreFourNets set (four (moved_nets change nets))
 
 -- what is marked on the desk of a unit, nothing where there is no desk
 abbrev pub marked_at : List DeskRows → ℕ → Option Marked
@@ -85,9 +90,3 @@ abbrev pub AreReady : Tables → ℕ → Plan → List Row → List DeskRows →
 AreReady set version Nothing rows desks = Unit {0}
 AreReady set version (One u) rows desks = IsMovedBy set version rows desks u
 AreReady set version (Two u v) rows desks = IsMovedBy set version rows desks u × IsMovedBy set version rows desks v
-
--- what each unit of a plan requires is told
-abbrev pub KnowsAll : Plan → Known → Type 0
-KnowsAll Nothing known = Unit {0}
-KnowsAll (One u) known = is_some known.first ≡ true
-KnowsAll (Two u v) known = (is_some known.first ≡ true) × (is_some known.second ≡ true)

@@ -81,8 +81,8 @@ fn ready(
     desk.mark(alloc, version, set, &nets)
 }
 
-// What a marked desk requires.
-pub(crate) fn priced(desk: &Desk) -> Priced
+/// What the portfolios of a marked desk require, in cents.
+pub fn priced(desk: &Desk) -> Priced
     requires { (set : Tables) × IsMarkedBy set desk.now.marked }
     ensures requirements { (set : Tables) → IsMarkedBy set desk.now.marked →
         Requires set desk.now.marked (required_by result) }
@@ -133,7 +133,8 @@ fn back(desk: &mut Desk, version: Version, set: &ParamSet, row: &Row, change: &C
 }
 
 impl Desks {
-    ghost use Rattle.mgn_pricing.specs.Desks.{AreDesks, AreReady, IsReady, KeepsOthers, KeepsUnplanned, KnowsAll, Rests, is_planned, marked_at};
+    ghost use Rattle.mgn_plan.specs.Plans.{KnowsAll};
+    ghost use Rattle.mgn_pricing.specs.Desks.{AreDesks, AreReady, IsReady, KeepsOthers, KeepsUnplanned, Rests, is_planned, marked_at};
 
     /// No desks. Takes no memory.
     pub fn new(alloc: Global) -> Desks

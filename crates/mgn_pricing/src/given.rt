@@ -3,7 +3,7 @@
 ghost use Rattle.std.specs.Prelude.{◌≡◌, ◌<◌, ◌==◌, IfSome, is_some, length, map, None, All};
 ghost use Rattle.std.specs.Option.{option_map_or};
 ghost use Rattle.std.specs.List.{list_any, position};
-ghost use Rattle.mgn_plan.specs.Plans.{CanChange, Foresees, IsPossible};
+ghost use Rattle.mgn_plan.specs.Plans.{CanChange, Foresees, IsPossible, KnowsAll};
 ghost use Rattle.mgn_span.specs.Scan.{value_at};
 ghost use Rattle.mgn_num.specs.Amount.{IsQuantity};
 ghost use Rattle.mgn_unit.specs.Rows.{IsChange, IsRoomy, IsRow, Prices, more_at};
@@ -128,6 +128,7 @@ pub fn known_by(
     requires possible { IsPossible set.now rows.now plan.now }
     requires right { All (λ d. IsRight set.now version d.now.marked) desks.now }
     ensures known { IfSome result (Foresees set.now rows.now plan.now) }
+    ensures whole { IfSome result (KnowsAll plan.now) }
     ensures fit { is_some result ≡ fit_plan set.now version rows.now (map (λ d. d.now) desks.now) plan.now }
 {
     match plan {

@@ -4,5 +4,5 @@
 mod desks;
 mod given;
 
-pub use desks::{Desks, is_of, moves_of};
+pub use desks::{Desks, is_of, moves_of, priced};
 pub use given::{is_one_older, known_by};

@@ -1,4 +1,4 @@
-ghost use Rattle.std.specs.Prelude.{◌≡◌, ◌≢◌, ◌<◌, ◌≤◌, ◌-ℤ◌, pos, Ok, Err, IfOk, IfSome, IsOk, OnOk, OnErr, false, true, length};
+ghost use Rattle.std.specs.Prelude.{◌≡◌, ◌≢◌, ◌<◌, ◌≤◌, ◌-ℤ◌, pos, Ok, Err, IfOk, IfSome, IsOk, IsSome, OnOk, OnErr, false, true, length};
 ghost use Rattle.mgn_lots.specs.Lots.{has_number, is_full, IsLot, is_live, lot_at};
 ghost use Rattle.mgn_machine.specs.State.{account_at, put, with_lot, with_bust, with_amount, traded_lot};
 ghost use Rattle.mgn_coll.specs.Posted.{IsPosted, amount_of, most_of, value};
@@ -7,7 +7,7 @@ ghost use Rattle.mgn_machine.specs.Step.{traded, undone, posted, drawn};
 ghost use Rattle.mgn_machine.specs.Refusals.{bust_places, trade_places};
 ghost use Rattle.mgn_unit.specs.declared.row.Priced.{Priced};
 ghost use Rattle.mgn_register.specs.BookStates.{IsKept, Steps};
-ghost use Rattle.mgn_plan.specs.Plans.{FollowsPlan, Foresees, bust_plan, trade_plan};
+ghost use Rattle.mgn_plan.specs.Plans.{FollowsPlan, Foresees, IsIdle, KnowsAll, bust_plan, trade_plan};
 ghost use Rattle.mgn_plan.specs.declared.plans.Plan.TheVariants.{Nothing};
 
 use crate::fault::Fault;
@@ -48,6 +48,7 @@ impl Register {
         trade: &Trade,
         plan: &Plan,
         known: &Known,
+        work: &mut Work,
     ) -> Result<(), Fault>
         requires kept { IsKept set.now self.old }
         requires plan { plan.now ≡
@@ -59,6 +60,8 @@ impl Register {
         ensures follows { OnOk result (FollowsPlan set.now
             (trade_plan self.old.state trade.now (trade_places set.now self.old.state trade.now))
             self.old.rows self.new.rows) }
+        ensures idle { IsIdle (trade_plan self.old.state trade.now (trade_places set.now self.old.state trade.now))
+            known.now work.old work.new }
     {
         set.limits();
         let (place, i) = self.planned_trade(set, trade, plan)?;
@@ -66,11 +69,11 @@ impl Register {
         let lot = traded_lot(trade.lot, trade.contract, trade.quantity, trade.premium);
         let owner = &mut self.accounts[place];
         let row = &mut self.rows[owner.unit()];
-        enter_lot(alloc, set, owner, row, &change, &lot, &known.first)?;
+        enter_lot(alloc, set, owner, row, &change, &lot, &known.first, work)?;
         Ok(())
     }
 
-    /// A traded lot is busted.
+    /// A traded lot is busted. It takes no memory where it is known what its unit then requires.
     pub fn bust(
         &mut self,
         alloc: Global,
@@ -78,6 +81,7 @@ impl Register {
         account: AccountName,
         number: LotId,
         known: &Known,
+        work: &mut Work,
     ) -> Result<(), Fault>
         requires kept { IsKept set.now self.old }
         requires known { Foresees set.now self.old.rows
@@ -87,6 +91,10 @@ impl Register {
         ensures follows { OnOk result (FollowsPlan set.now
             (bust_plan set.now self.old.state (bust_places self.old.state account number))
             self.old.rows self.new.rows) }
+        ensures idle { IsIdle (bust_plan set.now self.old.state (bust_places self.old.state account number))
+            known.now work.old work.new }
+        ensures no_memory { KnowsAll (bust_plan set.now self.old.state (bust_places self.old.state account number)) known.now
+            → result ≢ Err Fault.Memory }
     {
         set.limits();
         let (place, at) = self.bust_places(account, number)?;
@@ -94,7 +102,7 @@ impl Register {
         let owner = &mut self.accounts[place];
         let row = &mut self.rows[owner.unit()];
         let change = Change::of_bust(contract, owner.lot_at(at));
-        bust_lot(alloc, set, owner, row, &change, at, &known.first)?;
+        bust_lot(alloc, set, owner, row, &change, at, &known.first, work)?;
         Ok(())
     }
 
@@ -174,6 +182,7 @@ pub(crate) fn price(
     row: &mut Row,
     change: &Change,
     known: &Option<Priced>,
+    work: &mut Work,
 ) -> Result<Priced, AllocError>
     requires row { IsRow set.now row.old }
     requires change { IsChange set.now change.now }
@@ -181,10 +190,12 @@ pub(crate) fn price(
     requires known { IfSome known.now (Prices set.now change.now row.old) }
     ensures same { row.new ≡ row.old }
     ensures priced { IfOk result (Prices set.now change.now row.old) }
+    ensures taken { IfSome known.now (λ it. result ≡ Ok it) }
+    ensures idle { IsSome known.now → work.new ≡ work.old }
 {
     match known {
         Some(priced) => Ok(*priced),
-        None => row.priced_with(alloc, set, change, &mut Work::new()),
+        None => row.priced_with(alloc, set, change, work),
     }
 }
 
@@ -197,6 +208,7 @@ fn bust_lot(
     change: &Change,
     at: usize,
     known: &Option<Priced>,
+    work: &mut Work,
 ) -> Result<(), AllocError>
     requires known { IfSome known.now (Prices set.now change.now row.old) }
     requires row { IsRow set.now row.old }
@@ -209,8 +221,10 @@ fn bust_lot(
     ensures priced { OnOk result ((priced : Priced) × Prices set.now change.now row.old priced) }
     ensures same_account { OnErr result (owner.new ≡ owner.old) }
     ensures same_row { OnErr result (row.new ≡ row.old) }
+    ensures done { IsSome known.now → IsOk result }
+    ensures idle { IsSome known.now → work.new ≡ work.old }
 {
-    let priced = price(alloc, set, row, change, known)?;
+    let priced = price(alloc, set, row, change, known, work)?;
     owner.bust(at);
     row.apply(set, change, &priced);
     Ok(())
@@ -253,6 +267,7 @@ fn enter_lot(
     change: &Change,
     lot: &Lot,
     known: &Option<Priced>,
+    work: &mut Work,
 ) -> Result<(), AllocError>
     requires known { IfSome known.now (Prices set.now change.now row.old) }
     requires row { IsRow set.now row.old }
@@ -266,8 +281,9 @@ fn enter_lot(
     ensures priced { OnOk result ((priced : Priced) × Prices set.now change.now row.old priced) }
     ensures same_account { OnErr result (owner.new ≡ owner.old) }
     ensures same_row { OnErr result (row.new ≡ row.old) }
+    ensures idle { IsSome known.now → work.new ≡ work.old }
 {
-    let priced = price(alloc, set, row, change, known)?;
+    let priced = price(alloc, set, row, change, known, work)?;
     owner.add_lot(lot)?;
     row.apply(set, change, &priced);
     Ok(())

@@ -1,4 +1,4 @@
-ghost use Rattle.std.specs.Prelude.{◌≡◌, ◌<◌, ◌≤◌, ◌^◌, IfOk, IfErr, IfSome, OnOk, OnErr, Ok, false, true, length};
+ghost use Rattle.std.specs.Prelude.{◌≡◌, ◌≢◌, ◌<◌, ◌≤◌, ◌^◌, IfOk, IfErr, IfSome, IsOk, IsSome, OnOk, OnErr, Ok, Err, false, true, length};
 ghost use Rattle.mgn_params.specs.Limits.{IsWithinLimits};
 ghost use Rattle.mgn_lots.specs.Lots.{IsLot, has_number, is_full};
 ghost use Rattle.mgn_holds.specs.Holds.{IsHeld, has_order, hold_at, place_of_order, is_full as holds_full, covers, meets_limit};
@@ -8,7 +8,7 @@ ghost use Rattle.mgn_unit.specs.Rows.{IsRow, IsChange, IsRoomy, Prices, row_with
 ghost use Rattle.mgn_machine.specs.Holding.{entered, filled, released, hold_places, fill_places, release_places, new_hold, with_hold, without_hold, with_fill, premium_fits_at};
 ghost use Rattle.mgn_unit.specs.declared.row.Priced.{Priced};
 ghost use Rattle.mgn_register.specs.BookStates.{IsKept, Steps};
-ghost use Rattle.mgn_plan.specs.Plans.{FollowsPlan, Foresees, fill_plan, hold_plan, release_plan};
+ghost use Rattle.mgn_plan.specs.Plans.{FollowsPlan, Foresees, IsIdle, KnowsAll, fill_plan, hold_plan, release_plan};
 ghost use Rattle.mgn_register.specs.RoomAsked.{AsksRoom};
 
 use crate::changes::{price, traded_lot};
@@ -18,7 +18,7 @@ use mgn_holds::Held;
 use mgn_ids::{AccountName, OrderId, Premium};
 use mgn_lots::Lot;
 use mgn_machine::{Fill, Hold, Refusal};
-use mgn_params::ParamSet;
+use mgn_params::{ParamSet, Work};
 use mgn_plan::{Known, Plan};
 use mgn_unit::{Account, Change, Priced, Row};
 use std::alloc::{AllocError, Global};
@@ -119,6 +119,7 @@ impl Register {
         hold: &Hold,
         plan: &Plan,
         known: &Known,
+        work: &mut Work,
     ) -> Result<(), Fault>
         requires kept { IsKept set.now self.old }
         requires plan { plan.now ≡
@@ -130,6 +131,8 @@ impl Register {
         ensures follows { OnOk result (FollowsPlan set.now
             (hold_plan self.old.state hold.now (hold_places set.now self.old.state hold.now))
             self.old.rows self.new.rows) }
+        ensures idle { IsIdle (hold_plan self.old.state hold.now (hold_places set.now self.old.state hold.now))
+            known.now work.old work.new }
     {
         set.limits();
         let (place, i) = self.planned_hold(set, hold, plan)?;
@@ -137,7 +140,7 @@ impl Register {
         let held = new_hold(hold);
         let owner = &mut self.accounts[place];
         let row = &mut self.rows[owner.unit()];
-        enter_hold(alloc, set, owner, row, &change, &held, &known.first)?;
+        enter_hold(alloc, set, owner, row, &change, &held, &known.first, work)?;
         Ok(())
     }
 
@@ -174,6 +177,7 @@ impl Register {
         set: &ParamSet,
         fill: &Fill,
         known: &Known,
+        work: &mut Work,
     ) -> Result<(), Fault>
         requires kept { IsKept set.now self.old }
         requires known { Foresees set.now self.old.rows
@@ -183,6 +187,8 @@ impl Register {
         ensures follows { OnOk result (FollowsPlan set.now
             (fill_plan set.now self.old.state fill.now (fill_places set.now self.old.state fill.now))
             self.old.rows self.new.rows) }
+        ensures idle { IsIdle (fill_plan set.now self.old.state fill.now (fill_places set.now self.old.state fill.now))
+            known.now work.old work.new }
     {
         set.limits();
         let (place, hold) = self.fill_places(set, fill)?;
@@ -192,11 +198,21 @@ impl Register {
         let change = Change::of_fill(i, fill.quantity, held.limit, fill.premium);
         let lot = traded_lot(fill.lot, held.contract, fill.quantity, fill.premium);
         let row = &mut self.rows[owner.unit()];
-        fill_hold(alloc, set, owner, row, &change, hold, &lot, &known.first)?;
+        fill_hold(
+            alloc,
+            set,
+            owner,
+            row,
+            &change,
+            hold,
+            &lot,
+            &known.first,
+            work,
+        )?;
         Ok(())
     }
 
-    /// An order is held no more.
+    /// An order is held no more. It takes no memory where it is known what its unit then requires.
     pub fn release(
         &mut self,
         alloc: Global,
@@ -204,6 +220,7 @@ impl Register {
         account: AccountName,
         order: OrderId,
         known: &Known,
+        work: &mut Work,
     ) -> Result<(), Fault>
         requires kept { IsKept set.now self.old }
         requires known { Foresees set.now self.old.rows
@@ -213,6 +230,10 @@ impl Register {
         ensures follows { OnOk result (FollowsPlan set.now
             (release_plan set.now self.old.state (release_places self.old.state account order))
             self.old.rows self.new.rows) }
+        ensures idle { IsIdle (release_plan set.now self.old.state (release_places self.old.state account order))
+            known.now work.old work.new }
+        ensures no_memory { KnowsAll (release_plan set.now self.old.state (release_places self.old.state account order)) known.now
+            → result ≢ Err Fault.Memory }
     {
         set.limits();
         let (place, hold) = self.release_places(account, order)?;
@@ -220,7 +241,7 @@ impl Register {
         let owner = &mut self.accounts[place];
         let change = Change::of_release(i, owner.hold_at(hold));
         let row = &mut self.rows[owner.unit()];
-        release_hold(alloc, set, owner, row, &change, hold, &known.first)?;
+        release_hold(alloc, set, owner, row, &change, hold, &known.first, work)?;
         Ok(())
     }
 }
@@ -235,6 +256,7 @@ fn enter_hold(
     change: &Change,
     held: &Held,
     known: &Option<Priced>,
+    work: &mut Work,
 ) -> Result<(), Fault>
     requires known { IfSome known.now (Prices set.now change.now row.old) }
     requires row { IsRow set.now row.old }
@@ -249,8 +271,9 @@ fn enter_hold(
     ensures room { AsksRoom (row_with set.now change.now row.old) result }
     ensures same_account { OnErr result (owner.new ≡ owner.old) }
     ensures same_row { OnErr result (row.new ≡ row.old) }
+    ensures idle { IsSome known.now → work.new ≡ work.old }
 {
-    let priced = price(alloc, set, row, change, known)?;
+    let priced = price(alloc, set, row, change, known, work)?;
     if row.lacks_room_after(set, change, &priced) {
         return Err(Fault::Refused(Refusal::NoRoom));
     }
@@ -268,6 +291,7 @@ fn release_hold(
     change: &Change,
     hold: usize,
     known: &Option<Priced>,
+    work: &mut Work,
 ) -> Result<(), AllocError>
     requires known { IfSome known.now (Prices set.now change.now row.old) }
     requires row { IsRow set.now row.old }
@@ -279,8 +303,10 @@ fn release_hold(
     ensures priced { OnOk result ((priced : Priced) × Prices set.now change.now row.old priced) }
     ensures same_account { OnErr result (owner.new ≡ owner.old) }
     ensures same_row { OnErr result (row.new ≡ row.old) }
+    ensures done { IsSome known.now → IsOk result }
+    ensures idle { IsSome known.now → work.new ≡ work.old }
 {
-    let priced = price(alloc, set, row, change, known)?;
+    let priced = price(alloc, set, row, change, known, work)?;
     owner.release(hold);
     row.apply(set, change, &priced);
     Ok(())
@@ -297,6 +323,7 @@ fn fill_hold(
     hold: usize,
     lot: &Lot,
     known: &Option<Priced>,
+    work: &mut Work,
 ) -> Result<(), AllocError>
     requires known { IfSome known.now (Prices set.now change.now row.old) }
     requires row { IsRow set.now row.old }
@@ -312,8 +339,9 @@ fn fill_hold(
     ensures priced { OnOk result ((priced : Priced) × Prices set.now change.now row.old priced) }
     ensures same_account { OnErr result (owner.new ≡ owner.old) }
     ensures same_row { OnErr result (row.new ≡ row.old) }
+    ensures idle { IsSome known.now → work.new ≡ work.old }
 {
-    let priced = price(alloc, set, row, change, known)?;
+    let priced = price(alloc, set, row, change, known, work)?;
     owner.fill(hold, lot)?;
     row.apply(set, change, &priced);
     Ok(())

@@ -3,14 +3,14 @@ ghost use Rattle.mgn_machine.specs.Brief.{is_brief};
 ghost use Rattle.mgn_machine.specs.Refusals.{place_of};
 ghost use Rattle.mgn_machine.specs.Step.{step_under, asked, ended};
 ghost use Rattle.mgn_register.specs.BookStates.{IsKept, Steps, Replies, answer_of};
-ghost use Rattle.mgn_plan.specs.Plans.{FollowsPlan, Foresees, LeavesNets, plan_of};
+ghost use Rattle.mgn_plan.specs.Plans.{FollowsPlan, Foresees, IsIdle, LeavesNets, plan_of};
 ghost use Rattle.mgn_plan.specs.declared.plans.Plan.TheVariants.{Nothing};
 
 use crate::fault::Fault;
 use crate::register::{Register, refuse_if};
 use mgn_ids::AccountName;
 use mgn_machine::{Command, Refusal, Reply};
-use mgn_params::ParamSet;
+use mgn_params::{ParamSet, Work};
 use mgn_plan::{Known, Plan};
 use std::alloc::Global;
 
@@ -54,7 +54,8 @@ fn answer_of(done: Result<(), Fault>) -> Result<Reply, Fault>
 }
 
 /// One step of the machine under a set; where memory is refused, or a statement told, nothing has changed. What the units
-/// of its plan require may be known before, and is worked out elsewhere. What the plan found is not looked for again.
+/// of its plan require may be known before: where all of it is, nothing is worked out here. What the plan found is not looked
+/// for again.
 #[tactic(auto, using(crate::proofs::Answered::answered_by, crate::proofs::Following::leaves_by))]
 pub fn step(
     register: &mut Register,
@@ -63,6 +64,7 @@ pub fn step(
     command: &Command,
     plan: &Plan,
     known: &Known,
+    work: &mut Work,
 ) -> Result<Reply, Fault>
     requires kept { IsKept set.now register.old }
     requires plan { plan.now ≡ plan_of set.now register.old.state command.now }
@@ -73,18 +75,23 @@ pub fn step(
     ensures nets { IfOk result (λ reply.
         LeavesNets set.now (plan_of set.now register.old.state command.now) reply register.old.rows register.new.rows) }
     ensures told { IfOk result (λ reply. is_brief reply ≡ false → register.new ≡ register.old) }
+    ensures idle { IsIdle (plan_of set.now register.old.state command.now) known.now work.old work.new }
 {
     match *command {
         Command::NewOrigin(name, mode) => answer_of(register.originate(alloc, set, name, mode)),
         Command::NewAccount(name, origin) => answer_of(register.open(alloc, set, name, origin)),
-        Command::Trade(trade) => answer_of(register.trade(alloc, set, &trade, plan, known)),
-        Command::Bust(account, lot) => answer_of(register.bust(alloc, set, account, lot, known)),
-        Command::Hold(hold) => answer_of(register.hold(alloc, set, &hold, plan, known)),
-        Command::Fill(fill) => answer_of(register.fill(alloc, set, &fill, known)),
-        Command::Release(account, order) => answer_of(register.release(
-            alloc, set, account, order, known,
+        Command::Trade(trade) => answer_of(register.trade(alloc, set, &trade, plan, known, work)),
+        Command::Bust(account, lot) => answer_of(register.bust(
+            alloc, set, account, lot, known, work,
         )),
-        Command::Transfer(transfer) => answer_of(register.transfer(alloc, set, &transfer, known)),
+        Command::Hold(hold) => answer_of(register.hold(alloc, set, &hold, plan, known, work)),
+        Command::Fill(fill) => answer_of(register.fill(alloc, set, &fill, known, work)),
+        Command::Release(account, order) => answer_of(register.release(
+            alloc, set, account, order, known, work,
+        )),
+        Command::Transfer(transfer) => answer_of(register.transfer(
+            alloc, set, &transfer, known, work,
+        )),
         Command::Post(account, class, units) => answer_of(register.post(
             set, account, &class, units,
         )),

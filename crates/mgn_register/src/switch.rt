@@ -1,11 +1,13 @@
-ghost use Rattle.std.specs.Prelude.{◌≡◌, ◌<◌, ◌≤◌, ℕ, length, filter, slice_index_or, IfOk, IfSome, OnOk, true};
+ghost use Rattle.std.specs.Prelude.{◌≡◌, ◌<◌, ◌≤◌, ℕ, length, filter, slice_index_or, IfOk, IfSome, None, OnOk, true};
 ghost use Rattle.std.specs.List.{list_all};
+ghost use Rattle.std.specs.Option.{option_copied};
 ghost use Rattle.mgn_coll.specs.Posted.{is_priced_by};
 ghost use Rattle.mgn_machine.specs.NewSet.{covers, set_fits};
 ghost use Rattle.mgn_machine.specs.State.{AccountState};
 ghost use Rattle.mgn_params.specs.Tables.{Tables};
 ghost use Rattle.mgn_span.specs.Scan.{value_at};
 ghost use Rattle.mgn_unit.specs.NewSets.{ArePrepared, IsPrepared, is_covered, row_on_call};
+ghost use Rattle.mgn_unit.specs.Prepared.{ArePreparedFor};
 ghost use Rattle.mgn_unit.specs.declared.row.Row.{Row as UnitRow};
 ghost use Rattle.mgn_register.specs.BookStates.{IsKept, IsUnitRow, book_state};
 ghost use Rattle.mgn_register.specs.Fits.{Fits};
@@ -23,7 +25,8 @@ const MOST_SWITCHES: u8 = 64;
 
 // What was prepared of a unit, if anything was.
 fn prepared_of(prepared: &[Option<PreparedUnit>], unit: usize) -> Option<&PreparedUnit>
-    ensures { (set : Tables) → ArePrepared set prepared.now → IfSome result (λ one. IsPrepared set one.now) }
+    ensures prepared { (set : Tables) → ArePrepared set prepared.now → IfSome result (λ one. IsPrepared set one.now) }
+    ensures found { option_copied result ≡ slice_index_or prepared.now unit None }
 {
     prepared.get(unit)?.as_ref()
 }
@@ -88,6 +91,7 @@ impl Register {
         old: &ParamSet,
         new: &ParamSet,
         prepared: &[Option<PreparedUnit>],
+        work: &mut Work,
     ) -> Result<Vec<Row>, AllocError>
         requires kept { IsKept old.now self.now }
         requires covers { covers new.now self.now.state.accounts ≡ true }
@@ -95,16 +99,16 @@ impl Register {
         ensures long { IfOk result (λ rows. length rows.items ≡ length self.now.rows) }
         ensures rows { IfOk result (λ rows. (u : ℕ) (d : UnitRow) → u < length rows.items →
             IsUnitRow new.now self.now.state.accounts u (slice_index_or rows.items u d)) }
+        ensures idle { ArePreparedFor old.now new.now self.now.rows prepared.now → work.new ≡ work.old }
     {
         new.limits();
         let switch = Switch::new(alloc, old, new)?;
         let gains = switch.gains(alloc, self.accounts.as_slice(), self.rows.len())?;
-        let mut work = Work::new();
         let mut rows = Vec::with_capacity(alloc, self.rows.len())?;
         for unit in 0..self.rows.len() {
             let gain = gain_of(&gains, unit);
             let ready = prepared_of(prepared, unit);
-            let row = self.rows[unit].under(alloc, &switch, gain, ready, &mut work)?;
+            let row = self.rows[unit].under(alloc, &switch, gain, ready, work)?;
             rows.push_reserved(row);
         }
         Ok(rows)
@@ -112,13 +116,14 @@ impl Register {
 
     /// The rows of all units under another set, or why it may not come into force. Nothing changes. Memory is asked for
     /// only where it may. What was prepared of units under that set, by their numbers, is used where a
-    /// unit's nets are still the same; any other unit is worked out anew.
+    /// unit's nets are still the same; any other unit is worked out anew. Where it is so of all units no risk array is read.
     pub fn rows_under(
         &self,
         alloc: Global,
         old: &ParamSet,
         new: &ParamSet,
         prepared: &[Option<PreparedUnit>],
+        work: &mut Work,
     ) -> Result<Vec<Row>, Fault>
         requires kept { IsKept old.now self.now }
         requires prepared { ArePrepared new.now prepared.now }
@@ -128,9 +133,10 @@ impl Register {
         ensures long { IfOk result (λ rows. length rows.items ≡ length self.now.rows) }
         ensures rows { IfOk result (λ rows. (u : ℕ) (d : UnitRow) → u < length rows.items →
             IsUnitRow new.now self.now.state.accounts u (slice_index_or rows.items u d)) }
+        ensures idle { ArePreparedFor old.now new.now self.now.rows prepared.now → work.new ≡ work.old }
     {
         self.set_fits(old, new)?;
-        Ok(self.rows_of(alloc, old, new, prepared)?)
+        Ok(self.rows_of(alloc, old, new, prepared, work)?)
     }
 
     /// Another set is in force, under which these are the rows of all units. Gives how many of these are on call.

@@ -1,4 +1,4 @@
-ghost use Rattle.std.specs.Prelude.{◌≡◌, ◌≢◌, ◌<◌, ◌≤◌, ◌*◌, ◌^◌, ◌==◌, ◌+ℤ◌, neg_ℤ, pos, unsigned_abs, slice_set, if◌then◌else◌, IfOk, IfSome, OnOk, OnErr, Ok, false, length};
+ghost use Rattle.std.specs.Prelude.{◌≡◌, ◌≢◌, ◌<◌, ◌≤◌, ◌*◌, ◌^◌, ◌==◌, ◌+ℤ◌, neg_ℤ, pos, unsigned_abs, slice_set, if◌then◌else◌, IfOk, IfSome, IsSome, OnOk, OnErr, Ok, false, length};
 ghost use Rattle.mgn_lots.specs.Lots.{IsLot, has_number, is_full};
 ghost use Rattle.mgn_machine.specs.Refusals.{contract_of, is_over};
 ghost use Rattle.mgn_machine.specs.State.{account_at};
@@ -9,7 +9,7 @@ ghost use Rattle.mgn_span.specs.Scan.{value_at};
 ghost use Rattle.mgn_unit.specs.Rows.{IsChange, IsRow, Prices, row_with, row_with_size};
 ghost use Rattle.mgn_unit.specs.declared.row.Priced.{Priced};
 ghost use Rattle.mgn_register.specs.BookStates.{IsKept, Steps};
-ghost use Rattle.mgn_plan.specs.Plans.{FollowsPlan, Foresees, move_plan, row_at};
+ghost use Rattle.mgn_plan.specs.Plans.{FollowsPlan, Foresees, IsIdle, move_plan, row_at};
 ghost use Rattle.mgn_register.specs.RoomAsked.{AsksRoom};
 ghost use Rattle.mgn_register.specs.TransferRows.{AskBoth, TakesChange, TakesLot, party_of, with_both};
 
@@ -20,7 +20,7 @@ use mgn_ids::{ContractName, LotId, LotQuantity};
 use mgn_lots::{Lot, Mark};
 use mgn_machine::{Refusal, Transfer};
 use mgn_num::Quantity;
-use mgn_params::ParamSet;
+use mgn_params::{ParamSet, Work};
 use mgn_plan::Known;
 use mgn_unit::{Account, Change, Priced, Row, add_both};
 use std::alloc::{AllocError, Global};
@@ -159,6 +159,7 @@ impl Register {
         set: &ParamSet,
         transfer: &Transfer,
         known: &Known,
+        work: &mut Work,
     ) -> Result<(), Fault>
         requires kept { IsKept set.now self.old }
         requires known { Foresees set.now self.old.rows
@@ -168,6 +169,8 @@ impl Register {
         ensures follows { OnOk result (FollowsPlan set.now
             (move_plan self.old.state transfer.now (move_places set.now self.old.state transfer.now))
             self.old.rows self.new.rows) }
+        ensures idle { IsIdle (move_plan self.old.state transfer.now (move_places set.now self.old.state transfer.now))
+            known.now work.old work.new }
     {
         set.limits();
         let (from, to, i) = self.move_places(set, transfer)?;
@@ -185,6 +188,7 @@ impl Register {
             &giver,
             &taker,
             known,
+            work,
         )
     }
 }
@@ -199,6 +203,7 @@ fn enter_across(
     giver: &Party,
     taker: &Party,
     known: &Known,
+    work: &mut Work,
 ) -> Result<(), Fault>
     requires given { TakesLot accounts.old giver.now }
     requires taken { TakesLot accounts.old taker.now }
@@ -223,9 +228,10 @@ fn enter_across(
         (row_with set.now taker.now.change (row_at set.now rows.old taker.now.unit)) result }
     ensures same_accounts { OnErr result (accounts.new ≡ accounts.old) }
     ensures same_rows { OnErr result (rows.new ≡ rows.old) }
+    ensures idle { IsSome known.now.first → IsSome known.now.second → work.new ≡ work.old }
 {
-    let given = price_party(alloc, set, rows, giver, &known.first)?;
-    let taken = price_party(alloc, set, rows, taker, &known.second)?;
+    let given = price_party(alloc, set, rows, giver, &known.first, work)?;
+    let taken = price_party(alloc, set, rows, taker, &known.second, work)?;
     add_lots(accounts, giver, taker)?;
     apply(set, rows, giver, &given);
     apply(set, rows, taker, &taken);
@@ -273,6 +279,7 @@ fn price_party(
     rows: &mut [Row],
     party: &Party,
     known: &Option<Priced>,
+    work: &mut Work,
 ) -> Result<Priced, Fault>
     requires party { TakesChange set.now rows.old party.now }
     requires known { IfSome known.now (Prices set.now party.now.change (row_at set.now rows.old party.now.unit)) }
@@ -280,9 +287,10 @@ fn price_party(
     ensures priced { IfOk result (λ priced.
         Prices set.now party.now.change (row_at set.now rows.old party.now.unit) priced) }
     ensures room { AsksRoom (row_with set.now party.now.change (row_at set.now rows.old party.now.unit)) result }
+    ensures idle { IsSome known.now → work.new ≡ work.old }
 {
     let row = &mut rows[party.unit];
-    let priced = price(alloc, set, row, &party.change, known)?;
+    let priced = price(alloc, set, row, &party.change, known, work)?;
     if row.lacks_room_after(set, &party.change, &priced) {
         return Err(Fault::Refused(Refusal::NoRoom));
     }

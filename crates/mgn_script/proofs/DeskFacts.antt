@@ -1,5 +1,5 @@
 -- Desks beside a book, before and after a commit.
-use Rattle.std.proofs.Common.{◌≡◌, ◌<◌, ◌≤◌, ◌∙◌, ⊎_elim, ℕ, Bool, true, false, List, [], length, Option, None, sym, ap, subst, refl, arith, true≢false}
+use Rattle.std.proofs.Common.{◌≡◌, ◌<◌, ◌≤◌, ◌∙◌, ⊎_elim, ℕ, Bool, true, false, List, [], length, Option, Some, None, Result, Ok, Err, sym, ap, subst, refl, arith, true≢false}
 use Rattle.std.proofs.lemmas.Bool.{cases_lt}
 use Rattle.std.proofs.lemmas.List.{get_or_past}
 use Rattle.mgn_params.specs.Shelves.{set_at}
@@ -8,7 +8,12 @@ use Rattle.mgn_desk.specs.declared.desk.Marked.{Marked}
 use Rattle.mgn_desk.specs.Desks.{DeskRows}
 use Rattle.mgn_machine.specs.declared.command.Command.{Command}
 use Rattle.mgn_machine.specs.declared.reply.Reply.TheVariants as reply
-use Rattle.mgn_machine.specs.declared.request.Request.TheVariants.{Do}
+use Rattle.mgn_machine.specs.declared.reply.Refusal.{Refusal}
+use Rattle.mgn_machine.specs.declared.reply.Reply.{Reply}
+use Rattle.mgn_machine.specs.declared.request.Request.TheVariants.{Do, Switch}
+use Rattle.mgn_machine.specs.NewSet.{on_call, set_fits}
+use Rattle.mgn_machine.specs.State.{State}
+use Rattle.mgn_machine.specs.Step.{switched}
 use Rattle.mgn_machine.proofs.Versions.{keeps_version}
 use Rattle.mgn_unit.specs.declared.row.Row.{Row}
 use Rattle.mgn_plan.specs.declared.plans.Plan.{Plan}
@@ -16,7 +21,7 @@ use Rattle.mgn_plan.specs.declared.plans.Plan.TheVariants.{Nothing}
 use Rattle.mgn_register.specs.BookStates.{BookState}
 use Rattle.mgn_plan.specs.Plans.{FollowsPlan, UnitNets, nets_in, row_at}
 use Rattle.mgn_pricing.specs.Desks.{AreDesks, Rests, marked_at}
-use Rattle.mgn_book.specs.BookViews.{BookView, Committed, Leaves}
+use Rattle.mgn_book.specs.BookViews.{BookView, Committed, KeepsRows, Leaves, LeavesRows, Shelves, sets_after}
 use Rattle.mgn_book.specs.declared.book.Outcome.{Outcome}
 use Rattle.mgn_book.specs.declared.book.Outcome.TheVariants.{Done, Full, Memory}
 use Rattle.mgn_script.specs.Desks.{AreAtRest, AreDesksBy, is_done}
@@ -74,6 +79,35 @@ settled sets old new number command outcome plan desks committed left done not_d
     by true done_is = follows set' old.book.state.version plan old.book.rows new.book.rows desks (left-done set' plan old.book.rows new.book.rows outcome done_is left) (done done_is)
     by false done_not = subst (λ (rows : List Row). AreDesks set' old.book.state.version Nothing rows desks) (sym (left-same set' plan old.book.rows new.book.rows outcome done_not left)) (not_done done_not)
 
--- no desks rest by any book
-pub none-at-rest : (sets : List Tables) (book : BookState) → AreAtRest sets book []
-none-at-rest sets book = record { few = omega arith; each = λ u. tt }
+-- A switch leaves the desks.
+
+-- a desk of an older version rests with any nets
+rests-newer : (set' next' : Tables) (version next : ℕ) (nets moved : UnitNets) (now : Option Marked) → version < next → Rests set' version nets now → Rests next' next moved now
+rests-newer set' next' version next nets moved None newer rests = tt
+rests-newer set' next' version next nets moved (Some m) newer rests = (omega (arith, rests.0, newer), λ same. absurd (omega (arith, rests.0, newer, same)))
+
+switched-rest : (sets now : List Tables) (old new : BookState) (t : Tables) (calls : ℕ) (r : Result (Unit {0}) Refusal) (reply' : Reply) (desks : List DeskRows)
+    → (new.state, reply') ≡ switched old.state calls r → KeepsRows old.rows reply' new.rows → now ≡ sets_after sets (Switch t) reply' → AreAtRest sets old desks → AreAtRest now new desks
+switched-rest sets now old new t calls (Ok done) reply' desks made rows put rest =
+    let version = ap (λ (p : State × Reply). p.0.version) made in
+    let long : length new.rows ≡ length old.rows = rw (ap (λ (p : State × Reply). p.1) made) at rows in
+    record {
+      few = omega (arith, rest.few, long);
+      each = λ u. rests-newer _ _ old.state.version new.state.version _ _ (marked_at desks u) (omega (arith, version)) (rest.each u);
+    }
+switched-rest sets now old new t calls (Err why) reply' desks made rows put rest =
+    let said = ap (λ (p : State × Reply). p.1) made in
+    let version : new.state.version ≡ old.state.version = ap (λ (p : State × Reply). p.0.version) made in
+    let same : new.rows ≡ old.rows = rw said at rows in
+    let sets_same : now ≡ sets = rw said at put in
+    let P : List Tables × (ℕ × List Row) → Type 0 = λ x. AreDesks (set_at x.0 x.1.0) x.1.0 Nothing x.1.1 desks in
+    let all : (now, (new.state.version, new.rows)) ≡ (sets, (old.state.version, old.rows)) = λ j. (sets_same j, (version j, same j)) in
+    subst P (sym all) rest
+
+-- the desks of a book rest after a switch, done or not
+pub rest-switched : (sets now : List Tables) (old new : BookView) (number : ℕ) (t : Tables) (outcome : Outcome) (desks : List DeskRows)
+    → Committed now old 1 number (Switch t) outcome new → LeavesRows old.book.rows outcome new.book.rows → Shelves sets (Switch t) outcome now → AreAtRest sets old.book desks → AreAtRest now new.book desks
+rest-switched sets now old new number t (Done place reply') desks done rows put rest =
+    switched-rest sets now old.book new.book t (on_call t old.book.state.accounts old.book.state.units) (set_fits t old.book.state) reply' desks done.1 rows put rest
+rest-switched sets now old new number t Full desks none rows put rest = rw (none.0, put) rest
+rest-switched sets now old new number t Memory desks none rows put rest = rw (none.0, put) rest

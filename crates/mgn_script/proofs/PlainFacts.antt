@@ -1,10 +1,11 @@
 -- A commit in a book of one session.
-use Rattle.std.proofs.Common.{◌≡◌, ◌+◌, ◌∙◌, ℕ, suc, Bool, true, false, cond, List, [], ◌∷◌, ◌++◌, length, refl, sym, ap, arith, length-append, inl, inr}
-use Rattle.std.specs.Prelude.{◌==◌}
+use Rattle.std.proofs.Common.{◌≡◌, ◌+◌, ◌∙◌, ℕ, suc, List, [], ◌∷◌, ◌++◌, length, refl, sym, ap, arith, length-append, inl, inr}
 use Rattle.mgn_params.specs.Tables.{Tables}
-use Rattle.mgn_machine.specs.History.{calls, entry, item, items_from, items_of, recorded}
+use Rattle.mgn_machine.specs.History.{calls, entry, item, items_of, recorded}
+use Rattle.mgn_machine.proofs.Histories.{calls-push}
+use Rattle.mgn_machine.proofs.Items.{items_of-push}
+use Rattle.mgn_machine.specs.declared.command.Command.{Command}
 use Rattle.mgn_machine.specs.declared.entry.Entry.{Entry}
-use Rattle.mgn_machine.specs.declared.entry.Item.{Item}
 use Rattle.mgn_machine.specs.declared.reply.Refusal.{Refusal}
 use Rattle.mgn_machine.specs.declared.reply.Refusal.TheVariants.{Full as NoRoomLeft, Memory as NoMemory}
 use Rattle.mgn_machine.specs.declared.reply.Reply.{Reply}
@@ -15,44 +16,27 @@ use Rattle.mgn_machine.specs.declared.request.Request.TheVariants.{Do, Switch}
 use Rattle.mgn_book.specs.BookViews.{Committed, BookView, Shelves, Stands, sets_after}
 use Rattle.mgn_book.specs.declared.book.Outcome.{Outcome}
 use Rattle.mgn_book.specs.declared.book.Outcome.TheVariants.{Done, Full, Memory}
-use Rattle.mgn_session.specs.Session.{Adds, Calls}
+use Rattle.mgn_session.specs.Session.{AddsAt, Calls}
 use Rattle.mgn_script.specs.Plain.{Commits, CommitsAt, IsScriptView, ScriptView, answer_of}
-
-added_by : (b : Bool) (x : Item) (xs ys zs : List Item) → xs ≡ ys ++ zs → cond b (x ∷ xs) xs ≡ cond b (x ∷ ys) ys ++ zs
-added_by true x xs ys zs e = rw e refl
-added_by false x xs ys zs e = e
-
--- an entry of the session is its last item
-items_more : (place : ℕ) (history : List Entry) (number : ℕ) (request : Recorded) (reply : Reply)
-    → items_from 1 place (history ++ entry 1 number request reply ∷ []) ≡ items_from 1 place history ++ item (place + length history) request reply ∷ []
-items_more place [] number request reply =
-    let same : place + 0 ≡ place = omega arith in
-    rw same refl
-items_more place (e ∷ es) number request reply =
-    let same : (place + 1) + length es ≡ place + suc (length es) = omega arith in
-    let rest = rw same at (items_more (place + 1) es number request reply) in
-    added_by (e.session == 1) (item place e.request e.reply) _ _ _ rest
-
-counted_by : (b : Bool) (m n : ℕ) → m ≡ n + 1 → cond b (suc m) m ≡ cond b (suc n) n + 1
-counted_by true m n e = omega arith
-counted_by false m n e = e
 
 calls_more : (history : List Entry) (number : ℕ) (request : Recorded) (reply : Reply)
     → calls 1 (history ++ entry 1 number request reply ∷ []) ≡ calls 1 history + 1
-calls_more [] number request reply = refl
-calls_more (e ∷ es) number request reply = counted_by (e.session == 1) _ _ (calls_more es number request reply)
+calls_more history number request reply =
+    let more : suc (calls 1 history) ≡ calls 1 history + 1 = omega arith in
+    calls-push 1 history (entry 1 number request reply) ∙ more
 
 -- what a commit adds to the items
 adds : (sets : List Tables) (old new : BookView) (number : ℕ) (request : Request) (outcome : Outcome)
     → Committed sets old 1 number request outcome new
-    → Adds (length new.history ≡ 1000000) request (answer_of outcome) (items_of 1 old.history) (items_of 1 new.history)
+    → AddsAt (length new.history ≡ 1000000) ⊥ (answer_of outcome).place request (answer_of outcome).reply (items_of 1 old.history) (items_of 1 new.history)
 adds sets old new number request (Done place reply) done =
-    let kept = recorded request reply in
-    let size : length new.history ≡ 1 + length old.history = ap length done.2 ∙ omega (arith, length-append old.history (entry 1 number kept reply ∷ [])) in
-    let more = ap (items_of 1) done.2 ∙ items_more 1 old.history number kept reply in
-    more ∙ ap (λ (n : ℕ). items_of 1 old.history ++ item n kept reply ∷ []) (sym (done.0 ∙ size))
+    let e : Entry = entry 1 number (recorded request reply) reply in
+    let size : length new.history ≡ length old.history + 1 = ap length done.2 ∙ omega (arith, length-append old.history (e ∷ [])) in
+    ap (items_of 1) done.2
+    ∙ items_of-push 1 old.history e refl
+    ∙ ap (λ (n : ℕ). items_of 1 old.history ++ item n (recorded request reply) reply ∷ []) (sym (done.0 ∙ size))
 adds sets old new number request Full none =
-    (ap (λ (day : BookView). items_of 1 day.history) none.0, inr (refl, ap (λ (day : BookView). length day.history) none.0 ∙ none.1))
+    (ap (λ (day : BookView). items_of 1 day.history) none.0, inr (inl (refl, ap (λ (day : BookView). length day.history) none.0 ∙ none.1)))
 adds sets old new number request Memory none =
     (ap (λ (day : BookView). items_of 1 day.history) none.0, inl refl)
 
@@ -64,7 +48,7 @@ commits sets old new number request (Done place reply) next done =
     let size : length new.history ≡ length old.history + 1 = ap length done.2 ∙ omega (arith, length-append old.history (entry 1 number (recorded request reply) reply ∷ [])) in
     let same : number ≡ place = next ∙ sym (done.0 ∙ size) in
     (done.0 ∙ size, done.1, rw same at done.2)
-commits sets old new number request Full next none = (none.0, inr (refl, none.1))
+commits sets old new number request Full next none = (none.0, inr (inl (refl, none.1)))
 commits sets old new number request Memory next none = (none.0, inl refl)
 
 -- a refusal puts no set
@@ -78,12 +62,17 @@ sets_put sets now request Full put = put ∙ sym (refused_sets sets request NoRo
 sets_put sets now request Memory put = put ∙ sym (refused_sets sets request NoMemory)
 
 pub called : (sets now : List Tables) (old new : BookView) (number : ℕ) (request : Request) (outcome : Outcome)
-    → IsScriptView sets old → number ≡ calls 1 old.history + 1 → Committed now old 1 number request outcome new → Shelves sets request outcome now
-    → Calls (λ (plain : ScriptView). items_of 1 plain.day.history) (λ (plain : ScriptView). length plain.day.history ≡ 1000000) Commits
+    → number ≡ length old.history + 1 → Committed now old 1 number request outcome new → Shelves sets request outcome now
+    → Calls (λ (plain : ScriptView). items_of 1 plain.day.history) (λ (plain : ScriptView). length plain.day.history ≡ 1000000) (λ plain. ⊥) Commits
     record { sets = sets; day = old } request (answer_of outcome) record { sets = now; day = new }
-called sets now old new number request outcome view next committed put =
-    let place : number ≡ length old.history + 1 = omega (arith, next, view.all) in
+called sets now old new number request outcome place committed put =
     (adds now old new number request outcome committed, (sets_put sets now request outcome put, commits now old new number request outcome place committed))
+
+-- a command puts no set
+pub no_set_put : (sets now : List Tables) (command : Command) (outcome : Outcome) → now ≡ sets → Shelves sets (Do command) outcome now
+no_set_put sets now command (Done place reply) same = same
+no_set_put sets now command Full same = same
+no_set_put sets now command Memory same = same
 
 all_ours : (sets : List Tables) (old new : BookView) (number : ℕ) (request : Request) (outcome : Outcome)
     → calls 1 old.history ≡ length old.history → Committed sets old 1 number request outcome new → calls 1 new.history ≡ length new.history

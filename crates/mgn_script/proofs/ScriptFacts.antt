@@ -14,94 +14,29 @@ use Rattle.mgn_machine.proofs.Versions.{keeps_version}
 use Rattle.mgn_machine.specs.declared.reply.Refusal.{Refusal}
 use Rattle.mgn_machine.specs.declared.reply.Reply.{Reply}
 use Rattle.mgn_machine.specs.declared.reply.Reply.TheVariants.{Done, Figures, NewSet, Statement, Totals, Refused}
-use Rattle.mgn_book.specs.BookViews.{BookView, opening, sets_after}
+use Rattle.mgn_book.specs.BookViews.{Begins, BookView, opening, sets_after}
+use Rattle.mgn_book.proofs.Begun.{begins_after, begins_before, begins_itself, kept_so, step_begun}
 use Rattle.mgn_session.specs.Conversation.{ConversationView}
 use Rattle.mgn_session.specs.Session.{Answers, Call, Calls, Fetch, HasAnswered, HasStopped, HasTooMuch, IsCaughtUp, IsSession, IsUnplaced}
 use Rattle.mgn_session.specs.declared.fault.SessionFault.{SessionFault}
 use Rattle.mgn_session.proofs.Seen.{IsSeen, IsSeenCall, seen_answered, seen_caught_up, seen_session, seen_stopped, seen_too_much, session_before, with_source}
 use Rattle.mgn_script.proofs.PlainFacts.{refused_sets}
 use Rattle.mgn_script.specs.Plain.{Commits, CommitsAt, ScriptView}
-use Rattle.mgn_script.specs.Script.{Begins, Steps, StepsAt}
+use Rattle.mgn_script.specs.Script.{Steps, StepsAt}
 
 -- the version in force is that of the last set, and the state is the replay of the history
 pub record IsReplay (sets : List Tables) (plain : ScriptView) : Type 0 where
   pub shown : length plain.sets ≡ plain.day.book.state.version + 1
   pub state : plain.day.book.state ≡ replay sets plain.day.history
 
--- sets that begin others
-
-pub begins_itself : (sets : List Tables) → Begins sets sets
-begins_itself sets = ([], sym (append-nil sets))
-
-begins_before : (old now sets : List Tables) → Begins old now → Begins now sets → Begins old sets
-begins_before old now sets first second =
-    (first.0 ++ second.0, second.1 ∙ ap (λ (xs : List Tables). xs ++ second.0) first.1 ∙ append_assoc old first.0 second.0)
-
-begins_after : (sets : List Tables) (request : Request) (reply : Reply) → Begins sets (sets_after sets request reply)
-begins_after sets (Do command) reply = begins_itself sets
-begins_after sets (Switch t) (NewSet told) = (t ∷ [], refl)
-begins_after sets (Switch t) (Refused why) = begins_itself sets
-begins_after sets (Switch t) Done = begins_itself sets
-begins_after sets (Switch t) (Figures f) = begins_itself sets
-begins_after sets (Switch t) (Totals totals) = begins_itself sets
-begins_after sets (Switch t) (Statement told) = begins_itself sets
-
-set_begun : (now sets : List Tables) (version : ℕ) → Begins now sets → version < length now → set_at sets version ≡ set_at now version
-set_begun now sets version begins within = ap (λ (xs : List Tables). set_at xs version) begins.1 ∙ get_or_append_left now begins.0 (no_tables []) version within
-
-step_begun : (now sets : List Tables) (s : State) (request : Request) → Begins now sets → s.version < length now → step now s request ≡ step sets s request
-step_begun now sets s (Do command) begins within = ap (λ (t : Tables). step_under t s command) (sym (set_begun now sets s.version begins within))
-step_begun now sets s (Switch t) begins within = refl
-
--- A step keeps one set more than the version, and its request is found again by how it is kept.
-
-record IsKeptSo (old sets : List Tables) (now : State) (request : Request) (reply : Reply) : Type 0 where
-  shown : length (sets_after old request reply) ≡ now.version + 1
-  kept : Begins (sets_after old request reply) sets → request_of sets (recorded request reply) ≡ request
-
-last_set : (old sets : List Tables) (t : Tables) (version : ℕ) → length old ≡ version → Begins (old ++ t ∷ []) sets → set_at sets version ≡ t
-last_set old sets t version long begins =
-    set_begun (old ++ t ∷ []) sets version begins (omega (arith, length-append old (t ∷ [])))
-    ∙ get_or-append_right old (t ∷ []) version version (no_tables []) long (omega arith)
-    ∙ ap (λ (k : ℕ). set_at (t ∷ []) k) (none version)
-  where
-    none : (n : ℕ) → n - n ≡ 0
-    none n = omega arith
-
-kept_switch : (old sets : List Tables) (s now : State) (t : Tables) (calls : ℕ) (r : Result (Unit {0}) Refusal) (reply : Reply)
-    → length old ≡ s.version + 1 → (now, reply) ≡ switched s calls r → IsKeptSo old sets now (Switch t) reply
-kept_switch old sets s now t calls (Ok done) reply shown made =
-    let is = ap (λ (p : State × Reply). p.1) made in
-    let version = ap (λ (p : State × Reply). p.0.version) made in
-    record {
-      shown = rw is (omega (arith, version, shown, length-append old (t ∷ [])));
-      kept = rw is (λ begins. ap (λ (x : Tables). Switch x) (last_set old sets t (s.version + 1) shown begins));
-    }
-kept_switch old sets s now t calls (Err why) reply shown made =
-    let is = ap (λ (p : State × Reply). p.1) made in
-    let version = ap (λ (p : State × Reply). p.0.version) made in
-    record {
-      shown = rw is (shown ∙ ap (λ (n : ℕ). n + 1) (sym version));
-      kept = rw is (λ begins. refl);
-    }
-
-kept_so : (old sets now_sets : List Tables) (s now : State) (request : Request) (reply : Reply)
-    → length old ≡ s.version + 1 → (now, reply) ≡ step now_sets s request → IsKeptSo old sets now request reply
-kept_so old sets now_sets s now (Do command) reply shown made =
-    let version = ap (λ (p : State × Reply). p.0.version) made ∙ keeps_version (set_at now_sets s.version) s command in
-    record { shown = shown ∙ ap (λ (n : ℕ). n + 1) (sym version); kept = λ begins. refl }
-kept_so old sets now_sets s now (Switch t) reply shown made =
-    kept_switch old sets s now t (on_call t s.accounts s.units) (set_fits t s) reply shown made
-
--- One call.
-
 -- the calls of a book of one session
 abbrev pub CallsPlain : Call ScriptView
-CallsPlain = Calls (λ (plain : ScriptView). items_of 1 plain.day.history) (λ (plain : ScriptView). length plain.day.history ≡ 1000000) Commits
+CallsPlain = Calls (λ (plain : ScriptView). items_of 1 plain.day.history) (λ (plain : ScriptView). length plain.day.history ≡ 1000000) (λ plain. ⊥) Commits
 
-unplaced_sets : (full : Type 0) (sets : List Tables) (request : Request) (reply : Reply) → IsUnplaced full reply → sets_after sets request reply ≡ sets
-unplaced_sets full sets request reply (inl memory) = rw memory (refused_sets sets request _)
-unplaced_sets full sets request reply (inr both) = rw both.0 (refused_sets sets request _)
+unplaced_sets : (full broken : Type 0) (sets : List Tables) (request : Request) (reply : Reply) → IsUnplaced full broken reply → sets_after sets request reply ≡ sets
+unplaced_sets full broken sets request reply (inl memory) = rw memory (refused_sets sets request _)
+unplaced_sets full broken sets request reply (inr (inl both)) = rw both.0 (refused_sets sets request _)
+unplaced_sets full broken sets request reply (inr (inr both)) = rw both.0 (refused_sets sets request _)
 
 step_seen : (sets : List Tables) (old new : ScriptView) (request : Request) (place : Option ℕ) (reply : Reply)
     → IsReplay sets old → Begins new.sets sets → new.sets ≡ sets_after old.sets request reply → CommitsAt new.sets old.day request place reply new.day
@@ -121,7 +56,7 @@ step_seen sets old new request (Some place) reply is begins put committed =
       record { shown = ap length put ∙ so.shown; state = ap (λ (p : State × Reply). p.0) now ∙ sym next },
     )
 step_seen sets old new request None reply is begins put committed =
-    let same : new.sets ≡ old.sets = put ∙ unplaced_sets _ old.sets request reply committed.1 in (
+    let same : new.sets ≡ old.sets = put ∙ unplaced_sets _ _ old.sets request reply committed.1 in (
       (ap (λ (day : BookView). day.history) committed.0, committed.1),
       record {
         shown = ap length same ∙ is.shown ∙ ap (λ (day : BookView). day.book.state.version + 1) (sym committed.0);

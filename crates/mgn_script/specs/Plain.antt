@@ -43,7 +43,7 @@ CommitsAt sets old request (Some place) reply new =
     (place ≡ length old.history + 1)
     × ((new.book.state, reply) ≡ step sets old.book.state request)
     × (new.history ≡ old.history ++ entry 1 place (recorded request reply) reply ∷ [])
-CommitsAt sets old request None reply new = (new ≡ old) × IsUnplaced (length old.history ≡ 1000000) reply
+CommitsAt sets old request None reply new = (new ≡ old) × IsUnplaced (length old.history ≡ 1000000) ⊥ reply
 
 -- what a call does; a set that comes into force is put with the others
 abbrev pub Commits : Call ScriptView

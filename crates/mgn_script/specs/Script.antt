@@ -17,12 +17,8 @@ StepsAt sets old request (Some place) reply new =
     × (reply ≡ (step sets (replay sets old) request).1)
     × (request_of sets (recorded request reply) ≡ request)
     × (new ≡ old ++ entry 1 place (recorded request reply) reply ∷ [])
-StepsAt sets old request None reply new = (new ≡ old) × IsUnplaced (length old ≡ 1000000) reply
+StepsAt sets old request None reply new = (new ≡ old) × IsUnplaced (length old ≡ 1000000) ⊥ reply
 
 -- the machine as an executor, which is seen by its history
 abbrev pub Steps : List Tables → Call (List Entry)
 Steps sets old request answer new = StepsAt sets old request answer.place answer.reply new
-
--- the sets are the first of those
-abbrev pub Begins : List Tables → List Tables → Type 0
-Begins sets all = (more : List Tables) × (all ≡ sets ++ more)

@@ -9,7 +9,7 @@ ghost use Rattle.mgn_script.specs.Desks.{AreAtRest, is_done, is_settled};
 use mgn_book::{Book, Outcome};
 use mgn_ids::SessionNo;
 use mgn_machine::{Command, Reply};
-use mgn_params::{SetList, Shelf};
+use mgn_params::{SetList, Shelf, Work};
 use mgn_pricing::Desks;
 use std::alloc::Global;
 
@@ -59,10 +59,13 @@ pub(crate) fn commit_command(
         unreachable!();
     };
     let plan = book.plan(shelf, command);
+    let mut work = Work::new();
     let Ok(known) = desks.foresee(alloc, version, set, book.rows(), &plan) else {
-        return book.commit_plain(alloc, session, number, command, shelf);
+        return book.commit_plain(alloc, session, number, command, shelf, &mut work);
     };
-    let outcome = book.commit_known(alloc, session, number, command, shelf, &plan, &known);
+    let outcome = book.commit_known(
+        alloc, session, number, command, shelf, &plan, &known, &mut work,
+    );
     if !is_done(&outcome) {
         desks.take_back(version, set, book.rows(), &plan);
     }

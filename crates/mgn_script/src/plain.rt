@@ -6,8 +6,8 @@ ghost use Rattle.mgn_script.specs.Plain.{answer_of};
 use crate::by_desks::commit_command;
 use mgn_book::{Book, Outcome};
 use mgn_ids::SessionNo;
-use mgn_machine::{Answer, Refusal, Request};
-use mgn_params::{ParamSet, SetList};
+use mgn_machine::{Answer, Command, Refusal};
+use mgn_params::{ParamSet, SetList, Work};
 use mgn_pricing::Desks;
 use mgn_session::Exec;
 use std::alloc::{AllocError, Global};
@@ -74,29 +74,49 @@ fn answer_of(outcome: Outcome) -> Answer
 }
 
 impl Plain {
-    // One commit in session 1, whose number is the next one.
-    fn commit(&mut self, number: u64, request: Request) -> Outcome
-        requires { number ≡ calls 1 self.old.day.history + 1 }
-        ensures committed { Committed self.new.sets self.old.day 1 number request result self.new.day }
-        ensures sets { Shelves self.old.sets request result self.new.sets }
+    ghost use Rattle.mgn_machine.specs.declared.request.Request.TheVariants.{Do, Switch};
+
+    // The number of the next call, which comes from session 1 as all others did.
+    fn next_number(&self) -> u64
+        ensures number { result ≡ calls 1 self.now.day.history + 1 }
+        ensures place { result ≡ length self.now.day.history + 1 }
     {
-        match request {
-            Request::Do(command) => commit_command(
-                self.alloc,
-                &mut self.book,
-                &mut self.desks,
-                &self.shelf,
-                number,
-                &command,
-            ),
-            Request::Switch(set) => {
-                // (desks of an older version would be marked anew all the same)
-                self.desks = Desks::new(self.alloc);
-                let session = SessionNo::new(1);
-                self.book
-                    .commit_switch(self.alloc, session, number, set, &mut self.shelf, &[])
-            }
-        }
+        self.book.calls(SessionNo::new(1)) + 1
+    }
+
+    // One command in session 1.
+    fn commit(&mut self, number: u64, command: &Command) -> Outcome
+        requires { number ≡ calls 1 self.old.day.history + 1 }
+        ensures committed { Committed self.new.sets self.old.day 1 number (Do command.now) result self.new.day }
+        ensures sets { self.new.sets ≡ self.old.sets }
+    {
+        commit_command(
+            self.alloc,
+            &mut self.book,
+            &mut self.desks,
+            &self.shelf,
+            number,
+            command,
+        )
+    }
+
+    // One switch in session 1. The desks stay as they are: one of an older version is marked anew when it is next asked for.
+    #[inline(never)]
+    fn commit_switch(&mut self, number: u64, set: ParamSet) -> Outcome
+        requires { number ≡ calls 1 self.old.day.history + 1 }
+        ensures committed { Committed self.new.sets self.old.day 1 number (Switch set) result self.new.day }
+        ensures sets { Shelves self.old.sets (Switch set) result self.new.sets }
+    {
+        let session = SessionNo::new(1);
+        self.book.commit_switch(
+            self.alloc,
+            session,
+            number,
+            set,
+            &mut self.shelf,
+            &[],
+            &mut Work::new(),
+        )
     }
 }
 
@@ -107,10 +127,17 @@ impl Exec for Plain {
 
     ghost is_full = { λ plain. length plain.day.history ≡ 1000000 };
 
+    ghost is_broken = { λ plain. ⊥ };
+
     ghost does = { Commits };
 
-    fn exec(&mut self, request: Request) -> Answer {
-        let number = self.book.calls(SessionNo::new(1)) + 1;
-        answer_of(self.commit(number, request))
+    fn exec(&mut self, command: &Command) -> Answer {
+        let number = self.next_number();
+        answer_of(self.commit(number, command))
+    }
+
+    fn switch(&mut self, set: ParamSet) -> Answer {
+        let number = self.next_number();
+        answer_of(self.commit_switch(number, set))
     }
 }

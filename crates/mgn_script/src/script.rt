@@ -1,9 +1,9 @@
 ghost use Rattle.std.specs.Prelude.{◌≡◌, [], ℕ, IfOk, IfErr, OnErr};
 ghost use Rattle.mgn_machine.specs.History.{replay};
-ghost use Rattle.mgn_book.specs.BookViews.{opening};
+ghost use Rattle.mgn_book.specs.BookViews.{Begins, opening};
 ghost use Rattle.mgn_session.specs.Conversation.{IsQuiet};
 ghost use Rattle.mgn_session.specs.Session.{Answers, BlamesDevices, HasAnswered, HasStopped, HasTooMuch, IsCaughtUp};
-ghost use Rattle.mgn_script.specs.Script.{Begins, Steps};
+ghost use Rattle.mgn_script.specs.Script.{Steps};
 
 use crate::plain::Plain;
 use mgn_session::{Conversation, SessionFault, SetSource, run_lines};

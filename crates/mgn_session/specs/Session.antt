@@ -7,7 +7,7 @@ use Rattle.mgn_params.specs.Tables.{Tables}
 use Rattle.mgn_setfile.specs.File.{outcome, records_of}
 use Rattle.mgn_setfile.specs.Fields.{Fault}
 use Rattle.mgn_machine.specs.declared.entry.Item.{Item}
-use Rattle.mgn_machine.specs.declared.reply.Refusal.TheVariants.{Memory, Full}
+use Rattle.mgn_machine.specs.declared.reply.Refusal.TheVariants.{Memory, Full, Broken}
 use Rattle.mgn_machine.specs.declared.reply.Reply.{Reply}
 use Rattle.mgn_machine.specs.declared.reply.Reply.TheVariants.{Refused}
 use Rattle.mgn_machine.specs.declared.reply.Answer.{Answer}
@@ -34,22 +34,21 @@ use Rattle.mgn_session.specs.declared.source.SourceFault.TheVariants as source
 abbrev pub Call : Type 0 → Type 1
 Call E = E → Request → Answer → E → Type 0
 
--- the replies that have no place: no memory, or no room in a history that is full
-abbrev pub IsUnplaced : Type 0 → Reply → Type 0
-IsUnplaced full reply = (reply ≡ Refused Memory) ⊎ ((reply ≡ Refused Full) × full)
+-- the replies that have no place: no memory, no room in a history that is full, or a service that is closed
+abbrev pub IsUnplaced : Type 0 → Type 0 → Reply → Type 0
+IsUnplaced full broken reply =
+    (reply ≡ Refused Memory) ⊎ (((reply ≡ Refused Full) × full) ⊎ ((reply ≡ Refused Broken) × broken))
 
 -- what the answer to a request adds to the list: its item with the answer's place, or nothing
-abbrev pub AddsAt : Type 0 → Option ℕ → Request → Reply → List Item → List Item → Type 0
-AddsAt full (Some place) request reply old new = new ≡ old ++ item place (recorded request reply) reply ∷ []
-AddsAt full None request reply old new = (new ≡ old) × IsUnplaced full reply
-
-abbrev pub Adds : Type 0 → Request → Answer → List Item → List Item → Type 0
-Adds full request answer old new = AddsAt full answer.place request answer.reply old new
+abbrev pub AddsAt : Type 0 → Type 0 → Option ℕ → Request → Reply → List Item → List Item → Type 0
+AddsAt full broken (Some place) request reply old new = new ≡ old ++ item place (recorded request reply) reply ∷ []
+AddsAt full broken None request reply old new = (new ≡ old) × IsUnplaced full broken reply
 
 -- the list gains what is answered with a place, and else the call is as the executor says
-abbrev pub Calls : {E : Type 0} → (E → List Item) → (E → Type 0) → Call E → Call E
-Calls entries is_full does old request answer new =
-    Adds (is_full new) request answer (entries old) (entries new) × does old request answer new
+abbrev pub Calls : {E : Type 0} → (E → List Item) → (E → Type 0) → (E → Type 0) → Call E → Call E
+Calls entries is_full is_broken does old request answer new =
+    AddsAt (is_full new) (is_broken new) answer.place request answer.reply (entries old) (entries new)
+    × does old request answer new
 
 -- What a line is answered.
 

@@ -10,7 +10,7 @@ use crate::exec::Exec;
 use crate::fault::SessionFault;
 use crate::source::{SetSource, SourceFault};
 use mgn_ids::SetName;
-use mgn_machine::{Answer, Refusal, Request};
+use mgn_machine::{Answer, Refusal};
 use mgn_setfile::{Cause, read_set};
 use mgn_wire::{Line, LineFault, LineReply, Memory, read_line};
 use std::alloc::Global;
@@ -24,10 +24,10 @@ pub(crate) const MAX_LINES: u64 = 1_000_000;
 
 // Has the executor answer the switch to the set of a file.
 fn switch<E: Exec>(alloc: Global, exec: &mut E, file: &[u8]) -> LineReply
-    ensures { Switches (Calls E.entries E.is_full E.does) exec.old (Ok file.now) result exec.new }
+    ensures { Switches (Calls E.entries E.is_full E.is_broken E.does) exec.old (Ok file.now) result exec.new }
 {
     match read_set(alloc, file) {
-        Ok(set) => LineReply::Answered(exec.exec(Request::Switch(set))),
+        Ok(set) => LineReply::Answered(exec.switch(set)),
         Err(fault) => match fault.cause {
             Cause::Memory => LineReply::Answered(Answer::refused(Refusal::Memory)),
             _ => LineReply::BadSet(fault.number),
@@ -35,14 +35,16 @@ fn switch<E: Exec>(alloc: Global, exec: &mut E, file: &[u8]) -> LineReply
     }
 }
 
-// Has the executor answer the switch to a set, if the source gives its file.
+// Has the executor answer the switch to a set, if the source gives its file. Out of line, so that no command has room for a
+// set in its way.
+#[inline(never)]
 fn answer_switch<E: Exec, S: SetSource>(
     alloc: Global,
     exec: &mut E,
     source: &mut S,
     name: &SetName,
 ) -> LineReply
-    ensures { Answers (Calls E.entries E.is_full E.does) S.gives
+    ensures { Answers (Calls E.entries E.is_full E.is_broken E.does) S.gives
         (exec.old, source.old) (Ok (Line.Switch name.now)) result (exec.new, source.new) }
 {
     match source.fetch(name) {
@@ -58,11 +60,11 @@ fn answer_line<E: Exec, S: SetSource>(
     source: &mut S,
     read: &Result<Line, LineFault>,
 ) -> LineReply
-    ensures { Answers (Calls E.entries E.is_full E.does) S.gives
+    ensures { Answers (Calls E.entries E.is_full E.is_broken E.does) S.gives
         (exec.old, source.old) read.now result (exec.new, source.new) }
 {
     match read {
-        Ok(Line::Do(command)) => LineReply::Answered(exec.exec(Request::Do(*command))),
+        Ok(Line::Do(command)) => LineReply::Answered(exec.exec(command)),
         Ok(Line::Switch(name)) => answer_switch(alloc, exec, source, name),
         Err(fault) => LineReply::NotRead(*fault),
     }
@@ -86,7 +88,7 @@ fn answer_ended<E: Exec, S: SetSource>(
     source: &mut S,
     last: &[u8],
 ) -> Result<LineReply, Memory>
-    ensures ok { IfOk result (λ reply. Answers (Calls E.entries E.is_full E.does) S.gives (exec.old, source.old)
+    ensures ok { IfOk result (λ reply. Answers (Calls E.entries E.is_full E.is_broken E.does) S.gives (exec.old, source.old)
         (line_of (line.old.items ++ last.now)) reply (exec.new, source.new)) }
     ensures exec { OnErr result (exec.new ≡ exec.old) }
     ensures source { OnErr result (source.new ≡ source.old) }
@@ -131,16 +133,16 @@ impl LineBuffer {
         requires lines { self.old.lines < MAX_LINES }
         requires owed { 0 < talk.old.owed }
         ensures ok { (before : ConversationView) (first : E × S) (rest : List ℕ) (size : ℕ) → has_end last.now ≡ false →
-            IsUnderWay (Answers (Calls E.entries E.is_full E.does) S.gives) before talk.old first (exec.old, source.old)
+            IsUnderWay (Answers (Calls E.entries E.is_full E.is_broken E.does) S.gives) before talk.old first (exec.old, source.old)
             ((last.now ++ 10 ∷ []) ++ rest) size self.old.lines self.old.line.items →
-            OnOk result (IsUnderWay (Answers (Calls E.entries E.is_full E.does) S.gives)
+            OnOk result (IsUnderWay (Answers (Calls E.entries E.is_full E.is_broken E.does) S.gives)
             before talk.new first (exec.new, source.new)
             rest size self.new.lines self.new.line.items) }
         ensures err { (before : ConversationView) (first : E × S) (rest : List ℕ) (size : ℕ)
             → has_end last.now ≡ false →
-            IsUnderWay (Answers (Calls E.entries E.is_full E.does) S.gives) before talk.old first (exec.old, source.old)
+            IsUnderWay (Answers (Calls E.entries E.is_full E.is_broken E.does) S.gives) before talk.old first (exec.old, source.old)
             ((last.now ++ 10 ∷ []) ++ rest) size self.old.lines self.old.line.items →
-            OnErr result (IsCutOff (Answers (Calls E.entries E.is_full E.does) S.gives)
+            OnErr result (IsCutOff (Answers (Calls E.entries E.is_full E.is_broken E.does) S.gives)
             before talk.new first (exec.new, source.new)) }
         ensures count { OnOk result (self.new.lines ≡ self.old.lines + 1) }
         ensures owed { OnOk result (talk.new.owed + 1 ≡ talk.old.owed) }
@@ -165,21 +167,21 @@ impl LineBuffer {
         requires lines { self.old.lines ≤ MAX_LINES }
         requires owed { talk.old.owed ≡ line_ends chunk.now }
         ensures ok { (before : ConversationView) (first : E × S) (size : ℕ) →
-            IsUnderWay (Answers (Calls E.entries E.is_full E.does) S.gives) before talk.old first (exec.old, source.old)
+            IsUnderWay (Answers (Calls E.entries E.is_full E.is_broken E.does) S.gives) before talk.old first (exec.old, source.old)
             chunk.now size self.old.lines self.old.line.items →
-            OnOk result (IsUnderWay (Answers (Calls E.entries E.is_full E.does) S.gives)
+            OnOk result (IsUnderWay (Answers (Calls E.entries E.is_full E.is_broken E.does) S.gives)
             before talk.new first (exec.new, source.new)
             [] size self.new.lines self.new.line.items) }
         ensures err { (before : ConversationView) (first : E × S) (size : ℕ) →
-            IsUnderWay (Answers (Calls E.entries E.is_full E.does) S.gives) before talk.old first (exec.old, source.old)
+            IsUnderWay (Answers (Calls E.entries E.is_full E.is_broken E.does) S.gives) before talk.old first (exec.old, source.old)
             chunk.now size self.old.lines self.old.line.items →
-            OnErr result (IsCutOff (Answers (Calls E.entries E.is_full E.does) S.gives)
+            OnErr result (IsCutOff (Answers (Calls E.entries E.is_full E.is_broken E.does) S.gives)
             before talk.new first (exec.new, source.new)) }
         ensures many { (before : ConversationView) (first : E × S) (size : ℕ) →
-            IsUnderWay (Answers (Calls E.entries E.is_full E.does) S.gives) before talk.old first (exec.old, source.old)
+            IsUnderWay (Answers (Calls E.entries E.is_full E.is_broken E.does) S.gives) before talk.old first (exec.old, source.old)
             chunk.now size self.old.lines self.old.line.items →
             IfErr result (λ fault. fault ≡ SessionFault.Lines → (rest : List ℕ) × (0 < length rest)
-            × IsUnderWay (Answers (Calls E.entries E.is_full E.does) S.gives)
+            × IsUnderWay (Answers (Calls E.entries E.is_full E.is_broken E.does) S.gives)
             before talk.new first (exec.new, source.new)
             rest size MAX_LINES self.new.line.items) }
         ensures fault { IfErr result (λ fault. (fault ≡ SessionFault.Memory) ⊎ (fault ≡ SessionFault.Lines)) }

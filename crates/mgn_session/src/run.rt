@@ -26,21 +26,21 @@ fn answer_chunk<R: Read, W: Write, E: Exec, S: SetSource>(
     requires lines { lines.old.lines ≤ MAX_LINES }
     requires owed { talk.old.owed ≡ line_ends chunk.now }
     ensures ok { (before : ConversationView) (first : E × S) (size : ℕ) →
-        IsUnderWay (Answers (Calls E.entries E.is_full E.does) S.gives) before talk.old first (exec.old, source.old)
+        IsUnderWay (Answers (Calls E.entries E.is_full E.is_broken E.does) S.gives) before talk.old first (exec.old, source.old)
         chunk.now size lines.old.lines lines.old.line.items →
-        OnOk result (IsUnderWay (Answers (Calls E.entries E.is_full E.does) S.gives)
+        OnOk result (IsUnderWay (Answers (Calls E.entries E.is_full E.is_broken E.does) S.gives)
         before talk.new first (exec.new, source.new)
         [] size lines.new.lines lines.new.line.items) }
     ensures err { (before : ConversationView) (first : E × S) (size : ℕ) →
-        IsUnderWay (Answers (Calls E.entries E.is_full E.does) S.gives) before talk.old first (exec.old, source.old)
+        IsUnderWay (Answers (Calls E.entries E.is_full E.is_broken E.does) S.gives) before talk.old first (exec.old, source.old)
         chunk.now size lines.old.lines lines.old.line.items →
-        OnErr result (HasStopped (Answers (Calls E.entries E.is_full E.does) S.gives)
+        OnErr result (HasStopped (Answers (Calls E.entries E.is_full E.is_broken E.does) S.gives)
         before talk.new first (exec.new, source.new)) }
     ensures many { (before : ConversationView) (first : E × S) (size : ℕ) →
-        IsUnderWay (Answers (Calls E.entries E.is_full E.does) S.gives) before talk.old first (exec.old, source.old)
+        IsUnderWay (Answers (Calls E.entries E.is_full E.is_broken E.does) S.gives) before talk.old first (exec.old, source.old)
         chunk.now size lines.old.lines lines.old.line.items →
         IfErr result (λ fault. fault ≡ SessionFault.Lines →
-        HasTooMuch (Answers (Calls E.entries E.is_full E.does) S.gives) before talk.new first (exec.new, source.new)) }
+        HasTooMuch (Answers (Calls E.entries E.is_full E.is_broken E.does) S.gives) before talk.new first (exec.new, source.new)) }
     ensures read { IfErr result (λ fault. fault ≡ SessionFault.Read → ⊥) }
     ensures failures { BlamesDevices talk.old talk.new result }
     ensures lines { OnOk result (lines.new.lines ≤ MAX_LINES) }
@@ -65,15 +65,15 @@ pub fn run_lines<R: Read, W: Write, E: Exec, S: SetSource>(
     source: &mut S,
 ) -> Result<u64, SessionFault>
     requires { IsQuiet talk.old }
-    ensures ok { IfOk result (λ n. HasAnswered (Answers (Calls E.entries E.is_full E.does) S.gives)
+    ensures ok { IfOk result (λ n. HasAnswered (Answers (Calls E.entries E.is_full E.is_broken E.does) S.gives)
         talk.old talk.new (exec.old, source.old) (exec.new, source.new) n) }
-    ensures err { OnErr result (HasStopped (Answers (Calls E.entries E.is_full E.does) S.gives)
+    ensures err { OnErr result (HasStopped (Answers (Calls E.entries E.is_full E.is_broken E.does) S.gives)
         talk.old talk.new (exec.old, source.old) (exec.new, source.new)) }
     ensures read { IfErr result (λ fault. fault ≡ SessionFault.Read → (n : ℕ)
-        × IsCaughtUp (Answers (Calls E.entries E.is_full E.does) S.gives)
+        × IsCaughtUp (Answers (Calls E.entries E.is_full E.is_broken E.does) S.gives)
         talk.old talk.new (exec.old, source.old) (exec.new, source.new) n) }
     ensures lines { IfErr result (λ fault. fault ≡ SessionFault.Lines →
-        HasTooMuch (Answers (Calls E.entries E.is_full E.does) S.gives)
+        HasTooMuch (Answers (Calls E.entries E.is_full E.is_broken E.does) S.gives)
         talk.old talk.new (exec.old, source.old) (exec.new, source.new)) }
     ensures failures { BlamesDevices talk.old talk.new result }
 {

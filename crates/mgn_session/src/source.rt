@@ -18,6 +18,11 @@ pub enum SourceFault {
 }
 
 impl From<AllocError> for SourceFault {
+    ghost use Rattle.std.specs.Prelude.{◌≡◌};
+    ghost use Rattle.mgn_session.specs.declared.source.SourceFault.TheVariants as fault;
+
+    ghost from_gives = { λ _ given. given ≡ fault.Memory };
+
     fn from(_error: AllocError) -> SourceFault {
         SourceFault::Memory
     }

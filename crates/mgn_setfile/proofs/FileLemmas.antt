@@ -12,6 +12,7 @@ use Rattle.mgn_setfile.specs.declared.fault.SetFault.{SetFault}
 use Rattle.mgn_params.specs.Tables.{Tables}
 use Rattle.mgn_setfile.specs.Fields.{Fault, Fields, whole}
 use Rattle.mgn_setfile.specs.File.{Record, drafted, goes_on, judged, later_of, line_of_record, numbered, record_of, record_of_line, records_of, told, version_by, version_left}
+use Rattle.mgn_setfile.specs.Words.{detail_of, numbered_record}
 use Rattle.mgn_setfile.specs.Lines.{Fails, line_cause, line_records, lines_left, single}
 
 -- the records of what is left of a file
@@ -41,36 +42,45 @@ rest_of (Some rest) = refl
 next : (line left : List ℕ) (more : Option (List ℕ)) → slice_split (λ b. b == 10) left ≡ line ∷ lines_left more → records_of left ≡ record_of_line line ++ records_left more
 next line left more e = rw (e, ← rest_of more) refl
 
+pub without_one : (line left : List ℕ) (more : Option (List ℕ)) → slice_split (λ b. b == 10) left ≡ line ∷ lines_left more → single (line_records line) ≡ Ok None → records_of left ≡ records_left more
+unfolding record_of_line
+without_one line left more e s = rw (next line left more e, no_record (line_records line) s) refl
+
+pub with_one : (line left : List ℕ) (more : Option (List ℕ)) (f : Fields) → slice_split (λ b. b == 10) left ≡ line ∷ lines_left more → single (line_records line) ≡ Ok (Some f) → records_of left ≡ Some f ∷ records_left more
+unfolding record_of_line
+with_one line left more f e s = rw (next line left more e, one_record (line_records line) f s) refl
+
+with_two : (line left : List ℕ) (more : Option (List ℕ)) → slice_split (λ b. b == 10) left ≡ line ∷ lines_left more → single (line_records line) ≡ Err Second → records_of left ≡ None ∷ records_left more
+unfolding record_of_line
+with_two line left more e s = rw (next line left more e, two_records (line_records line) s) refl
+
 -- a line without a record
 pub skips : (line left : List ℕ) (more : Option (List ℕ)) (count : ℕ) (draft : Option Draft) → slice_split (λ b. b == 10) left ≡ line ∷ lines_left more → single (line_records line) ≡ Ok None
     → told (records_of left) count draft ≡ told (records_left more) count draft
-unfolding record_of_line
 skips line left more count draft e s =
-    let r : records_of left ≡ records_left more = rw (next line left more e, no_record (line_records line) s) refl in
+    let r = without_one line left more e s in
     ap (λ (rs : List Record). told rs count draft) r
 
 -- a record that passes
 pub takes : (line left : List ℕ) (more : Option (List ℕ)) (count : ℕ) (before : Option Draft) (f : Fields) (draft : Draft) → slice_split (λ b. b == 10) left ≡ line ∷ lines_left more → single (line_records line) ≡ Ok (Some f) → judged before (Some f) ≡ Ok draft
     → told (records_of left) count before ≡ told (records_left more) (count + 1) (Some draft)
-unfolding record_of_line
 takes line left more count before f draft e s j =
-    let r : records_of left ≡ Some f ∷ records_left more = rw (next line left more e, one_record (line_records line) f s) refl in
+    let r = with_one line left more f e s in
     ap (λ (rs : List Record). told rs count before) r ∙ ap (λ (d : Result Draft Fault). goes_on d (λ k. told (records_left more) (count + 1) (Some k)) (count + 1)) j
 
 -- a record that does not
 pub stops : (line left : List ℕ) (more : Option (List ℕ)) (count : ℕ) (before : Option Draft) (f : Fields) (fault : Fault) → slice_split (λ b. b == 10) left ≡ line ∷ lines_left more → single (line_records line) ≡ Ok (Some f) → judged before (Some f) ≡ Err fault
     → told (records_of left) count before ≡ Err (count + 1, fault)
-unfolding record_of_line
 stops line left more count before f fault e s j =
-    let r : records_of left ≡ Some f ∷ records_left more = rw (next line left more e, one_record (line_records line) f s) refl in
+    let r = with_one line left more f e s in
     ap (λ (rs : List Record). told rs count before) r ∙ ap (λ (d : Result Draft Fault). goes_on d (λ k. told (records_left more) (count + 1) (Some k)) (count + 1)) j
 
 -- a line with a second record
 pub stops_twice : (line left : List ℕ) (more : Option (List ℕ)) (count : ℕ) (before : Option Draft) → slice_split (λ b. b == 10) left ≡ line ∷ lines_left more → single (line_records line) ≡ Err Second
     → told (records_of left) count before ≡ Err (count + 1, whole WrongFields)
-unfolding record_of_line judged
+unfolding judged
 stops_twice line left more count before e s =
-    let r : records_of left ≡ None ∷ records_left more = rw (next line left more e, two_records (line_records line) s) refl in
+    let r = with_two line left more e s in
     ap (λ (rs : List Record). told rs count before) r
 
 pub stops_at : (line left : List ℕ) (more : Option (List ℕ)) (count : ℕ) (before : Option Draft) (fault : LineFault) → slice_split (λ b. b == 10) left ≡ line ∷ lines_left more → Fails fault (single (line_records line))
@@ -86,9 +96,8 @@ keeps_version version (Err fault) draft e = cc
 
 pub version_skips : (line left : List ℕ) (more : Option (List ℕ)) (draft : Option Draft) → slice_split (λ b. b == 10) left ≡ line ∷ lines_left more → single (line_records line) ≡ Ok None
     → version_left (records_of left) draft ≡ version_left (records_left more) draft
-unfolding record_of_line
 version_skips line left more draft e s =
-    let r : records_of left ≡ records_left more = rw (next line left more e, no_record (line_records line) s) refl in
+    let r = without_one line left more e s in
     ap (λ (rs : List Record). version_left rs draft) r
 
 pub version_of_one : (before : Option Draft) (f : Fields) (rs : List Record) (draft : Draft) → judged before (Some f) ≡ Ok draft → version_left (Some f ∷ rs) before ≡ Some draft.version
@@ -98,9 +107,8 @@ version_of_one (Some before) f rs draft j = keeps_version before.version (later_
 
 pub version_takes : (line left : List ℕ) (more : Option (List ℕ)) (before : Option Draft) (f : Fields) (draft : Draft) → slice_split (λ b. b == 10) left ≡ line ∷ lines_left more → single (line_records line) ≡ Ok (Some f) → judged before (Some f) ≡ Ok draft
     → version_left (records_of left) before ≡ Some draft.version
-unfolding record_of_line
 version_takes line left more before f draft e s j =
-    let r : records_of left ≡ Some f ∷ records_left more = rw (next line left more e, one_record (line_records line) f s) refl in
+    let r = with_one line left more f e s in
     ap (λ (rs : List Record). version_left rs before) r ∙ version_of_one before f (records_left more) draft j
 
 -- From line to line: the numbers of the lines that have the records that are left.
@@ -135,22 +143,22 @@ unfolding record_of_line
 has_two before line left more e s = rw (numbers_next before line left more e, two_records (line_records line) s) refl
 
 -- the number that comes next in a list, and those after it
-next_is : (numbers rest : List ℕ) (k n : ℕ) → drop k numbers ≡ n ∷ rest → slice_index_or numbers k 1 ≡ n
-next_is numbers rest k n e =
+next_is : {A : Type 0} (xs rest : List A) (k : ℕ) (x d : A) → drop k xs ≡ x ∷ rest → slice_index_or xs k d ≡ x
+next_is {A} xs rest k x d e =
     let place : k + 0 ≡ k = omega arith in
-    rw place at (sym (get_or-drop k numbers 0 1)) ∙ ap (λ (ns : List ℕ). get_or ns 0 1) e
+    rw place at (sym (get_or-drop k xs 0 d)) ∙ ap (λ (ys : List A). get_or ys 0 d) e
 
-pub after_next : (k : ℕ) (numbers rest : List ℕ) (n : ℕ) → drop k numbers ≡ n ∷ rest → drop (k + 1) numbers ≡ rest
-after_next zero numbers rest n e = ap (drop 1) e
-after_next (suc k) [] rest n e = cc
-after_next (suc k) (m ∷ numbers) rest n e =
+pub after_next : {A : Type 0} (k : ℕ) (xs rest : List A) (x : A) → drop k xs ≡ x ∷ rest → drop (k + 1) xs ≡ rest
+after_next zero xs rest x e = ap (drop 1) e
+after_next (suc k) [] rest x e = cc
+after_next (suc k) (y ∷ xs) rest x e =
     let more : suc k + 1 ≡ suc (k + 1) = omega arith in
-    rw more (after_next k numbers rest n e)
+    rw more (after_next k xs rest x e)
 
 pub line_is : (file rest : List ℕ) (count line : ℕ) → drop count (numbered 0 (slice_split (λ b. b == 10) file)) ≡ line ∷ rest → line ≡ line_of_record file (count + 1)
 line_is file rest count line e =
     let place : count + 1 - 1 ≡ count = omega arith in
-    rw place (sym (next_is (numbered 0 (slice_split (λ b. b == 10) file)) rest count line e))
+    rw place (sym (next_is (numbered 0 (slice_split (λ b. b == 10) file)) rest count line 1 e))
 
 pub line_of_fault : (file line left : List ℕ) (more : Option (List ℕ)) (count before : ℕ) (fault : LineFault)
     → drop count (numbered 0 (slice_split (λ b. b == 10) file)) ≡ numbers_left before (Some left)
@@ -158,6 +166,19 @@ pub line_of_fault : (file line left : List ℕ) (more : Option (List ℕ)) (coun
     → (line_cause fault ≡ NoMemory) ⊎ (before + 1 ≡ line_of_record file (count + 1))
 line_of_fault file line left more count before Memory i e s = inl refl
 line_of_fault file line left more count before Second i e s = inr (line_is file (numbers_left (before + 1) more) count (before + 1) (i ∙ has_two before line left more e s))
+
+-- the record that comes next, and the detail of its fault
+
+pub record_is : (records rest : List Record) (count : ℕ) (r : Record) → drop count records ≡ r ∷ rest → numbered_record records (count + 1) ≡ r
+record_is records rest count r e =
+    let place : count + 1 - 1 ≡ count = omega arith in
+    rw place (next_is records rest count r None e)
+
+pub detail_of_fault : (file line left : List ℕ) (more : Option (List ℕ)) (count : ℕ) (fault : LineFault) → drop count (records_of file) ≡ records_of left
+    → slice_split (λ b. b == 10) left ≡ line ∷ lines_left more → Fails fault (single (line_records line))
+    → detail_of None (whole (line_cause fault)) ≡ detail_of (numbered_record (records_of file) (count + 1)) (whole (line_cause fault))
+detail_of_fault file line left more count Memory i e s = refl
+detail_of_fault file line left more count Second i e s = rw (record_is (records_of file) (records_left more) count None (i ∙ with_two line left more e s)) refl
 
 no_line : (file : List ℕ) (count : ℕ) → count ≡ 0 → drop count (numbered 0 (slice_split (λ b. b == 10) file)) ≡ [] → 1 ≡ line_of_record file 1
 no_line file count none e = sym (ap (λ (ns : List ℕ). slice_index_or ns 0 1) (rw none at e))

@@ -5,3 +5,4 @@ pub mod Lines
 pub mod File
 pub mod Inside
 pub mod Plain
+pub mod Words

@@ -1,8 +1,12 @@
 //! Why a file is no parameter set.
 
-ghost use Rattle.std.specs.Prelude.{◌≡◌, None};
+ghost use Rattle.std.specs.Prelude.{◌≡◌, None, Some};
+ghost use Rattle.mgn_setfile.specs.Fields.{whole};
+ghost use Rattle.mgn_setfile.specs.Words.{detail_of, sentence};
 
+use crate::detail::Detail;
 use crate::place::Field;
+use crate::words::words_of;
 use std::fmt;
 use thiserror::Error;
 
@@ -62,7 +66,6 @@ impl RecordFault {
 
 /// The first faulty record of a file, and what is wrong with it.
 #[derive(Clone, Copy, PartialEq, Eq, Debug, Error)]
-#[error("record {number}{}: {}", Place {number: *.number, line: *.line, field: *.field}, words_of(*.cause, *.field))]
 pub struct SetFault {
     /// The number of the record among the file's records, from 1. Lines without a record are not counted.
     pub number: u64,
@@ -74,102 +77,25 @@ pub struct SetFault {
     pub field: Option<Field>,
     /// The first cause.
     pub cause: Cause,
+    /// What is wrong with the fields as a whole, where the cause is `Fields` and no field has it.
+    pub detail: Option<Detail>,
 }
 
-// Where a record stands, if its line has another number, and which of its fields is wrong.
-#[derive(Clone, Copy)]
-struct Place {
-    number: u64,
-    line: u64,
-    field: Option<Field>,
-}
+impl fmt::Display for SetFault {
+    ghost output = { λ fault. Some (sentence fault) };
 
-impl fmt::Display for Place {
     fn fmt<W: fmt::Write>(&self, f: &mut fmt::Formatter<W>) -> fmt::Result {
+        write!(f, "record {}", self.number)?;
         if self.line != self.number {
             write!(f, ", line {}", self.line)?;
         }
-        match self.field {
-            Some(field) => write!(f, ", {field}"),
-            None => Ok(()),
+        if let Some(field) = self.field {
+            write!(f, ", {field}")?;
         }
-    }
-}
-
-fn words_of(cause: Cause, field: Option<Field>) -> &'static str {
-    match cause {
-        Cause::Header => header_words(field),
-        Cause::Fields => fields_words(field),
-        Cause::Name => name_words(field),
-        Cause::Number => "it is not spelled as a number",
-        Cause::Range => range_words(field),
-        Cause::Unknown => unknown_words(field),
-        Cause::Double => double_words(field),
-        Cause::Limit => "its table has as many rows as it may have",
-        Cause::Memory => "memory could not be had",
-    }
-}
-
-fn header_words(field: Option<Field>) -> &'static str {
-    match field {
-        Some(_) => "the version must be 1 or 2",
-        None => "the first record, and no other, must be a header: H, version 1 or 2, and a name",
-    }
-}
-
-fn fields_words(field: Option<Field>) -> &'static str {
-    match field {
-        Some(_) => "this version has no record of this kind",
-        None =>
-            "it has a wrong number of fields, is two records in one line, or lacks a side of its spread",
-    }
-}
-
-fn name_words(field: Option<Field>) -> &'static str {
-    match field {
-        Some(Field::Contract(5)) => "it must be F, C or P",
-        Some(Field::Contract(6)) => "it must be P or F",
-        Some(Field::CreditSpread(n)) if n % 3 == 1 => "it must be A or B",
-        _ => "a name must be 1 to 16 of the letters A to Z and digits",
-    }
-}
-
-fn range_words(field: Option<Field>) -> &'static str {
-    match field {
-        Some(Field::Contract(6)) => "the style of a future must be F",
-        Some(Field::Contract(8)) =>
-            "the number is outside its limits, or is not 0 though the style is F",
-        Some(field) if is_named(field) => "the name has more than 16 bytes",
-        _ => "the number is outside its limits",
-    }
-}
-
-// Whether a field is a name.
-fn is_named(field: Field) -> bool {
-    match field {
-        Field::Header(n) => n == 3,
-        Field::Contract(n) => n <= 3,
-        Field::CreditSpread(n) => n >= 3 && n % 3 == 0,
-        Field::Kind => false,
-        _ => field.number() == 2,
-    }
-}
-
-fn unknown_words(field: Option<Field>) -> &'static str {
-    match field {
-        Some(Field::Contract(4)) => "no earlier record gives this month of its commodity",
-        _ => "no earlier record gives this commodity",
-    }
-}
-
-fn double_words(field: Option<Field>) -> &'static str {
-    match field {
-        Some(Field::Month(_)) => "an earlier record gives this month of its commodity",
-        Some(Field::CreditSpread(_)) => "an earlier leg is of this commodity",
-        Some(Field::Class(_)) =>
-            "an earlier record gives this class, or it is CASH, which every set has",
-        Some(Field::Spot(_)) => "an earlier record gives the charge of this commodity",
-        _ => "an earlier record gives this name",
+        match self.detail {
+            Some(detail) => write!(f, ": {detail}"),
+            None => write!(f, ": {}", words_of(self.cause, self.field)),
+        }
     }
 }
 
@@ -187,17 +113,18 @@ impl LineFault {
 
     // The fault of the file, where the line and its record have these numbers.
     pub(crate) fn at(self, number: u64, line: u64) -> SetFault
-        ensures { result ≡ record { number = number; line = line; field = None; cause = line_cause self } }
+        ensures { result ≡ record { number = number; line = line; field = None; cause = line_cause self; detail = detail_of None (whole (line_cause self)) } }
     {
-        let cause = match self {
-            LineFault::Memory => Cause::Memory,
-            LineFault::Second => Cause::Fields,
+        let (cause, detail) = match self {
+            LineFault::Memory => (Cause::Memory, None),
+            LineFault::Second => (Cause::Fields, Some(Detail::Second)),
         };
         SetFault {
             number,
             line,
             field: None,
             cause,
+            detail,
         }
     }
 }

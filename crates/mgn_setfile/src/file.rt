@@ -3,10 +3,12 @@
 ghost use Rattle.std.specs.Prelude.{◌≡◌, ◌⊎◌, ◌==◌, [], map, Ok, Err, None, Some, OnOk, IfOk, IfErr};
 ghost use Rattle.csv.specs.Records.{fields_of};
 ghost use Rattle.mgn_setfile.specs.Fields.{in_field};
+ghost use Rattle.mgn_setfile.specs.Words.{detail_by, detail_of, numbered_record};
 ghost use Rattle.mgn_setfile.specs.File.{Tells, TellsFile, fault_in, head_from, head_of, judged, later_of, line_of_record, outcome, records_of, told, version_left, version_of, version_told, with_class, with_commodity, with_contract, with_credit_spread, with_month, with_other, with_record, with_spot, with_spot_of, with_spread};
 
 use crate::contracts::read_contract;
 use crate::credits::read_credit_spread;
+use crate::detail::{Detail, misfit_of};
 use crate::draft::{Draft, SetFile};
 use crate::fault::{Cause, RecordFault, SetFault};
 use crate::fields::read_set_name;
@@ -261,6 +263,7 @@ fn add_at(
     ensures ok { IfOk result (λ draft. judged before (Some (fields_of row.now)) ≡ Ok draft) }
     ensures err { IfErr result (λ e. (e.cause ≡ Cause.Memory) ⊎ (judged before (Some (fields_of row.now)) ≡ Err (fault_in e))) }
     ensures place { IfErr result (λ e. (e.number ≡ number) × (e.line ≡ line)) }
+    ensures detail { IfErr result (λ e. e.detail ≡ detail_of (Some (fields_of row.now)) (fault_in e)) }
 {
     match add(alloc, before, row) {
         Ok(draft) => Ok(draft),
@@ -269,7 +272,18 @@ fn add_at(
             line,
             field,
             cause,
+            detail: detail_of(row, cause, field),
         }),
+    }
+}
+
+// What is wrong with the fields of a record as a whole, where its fault is one of all fields.
+fn detail_of(row: &ByteRecord, cause: Cause, field: Option<Field>) -> Option<Detail>
+    ensures { result ≡ detail_by cause field (Some (fields_of row.now)) }
+{
+    match (cause, field) {
+        (Cause::Fields, None) => misfit_of(row),
+        _ => None,
     }
 }
 
@@ -278,6 +292,7 @@ pub(crate) fn file_of(draft: Option<Draft>) -> Result<SetFile, SetFault>
     ensures tells { TellsFile result (told [] 0 draft) }
     ensures version { IfOk result (λ file. version_left [] draft ≡ Some file.version) }
     ensures none { IfErr result (λ e. (draft ≡ None) × (e.number ≡ 1) × (e.line ≡ 1)) }
+    ensures detail { IfErr result (λ e. (e.cause ≡ Cause.Header) × (e.detail ≡ None)) }
 {
     match draft {
         Some(draft) => Ok(SetFile {
@@ -289,6 +304,7 @@ pub(crate) fn file_of(draft: Option<Draft>) -> Result<SetFile, SetFault>
             line: 1,
             field: None,
             cause: Cause::Header,
+            detail: None,
         }),
     }
 }
@@ -298,6 +314,7 @@ fn read_lines(alloc: Global, text: &[u8]) -> Result<SetFile, SetFault>
     ensures fault { TellsFile result (outcome (records_of text.now)) }
     ensures version { IfOk result (λ file. version_told (records_of text.now) ≡ Some file.version) }
     ensures line { IfErr result (λ e. (e.cause ≡ Cause.Memory) ⊎ (e.line ≡ line_of_record text.now e.number)) }
+    ensures detail { IfErr result (λ e. e.detail ≡ detail_of (numbered_record (records_of text.now) e.number) (fault_in e)) }
 {
     let mut draft: Option<Draft> = None;
     let mut count = 0u64;
@@ -332,6 +349,7 @@ pub fn read_file(alloc: Global, text: &[u8]) -> Result<SetFile, SetFault>
     ensures fault { TellsFile result (outcome (records_of text.now)) }
     ensures version { IfOk result (λ file. version_told (records_of text.now) ≡ Some file.version) }
     ensures line { IfErr result (λ e. (e.cause ≡ Cause.Memory) ⊎ (e.line ≡ line_of_record text.now e.number)) }
+    ensures detail { IfErr result (λ e. e.detail ≡ detail_of (numbered_record (records_of text.now) e.number) (fault_in e)) }
 {
     if is_plain(text) {
         if let Some(file) = read_plain(alloc, text) {
@@ -345,6 +363,7 @@ pub fn read_file(alloc: Global, text: &[u8]) -> Result<SetFile, SetFault>
 pub fn read_set(alloc: Global, text: &[u8]) -> Result<ParamSet, SetFault>
     ensures fault { Tells result (outcome (records_of text.now)) }
     ensures line { IfErr result (λ e. (e.cause ≡ Cause.Memory) ⊎ (e.line ≡ line_of_record text.now e.number)) }
+    ensures detail { IfErr result (λ e. e.detail ≡ detail_of (numbered_record (records_of text.now) e.number) (fault_in e)) }
 {
     match read_file(alloc, text) {
         Ok(file) => Ok(file.set),

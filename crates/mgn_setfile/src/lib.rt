@@ -3,6 +3,7 @@
 
 mod contracts;
 mod credits;
+mod detail;
 mod draft;
 mod fault;
 mod fields;
@@ -13,7 +14,9 @@ mod plain;
 mod records;
 mod rows;
 mod spreads;
+mod words;
 
+pub use detail::{Detail, RecordKind};
 pub use draft::SetFile;
 pub use fault::{Cause, SetFault};
 pub use file::{read_file, read_set};

@@ -1,5 +1,5 @@
 -- Copies of the nets of margin units, for what is worked out before a set comes into force.
-use Rattle.std.specs.Prelude.{◌≡◌, ℤ, List, length, All}
+use Rattle.std.specs.Prelude.{ℕ, ◌≡◌, ◌<◌, ℤ, IsSomeAnd, List, None, Option, length, slice_index_or, All}
 use Rattle.mgn_params.specs.Tables.{Tables}
 use Rattle.mgn_span.specs.Positions.{IsNet}
 use Rattle.mgn_unit.specs.declared.prepared.CopiedNets.{CopiedNets}
@@ -28,3 +28,9 @@ pub record AreCarried (old new : Tables) (nets : CopiedNets) (prepared : Prepare
   pub buys : prepared.buys.nets ≡ carried old new nets.buys
   pub sales : prepared.sales.nets ≡ carried old new nets.sales
   pub all : prepared.all.nets ≡ carried old new nets.all
+
+-- what was prepared of each unit stands beside the nets that its row carries over
+abbrev pub ArePreparedFor : Tables → Tables → List Row → List (Option PreparedUnit) → Type 0
+ArePreparedFor old new rows units =
+    (u : ℕ) (d : Row) → u < length rows →
+    IsSomeAnd (slice_index_or units u None) (AreCarried old new (copied (slice_index_or rows u d)))

@@ -156,6 +156,11 @@ pub record PricesPortfolio (set : Tables) (i : ℕ) (gain : Gain) (side : Portfo
   pub is : r ≡ requirement set (more_at side.nets i gain.quantity)
   pub small : unsigned_abs r ≤ 10 ^ 30
 
+-- two portfolios have the same nets, and gain the same quantity
+pub record GainsAlike (side other : PortfolioRow) (gain other_gain : Gain) : Type 0 where
+  pub nets : side.nets ≡ other.nets
+  pub quantity : gain.quantity ≡ other_gain.quantity
+
 pub record Prices (set : Tables) (change : Change) (row : Row) (priced : Priced) : Type 0 where
   pub lots : PricesPortfolio set change.contract change.lots row.lots priced.lots
   pub buys : PricesPortfolio set change.contract change.buys row.buys priced.buys

@@ -1,10 +1,11 @@
-ghost use Rattle.std.specs.Prelude.{◌≡◌, ◌<◌, ◌≤◌, ◌*◌, ◌^◌, ◌+ℤ◌, ◌↔◌, ℕ, All, IfOk, IfSome, IsTrue, Some, length, pos, replicate, slice_set, unsigned_abs};
+ghost use Rattle.std.specs.Prelude.{◌≡◌, ◌<◌, ◌≤◌, ◌*◌, ◌^◌, ◌+ℤ◌, ◌↔◌, ℕ, All, IfOk, IfSome, IsSome, IsSomeAnd, IsTrue, Ok, Some, length, pos, replicate, slice_set, unsigned_abs};
 ghost use Rattle.mgn_params.specs.Tables.{Tables};
 ghost use Rattle.mgn_span.specs.Positions.{IsNet};
 ghost use Rattle.mgn_span.specs.Requirement.{requirement};
 ghost use Rattle.mgn_span.specs.Scan.{value_at};
 ghost use Rattle.mgn_machine.specs.State.{AccountState};
 ghost use Rattle.mgn_unit.specs.Rows.{IsRow, IsPortfolioRow, row_with_worth};
+ghost use Rattle.mgn_unit.specs.Prepared.{AreCarried, copied};
 ghost use Rattle.mgn_unit.specs.NewSets.{AreWorths, IsPrepared, IsPreparedPortfolio, IsRequired, SetPair, carried, is_covered, is_covered_at, own_places, portfolio_under, row_on_call, row_under, unit_gain, value_gain};
 
 use crate::account::Account;
@@ -193,7 +194,8 @@ impl Nets {
 impl PreparedPortfolio {
     // What nets require, where they are those that it was worked out for.
     fn requirement_of(&self, nets: &Nets) -> Option<Cents>
-        ensures { (set : Tables) → IsPreparedPortfolio set self.now → IfSome result (IsRequired set nets.now) }
+        ensures required { (set : Tables) → IsPreparedPortfolio set self.now → IfSome result (IsRequired set nets.now) }
+        ensures used { self.now.nets ≡ nets.now → result ≡ Some self.now.requirement }
     {
         if self.nets.is_same(nets) {
             Some(self.requirement)
@@ -205,8 +207,9 @@ impl PreparedPortfolio {
 
 // What nets require, where it was worked out before.
 fn prepared_requirement(prepared: Option<&PreparedPortfolio>, nets: &Nets) -> Option<Cents>
-    ensures { (set : Tables) → IfSome prepared.entry (λ prepared. IsPreparedPortfolio set prepared.now)
+    ensures required { (set : Tables) → IfSome prepared.entry (λ prepared. IsPreparedPortfolio set prepared.now)
         → IfSome result (IsRequired set nets.now) }
+    ensures used { IsSomeAnd prepared.entry (λ it. it.now.nets ≡ nets.now) → IsSome result }
 {
     match prepared {
         Some(prepared) => prepared.requirement_of(nets),
@@ -229,6 +232,8 @@ impl PortfolioRow {
         requires prepared { IfSome prepared (λ prepared. IsPreparedPortfolio switch.now.new prepared.now) }
         ensures side { IfOk result (λ side. side ≡ portfolio_under switch.now.old switch.now.new gain self.now) }
         ensures limits { IfOk result (λ side. IsPortfolioRow switch.now.new side) }
+        ensures idle { IsSomeAnd prepared.entry (λ it. it.now.nets ≡ carried switch.now.old switch.now.new self.now.nets)
+            → work.new ≡ work.old }
     {
         let nets = switch.carry(alloc, &self.nets)?;
         let required = own_requirement(alloc, switch.new, &nets, prepared, work)?;
@@ -256,6 +261,8 @@ impl PortfolioRow {
         requires priced { other.now.requirement ≡ requirement switch.now.new other.now.nets }
         ensures side { IfOk result (λ side. side ≡ portfolio_under switch.now.old switch.now.new gain self.now) }
         ensures limits { IfOk result (λ side. IsPortfolioRow switch.now.new side) }
+        ensures idle { IsSomeAnd prepared.entry (λ it. it.now.nets ≡ carried switch.now.old switch.now.new self.now.nets)
+            → work.new ≡ work.old }
     {
         let nets = switch.carry(alloc, &self.nets)?;
         let required = requirement_beside(alloc, switch.new, &nets, prepared, other, work)?;
@@ -278,7 +285,8 @@ fn own_requirement(
     requires one_each { length nets.now ≡ length set.now.contracts }
     requires nets { All IsNet nets.now }
     requires prepared { IfSome prepared (λ prepared. IsPreparedPortfolio set.now prepared.now) }
-    ensures { IfOk result (IsRequired set.now nets.now) }
+    ensures required { IfOk result (IsRequired set.now nets.now) }
+    ensures idle { IsSomeAnd prepared.entry (λ it. it.now.nets ≡ nets.now) → work.new ≡ work.old }
 {
     match prepared_requirement(prepared, nets) {
         Some(required) => Ok(required),
@@ -300,7 +308,10 @@ fn requirement_beside(
     requires prepared { IfSome prepared (λ prepared. IsPreparedPortfolio set.now prepared.now) }
     requires other { IsPortfolioRow set.now other.now }
     requires priced { other.now.requirement ≡ requirement set.now other.now.nets }
-    ensures { IfOk result (IsRequired set.now nets.now) }
+    ensures required { IfOk result (IsRequired set.now nets.now) }
+    ensures taken { nets.now ≡ other.now.nets → result ≡ Ok other.now.requirement }
+    ensures alike { nets.now ≡ other.now.nets → work.new ≡ work.old }
+    ensures idle { IsSomeAnd prepared.entry (λ it. it.now.nets ≡ nets.now) → work.new ≡ work.old }
 {
     if nets.is_same(&other.nets) {
         return Ok(other.requirement);
@@ -325,6 +336,8 @@ impl Row {
         requires worths { AreWorths (row_with_worth gain self.now) }
         ensures row { IfOk result (λ row. row ≡ row_under switch.now.old switch.now.new gain self.now) }
         ensures limits { IfOk result (λ row. IsRow switch.now.new row) }
+        ensures idle { IsSomeAnd prepared.entry (λ it. AreCarried switch.now.old switch.now.new (copied self.now) it.now)
+            → work.new ≡ work.old }
     {
         let sizes = switch.carry(alloc, &self.sizes)?;
         let lots = self

@@ -1,9 +1,9 @@
-ghost use Rattle.std.specs.Prelude.{◌≡◌, ◌<◌, ◌≤◌, ◌^◌, ◌+ℤ◌, ◌||◌, All, IfOk, int_lt, length, pos, unsigned_abs};
+ghost use Rattle.std.specs.Prelude.{◌≡◌, ◌<◌, ◌≤◌, ◌^◌, ◌+ℤ◌, ◌||◌, All, IfOk, Ok, int_lt, length, pos, unsigned_abs};
 ghost use Rattle.mgn_num.specs.Amount.{IsQuantity};
 ghost use Rattle.mgn_span.specs.Positions.{IsNet};
 ghost use Rattle.mgn_span.specs.Requirement.{requirement};
 ghost use Rattle.mgn_span.specs.Scan.{value_at};
-ghost use Rattle.mgn_unit.specs.Rows.{IsRow, IsPortfolioRow, IsGain, IsChange, IsRoomy, PricesPortfolio, Prices, row_figures, least_portfolio, lesser, more_at, no_row, no_portfolio, portfolio_room, row_with, row_with_worth, portfolio_with, portfolio_with_worth};
+ghost use Rattle.mgn_unit.specs.Rows.{GainsAlike, IsRow, IsPortfolioRow, IsGain, IsChange, IsRoomy, PricesPortfolio, Prices, row_figures, least_portfolio, lesser, more_at, no_row, no_portfolio, portfolio_room, row_with, row_with_worth, portfolio_with, portfolio_with_worth};
 
 use crate::change::{Change, Gain};
 use crate::nets::Nets;
@@ -69,6 +69,8 @@ impl PortfolioRow {
         requires other { PricesPortfolio set.now contract other_gain.now other.now other_priced }
         ensures same { self.new ≡ self.old }
         ensures requirement { IfOk result (λ r. PricesPortfolio set.now contract gain.now self.old r) }
+        ensures taken { GainsAlike self.old other.now gain.now other_gain.now → result ≡ Ok other_priced }
+        ensures idle { GainsAlike self.old other.now gain.now other_gain.now → work.new ≡ work.old }
     {
         if gain.quantity == other_gain.quantity && self.nets.is_same(&other.nets) {
             return Ok(other_priced);

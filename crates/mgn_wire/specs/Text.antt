@@ -1,7 +1,7 @@
 -- The text of what a line is answered (own format).
 use Rattle.std.specs.Prelude.{ℕ, List, [], ◌++◌, Option, Some, None, codes}
 use Rattle.mgn_machine.specs.declared.reply.Refusal.{Refusal}
-use Rattle.mgn_machine.specs.declared.reply.Refusal.TheVariants.{NoAccount, NoOrigin, Duplicate, NoContract, NoTrade, NoClass, NoRoom, Limit, Premium, Over, OtherOrigin, Moved, Missing, Sets, Closed, Memory, Full, NoOrder}
+use Rattle.mgn_machine.specs.declared.reply.Refusal.TheVariants.{NoAccount, NoOrigin, Duplicate, NoContract, NoTrade, NoClass, NoRoom, Limit, Premium, Over, OtherOrigin, Moved, Missing, Sets, Closed, Memory, Full, Broken, NoOrder}
 use Rattle.mgn_machine.specs.declared.reply.NewSet.{NewSet}
 use Rattle.mgn_machine.specs.declared.reply.Reply.{Reply}
 use Rattle.mgn_machine.specs.declared.reply.Reply.TheVariants as reply
@@ -33,6 +33,7 @@ refusal_text Sets = codes "43 SETS"
 refusal_text Closed = codes "50 CLOSED"
 refusal_text Memory = codes "90 MEMORY"
 refusal_text Full = codes "91 FULL"
+refusal_text Broken = codes "92 BROKEN"
 
 abbrev pub totals_text : Totals → List ℕ
 totals_text t = field t.requirement ++ field t.value ++ field t.call ++ number_text t.accounts

@@ -44,6 +44,7 @@ fn refusal_text(refusal: Refusal) -> &'static str
         Refusal::Closed => "50 CLOSED",
         Refusal::Memory => "90 MEMORY",
         Refusal::Full => "91 FULL",
+        Refusal::Broken => "92 BROKEN",
     }
 }
 

@@ -32,7 +32,7 @@ use Rattle.mgn_world.specs.Decisions.{Decides}
 use Rattle.mgn_world.specs.declared.stages.Call.{Call}
 use Rattle.mgn_world.specs.declared.stages.Stage.{Stage}
 use Rattle.mgn_world.specs.declared.stages.Stage.TheVariants.{Applied, Idle}
-use Rattle.mgn_world.specs.declared.world.World.{World as Kept}
+use Rattle.mgn_world.specs.declared.kept.Kept.{Kept}
 use Rattle.mgn_world.specs.DeskMoves.{AreDesks, IsRightIn, desk_shown}
 use Rattle.mgn_world.specs.Stages.{View}
 use Rattle.mgn_world.specs.Standing.{Good}

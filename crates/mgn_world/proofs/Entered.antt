@@ -22,7 +22,7 @@ use Rattle.mgn_book.specs.declared.book.Outcome.TheVariants.{Done as Settled}
 use Rattle.mgn_world.specs.declared.stages.Call.{Call}
 use Rattle.mgn_world.specs.declared.stages.Stage.{Stage}
 use Rattle.mgn_world.specs.declared.stages.Stage.TheVariants.{Idle, Held, Looked, Applied, Ended, Failed, Gathered}
-use Rattle.mgn_world.specs.declared.world.World.{World as Kept}
+use Rattle.mgn_world.specs.declared.kept.Kept.{Kept}
 use Rattle.mgn_world.specs.Decisions.{IsApplied}
 use Rattle.mgn_world.specs.DeskMoves.{desk_shown}
 use Rattle.mgn_world.specs.Stages.{Gathering, View, shown_nets}

@@ -14,7 +14,7 @@ use Rattle.mgn_machine.specs.declared.request.Request.TheVariants.{Switch}
 use Rattle.mgn_desk.specs.Desks.{DeskRows, MarkedNets}
 use Rattle.mgn_pricing.proofs.Fitting.{default-is}
 use Rattle.mgn_book.specs.BookViews.{Stands, sets_after}
-use Rattle.mgn_world.specs.declared.world.World.{World as Kept}
+use Rattle.mgn_world.specs.declared.kept.Kept.{Kept}
 use Rattle.mgn_world.specs.declared.stages.Call.{Call}
 use Rattle.mgn_world.specs.declared.stages.Stage.{Stage}
 use Rattle.mgn_world.specs.declared.stages.Stage.TheVariants.{Idle, Held, Looked, Applied, Failed, Ended, Gathered}

@@ -1,21 +1,24 @@
 -- The world that a run keeps: what it is shown as, and what is true of it beside that (own profile).
-use Rattle.std.specs.Prelude.{ℕ, ◌≡◌, ◌≢◌, ◌<◌, ◌==◌, All, if◌then◌else◌, Option, None, Some, List, [], ◌∷◌, length, map, slice_get}
+use Rattle.std.specs.Prelude.{ℕ, ◌≡◌, ◌≢◌, ◌<◌, ◌==◌, All, if◌then◌else◌, Option, None, Some, List, [], ◌∷◌, length, map, slice_get, slice_index_or}
 use Rattle.mgn_params.specs.Shelves.{set_at}
 use Rattle.mgn_params.specs.Tables.{Tables}
-use Rattle.mgn_desk.specs.Portfolios.{AreFourNets, CanMove, FourNets}
+use Rattle.mgn_desk.specs.declared.moves.Requirements.{Requirements}
+use Rattle.mgn_desk.specs.Desks.{MarkedNets}
+use Rattle.mgn_desk.specs.Portfolios.{AreFourNets, CanMove, FourNets, requirements_of}
 use Rattle.mgn_unit.specs.declared.change.Change.{Change}
 use Rattle.mgn_unit.specs.declared.row.Row.{Row}
 use Rattle.mgn_unit.specs.Prepared.{copied}
+use Rattle.mgn_unit.specs.Rows.{row_of}
 use Rattle.mgn_plan.specs.declared.plans.Plan.{Plan}
 use Rattle.mgn_plan.specs.declared.plans.Plan.TheVariants.{Nothing, One, Two}
 use Rattle.mgn_pricing.specs.Desks.{moves_of}
 use Rattle.mgn_book.specs.BookViews.{Stands}
 use Rattle.mgn_world.specs.declared.stages.Stage.{Stage}
 use Rattle.mgn_world.specs.declared.stages.Stage.TheVariants.{Idle, Held, Looked, Applied, Failed, Ended, Gathered}
-use Rattle.mgn_world.specs.declared.world.World.{World as Kept}
+use Rattle.mgn_world.specs.declared.kept.Kept.{Kept}
 use Rattle.mgn_world.specs.DeskMoves.{AreDesks, desk_shown}
 use Rattle.mgn_world.specs.Stages.{Gathering, Seen, View, shown_nets}
-use Rattle.mgn_world.specs.World.{World, no_nets}
+use Rattle.mgn_world.specs.World.{World, in_force, no_nets}
 
 -- the world that is kept, as the definition has it
 abbrev pub shown : Kept → World
@@ -27,6 +30,16 @@ shown w = record {
   locks = w.locks.items;
   stages = w.stages.items;
 }
+
+-- rows of a world: one for each unit that was made, worked out from lots, holds and collateral under the set in force
+pub record AreRows (w : World) (rows : List Row) : Type 0 where
+  pub one_each : length rows ≡ w.state.units
+  pub each : (u : ℕ) (row : Row) → u < length rows → slice_index_or rows u row ≡ row_of (in_force w) w.state.accounts u
+
+-- what a desk requires: what its own nets do, under the set of its version
+abbrev pub required : List Tables → Option MarkedNets → Option Requirements
+required sets None = None
+required sets (Some m) = Some (requirements_of (set_at sets m.version) m.nets)
 
 abbrev pub row_nets : Option Row → FourNets
 row_nets None = no_nets

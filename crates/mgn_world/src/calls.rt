@@ -6,10 +6,10 @@ ghost use Rattle.mgn_world.specs.Standing.{Good};
 ghost use Rattle.mgn_world.specs.World.{applies, backs, begins, ends, looks, marks, plan_units, stage_at};
 ghost use Rattle.mgn_world.specs.Worlds.{IsSound, seen_in, shown};
 
+use crate::kept::Kept;
 use crate::stages::{Call, Seen, Stage, View, set_applied, set_stage};
 use crate::unit_desks::{apply, are_of, mark_first, take_back};
 use crate::units::Units;
-use crate::world::World;
 use mgn_machine::Command;
 use mgn_plan::{Plan, UnitChange};
 use mgn_unit::Row;
@@ -59,7 +59,7 @@ fn after_back(call: Call, again: bool) -> Stage
     }
 }
 
-impl World {
+impl Kept {
     /// Begin: the units of the command become the session's own, if none of them is held. A command without units commits
     /// at once. An error says that memory was refused.
     pub(crate) fn begin(

@@ -10,10 +10,11 @@ ghost use Rattle.mgn_world.specs.Standing.{Good};
 ghost use Rattle.mgn_world.specs.World.{commits, is_done, stage_at};
 ghost use Rattle.mgn_world.specs.Worlds.{IsSound, shown};
 
+use crate::kept::{Kept, session_at};
 use crate::stages::{Stage, set_failed, set_settled};
-use crate::world::{World, session_at};
 use mgn_book::Decision;
 use mgn_machine::Reply;
+use mgn_params::Work;
 use mgn_plan::Plan;
 use std::alloc::{AllocError, Global};
 
@@ -23,7 +24,7 @@ fn is_done(reply: &Reply) -> bool
     matches!(reply, Reply::Done)
 }
 
-impl World {
+impl Kept {
     // What the commit of an applied call comes to, by the desks of its plan's units.
     fn decide(&mut self, alloc: Global, place: usize) -> Decision
         requires good { Good (shown self.old) }
@@ -44,17 +45,32 @@ impl World {
         let session = session_at(place);
         let number = self.book.calls(session) + 1;
         let command = &call.command;
+        let mut work = Work::new();
         match &view.plan {
             Plan::Nothing => unreachable!(),
             Plan::One(change) => {
                 let desks = [&self.desks[change.unit]];
-                self.book
-                    .commit(alloc, session, number, command, &self.shelf, &desks)
+                self.book.commit(
+                    alloc,
+                    session,
+                    number,
+                    command,
+                    &self.shelf,
+                    &desks,
+                    &mut work,
+                )
             }
             Plan::Two(giver, taker) => {
                 let desks = [&self.desks[giver.unit], &self.desks[taker.unit]];
-                self.book
-                    .commit(alloc, session, number, command, &self.shelf, &desks)
+                self.book.commit(
+                    alloc,
+                    session,
+                    number,
+                    command,
+                    &self.shelf,
+                    &desks,
+                    &mut work,
+                )
             }
         }
     }

@@ -4,12 +4,12 @@
 mod calls;
 mod deciding;
 mod gathering;
+mod kept;
 pub mod laws;
 mod run;
 pub mod stages;
 mod switches;
 mod unit_desks;
 mod units;
-mod world;
 
-pub use world::World;
+pub use run::World;

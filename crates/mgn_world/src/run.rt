@@ -1,15 +1,19 @@
 //! A whole list of steps.
 
-ghost use Rattle.std.specs.Prelude.{◌≡◌, IfOk, OnOk};
+ghost use Rattle.std.specs.Prelude.{◌≡◌, IfOk, OnOk, map};
 ghost use Rattle.mgn_world.specs.Claims.{IsLimited, IsReached, IsReplayed};
+ghost use Rattle.mgn_world.specs.DeskMoves.{AreDesks, desk_shown};
 ghost use Rattle.mgn_world.specs.Standing.{Good};
-ghost use Rattle.mgn_world.specs.World.{next, opening, run};
-ghost use Rattle.mgn_world.specs.Worlds.{IsSound, shown};
+ghost use Rattle.mgn_world.specs.World.{desk_at, next, opening, run};
+ghost use Rattle.mgn_world.specs.Worlds.{AreRows, IsSound, required, shown};
 
+use crate::kept::Kept;
 use crate::stages::{Deed, Step};
-use crate::world::World;
+use mgn_book::Book;
+use mgn_desk::{Desk, Requirements};
 use mgn_params::ParamSet;
 use std::alloc::{AllocError, Global};
+use std::marker::Model;
 
 impl Step {
     // What every step meets: no work, a fact for callers.
@@ -22,7 +26,7 @@ impl Step {
     }
 }
 
-impl World {
+impl Kept {
     // One step. Where it is not the next one of its session's call, nothing changes. An error says that memory was refused.
     fn step(&mut self, alloc: Global, step: Step) -> Result<(), AllocError>
         requires good { Good (shown self.old) }
@@ -59,19 +63,66 @@ impl World {
             Deed::Prepare(unit) => self.prepare(alloc, place, unit),
         }
     }
+}
 
+/// The world after a list of steps, as the definition has it. The type says that the rows of its book are those of its
+/// state, and that each desk has the number of its unit, and what its own nets require under the set of its version.
+#[derive(Drop)]
+pub struct World {
+    kept: Kept,
+}
+
+impl Model for World {
+    ghost use Rattle.mgn_world.specs.World.{World};
+    ghost use Rattle.mgn_world.specs.Worlds.{IsSound, shown};
+
+    ghost Value = { World };
+
+    ghost view = { λ w. shown w.kept };
+
+    ghost invariant = { λ w. IsSound w.kept };
+}
+
+impl World {
     /// The world after these steps of any sessions, in this order, from the first set on. An error says that memory was
     /// refused. Every law of this crate holds of it.
     pub fn run(alloc: Global, first: ParamSet, steps: Vec<Step>) -> Result<World, AllocError>
-        ensures run { IfOk result (λ w. shown w ≡ run (opening first) steps.items) }
-        ensures reached { IfOk result (λ w. IsReached (shown w)) }
-        ensures replayed { IfOk result (λ w. IsReplayed (shown w)) }
+        ensures run { IfOk result (λ w. w ≡ run (opening first) steps.items) }
+        ensures reached { IfOk result IsReached }
+        ensures replayed { IfOk result IsReplayed }
     {
         first.limits();
-        let mut world = World::new(alloc, first)?;
+        let mut kept = Kept::new(alloc, first)?;
         for step in steps {
-            world.step(alloc, step)?;
+            kept.step(alloc, step)?;
         }
-        Ok(world)
+        Ok(World { kept })
+    }
+
+    /// The book, with a row for each unit that was made, which is that of its lots, holds and collateral under the set
+    /// in force.
+    pub fn book(&self) -> &Book
+        ensures state { result.now.book.state ≡ self.now.state }
+        ensures history { result.now.history ≡ self.now.history }
+        ensures rows { AreRows self.now result.now.book.rows }
+    {
+        &self.kept.book
+    }
+
+    /// The desks, by the numbers of their units.
+    pub fn desks(&self) -> &[Desk]
+        ensures shown { map desk_shown result.now ≡ self.now.desks }
+        ensures right { AreDesks self.now.sets result.now }
+    {
+        self.kept.desks.as_slice()
+    }
+
+    /// What the four portfolios of the desk of a unit require; none where it is empty, or there is no such unit.
+    pub fn requirements(&self, unit: usize) -> Option<Requirements>
+        ensures { result ≡ required self.now.sets (desk_at self.now unit) }
+    {
+        let desk = self.kept.desks.get(unit)?;
+        desk.version()?;
+        Some(desk.requirements())
     }
 }

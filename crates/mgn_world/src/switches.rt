@@ -1,20 +1,19 @@
 //! The steps of a switch to another set.
 
 ghost use Rattle.std.specs.Prelude.{◌≡◌, ◌<◌, OnOk};
-ghost use Rattle.mgn_params.specs.Limits.{IsWithinLimits};
 ghost use Rattle.mgn_world.specs.declared.stages.Stage.TheVariants.{Gathered};
 ghost use Rattle.mgn_world.specs.Stages.{Gathering as AnyGathering};
 ghost use Rattle.mgn_world.specs.Standing.{Good};
 ghost use Rattle.mgn_world.specs.World.{commits, gathers, prepares, stage_at};
 ghost use Rattle.mgn_world.specs.Worlds.{IsSound, shown};
 
+use crate::kept::{Kept, session_at};
 use crate::stages::{Gathering, Stage, set_stage, take_gathering};
-use crate::world::{World, session_at};
 use mgn_book::Outcome;
-use mgn_params::{ParamSet, Shelf};
+use mgn_params::{ParamSet, Shelf, Work};
 use std::alloc::{AllocError, Global};
 
-impl World {
+impl Kept {
     /// Gather: begins a switch with a copy of all nets. An error says that memory was refused.
     pub(crate) fn gather(
         &mut self,
@@ -84,6 +83,7 @@ impl World {
             set,
             &mut self.shelf,
             prepared.as_slice(),
+            &mut Work::new(),
         ) {
             Outcome::Done(..) => {}
             Outcome::Full => return Ok(()),

@@ -70,6 +70,7 @@ fn writes_replies(rt: HostRuntime) {
             "ERR 14 34 ORIGIN\n",
         ),
         (None, Reply::Refused(Refusal::Full), "ERR 91 FULL\n"),
+        (None, Reply::Refused(Refusal::Broken), "ERR 92 BROKEN\n"),
     ];
     for (place, reply, text) in answers {
         let mut out = Vec::new(rt.alloc());

@@ -4,7 +4,8 @@ ghost use Rattle.mgn_machine.specs.declared.request.Recorded.TheVariants.{Asked}
 ghost use Rattle.mgn_machine.specs.History.{item};
 ghost use Rattle.mgn_session.specs.Device.{is_dirty};
 
-use mgn_machine::{Answer, Command, Item, Recorded, Refusal, Reply, Request};
+use mgn_machine::{Answer, Command, Item, Recorded, Refusal, Reply};
+use mgn_params::ParamSet;
 use mgn_session::{Conversation, Counted, Exec, NoFiles, SessionFault, run_lines};
 use mgn_wire::LineReply;
 use std::alloc::{AllocError, Global};
@@ -12,7 +13,7 @@ use std::cell::Cell;
 use std::io;
 use std::io::{ErrorKind, Read, Write};
 
-// Answers each command with its number, and an ASK with a refusal. It has no room for a set.
+// Answers each command with its number, and an ASK with a refusal. It has no room for a set, and is closed for a TOTAL.
 #[derive(Drop)]
 struct Listed {
     items: Vec<Item>,
@@ -43,27 +44,31 @@ impl Exec for Listed {
 
     ghost is_full = { λ _. Unit {0} };
 
+    ghost is_broken = { λ _. Unit {0} };
+
     ghost does = { λ _ _ _ _. Unit {0} };
 
-    fn exec(&mut self, request: Request) -> Answer {
-        let Request::Do(command) = request else {
-            return Answer::refused(Refusal::Full);
-        };
-        let reply = match &command {
+    fn exec(&mut self, command: &Command) -> Answer {
+        let reply = match command {
             Command::Ask(_) => Reply::Refused(Refusal::NoAccount),
+            Command::Total(_) => return Answer::refused(Refusal::Broken),
             _ => Reply::Done,
         };
         let place = (self.items.len() as u64).saturating_add(1);
         let Ok(kept) = reply.copy() else {
             return Answer::refused(Refusal::Memory);
         };
-        match self.keep(place, &command, kept) {
+        match self.keep(place, command, kept) {
             Ok(()) => Answer {
                 place: Some(place),
                 reply,
             },
             Err(_) => Answer::refused(Refusal::Memory),
         }
+    }
+
+    fn switch(&mut self, _set: ParamSet) -> Answer {
+        Answer::refused(Refusal::Full)
     }
 }
 
@@ -111,9 +116,10 @@ impl Write for Narrow {
     }
 }
 
-const SCRIPT: &[u8] = b"ORIGIN CUST GROSS\nask\nOPEN A1 CUST\nTRADE A1 0 AAA1 2 0\nASK A1\nASK A1";
+const SCRIPT: &[u8] =
+    b"ORIGIN CUST GROSS\nask\nOPEN A1 CUST\nTRADE A1 0 AAA1 2 0\nASK A1\nTOTAL CUST\nASK A1";
 
-const REPLIES: &[u8] = b"OK 1\nERR 10 SYNTAX\nOK 2\nERR 12 RANGE\nERR 3 20 NOACCT\n";
+const REPLIES: &[u8] = b"OK 1\nERR 10 SYNTAX\nOK 2\nERR 12 RANGE\nERR 3 20 NOACCT\nERR 92 BROKEN\n";
 
 // Runs a session in pieces: how it ends, how often the reader and the writer failed, and what was written.
 fn run(
@@ -146,7 +152,7 @@ fn run(
 fn answers_lines_in_pieces(rt: HostRuntime) {
     for size in [1, 2, 3, 7, 19, 100] {
         let (ended, read_failed, write_failed, taken) = run(rt.alloc(), SCRIPT, size, false, 1000);
-        assert!(rt; matches!(&ended, Ok(5)), "at {size}");
+        assert!(rt; matches!(&ended, Ok(6)), "at {size}");
         assert!(rt; read_failed == 0 && write_failed == 0);
         assert!(rt; taken.as_slice() == REPLIES, "at {size}");
     }

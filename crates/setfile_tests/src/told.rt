@@ -8,7 +8,7 @@ use std::test::Fail;
 use worked_sets::{one, spot};
 
 // A line at a place of the first set, counted from 0, and what is told of it.
-const TOLD: [(usize, &str, &str); 19] = [
+const TOLD: [(usize, &str, &str); 23] = [
     (
         0,
         "H,3,ONE",
@@ -42,7 +42,7 @@ const TOLD: [(usize, &str, &str); 19] = [
     (
         4,
         "M,CCC,1,9,1",
-        "record 5: it has a wrong number of fields, is two records in one line, or lacks a side of its spread",
+        "record 5: it has 5 fields, and an M record has 4",
     ),
     (
         4,
@@ -82,7 +82,7 @@ const TOLD: [(usize, &str, &str); 19] = [
     (
         11,
         "I,5000,AAA,A,10000,BBB,A,20000",
-        "record 12: it has a wrong number of fields, is two records in one line, or lacks a side of its spread",
+        "record 12: it has no leg on side B",
     ),
     (
         11,
@@ -93,6 +93,26 @@ const TOLD: [(usize, &str, &str); 19] = [
         11,
         "I,5000,AAA,A,10000,CCC,B,20000,DDD,B,1",
         "record 12, field 6 (commodity of leg 2): no earlier record gives this commodity",
+    ),
+    (
+        11,
+        "I,5000,AAA,B,10000,BBB,B,20000",
+        "record 12: it has no leg on side A",
+    ),
+    (
+        11,
+        "I,5000,AAA,A,10000,BBB,A,20000,1",
+        "record 12: it has 9 fields, and an I record has 8, 11 or 14",
+    ),
+    (
+        11,
+        "I",
+        "record 12: it has 1 field, and an I record has 8, 11 or 14",
+    ),
+    (
+        10,
+        "S,AAA,1\rS,AAA,1",
+        "record 11: it is two records in one line",
     ),
     (
         12,
@@ -207,6 +227,7 @@ fn tells_lines(rt: HostRuntime) -> Result<(), Fail> {
         line: 9,
         field: Some(Field::Kind),
         cause: Cause::Limit,
+        detail: None,
     };
     let told = format!(in rt.alloc(); "{fault}")?;
     assert_eq!(rt;

@@ -1,3 +1,8 @@
+ghost use Rattle.std.specs.Prelude.{◌≡◌};
+ghost use Rattle.spand_lib.specs.Status.{status_of, usage, usage_status};
+ghost use Rattle.spand_lib.specs.declared.fault.Fault.TheVariants.{Memory};
+
+use clap::error::ErrorKind;
 use mgn_session::SessionFault;
 use mgn_setfile::SetFault;
 use std::alloc::AllocError;
@@ -41,14 +46,22 @@ fn name_of(fault: &SessionFault) -> &'static str {
 impl Fault {
     /// Tells the fault, as one line on standard error or as the text of the command line's own, and gives the
     /// program's exit status.
-    pub fn report<R: Print + Eprint>(&self, rt: &R) -> u8 {
-        if let Fault::Usage(error) = self {
-            let _ = error.print(rt);
-            return if error.use_stderr() { 2 } else { 0 };
-        }
-        let _ = eprintln!(rt; "spand: {self}");
+    pub fn report<R: Print + Eprint>(&self, rt: &R) -> u8
+        ensures { result ≡ status_of self.now }
+    {
+        // A line that cannot be written changes no status.
+        let _ = match self {
+            Fault::Usage(error) => error.print(rt),
+            _ => eprintln!(rt; "spand: {self}"),
+        };
+        self.status()
+    }
+
+    fn status(&self) -> u8
+        ensures { result ≡ status_of self.now }
+    {
         match self {
-            Fault::Usage(_) => 2,
+            Fault::Usage(error) => usage_status(error.kind()),
             Fault::NoSet | Fault::BadSet(_) | Fault::BadRecord(_) => 3,
             Fault::Session(_) | Fault::Output => 4,
             Fault::Memory => 6,
@@ -56,16 +69,29 @@ impl Fault {
     }
 }
 
+fn usage_status(kind: ErrorKind) -> u8
+    ensures { result ≡ usage_status kind }
+{
+    match kind {
+        ErrorKind::DisplayHelp | ErrorKind::DisplayVersion => 0,
+        _ => 2,
+    }
+}
+
 impl From<AllocError> for Fault {
+    ghost from_gives = { λ _ fault. fault ≡ Memory };
+
     fn from(_error: AllocError) -> Fault {
         Fault::Memory
     }
 }
 
 impl From<clap::Error> for Fault {
+    ghost from_gives = { λ error fault. fault ≡ usage error };
+
     fn from(error: clap::Error) -> Fault {
         match error.kind() {
-            clap::error::ErrorKind::OutOfMemory => Fault::Memory,
+            ErrorKind::OutOfMemory => Fault::Memory,
             _ => Fault::Usage(error),
         }
     }

@@ -1,4 +1,7 @@
-ghost use Rattle.std.specs.Prelude.{◌≤◌, vec_len, IfOk};
+ghost use Rattle.std.specs.Prelude.{◌≡◌, ◌≤◌, length, vec_len, IfOk};
+ghost use Rattle.mgn_ids.specs.Name.{name_in};
+ghost use Rattle.spand_lib.specs.Reading.{IsReadOf, ReadsNamed};
+ghost use Rattle.spand_lib.specs.Status.{of_source};
 
 use crate::fault::Fault;
 use mgn_ids::SetName;
@@ -46,8 +49,8 @@ impl<'a, R: Files + AllocGlobal> Folder<'a, R> {
 }
 
 impl<R: Files + AllocGlobal> SetSource for Folder<'_, R> {
-    // Nothing is known of what a folder holds.
-    ghost gives = { λ _ _ _ _. Unit {0} };
+    // The folder stays, and what it gives is no longer than a set's file may be. No contract knows what it holds.
+    ghost gives = { λ old _ given new. (new ≡ old) × IfOk given (λ bytes. length bytes ≤ 8388608) };
 
     fn fetch(&mut self, name: &SetName) -> Result<Vec<u8>, SourceFault> {
         let alloc = self.rt.alloc();
@@ -62,21 +65,37 @@ impl<R: Files + AllocGlobal> SetSource for Folder<'_, R> {
     }
 }
 
-/// The set of a name with the version of its format, by its file in a folder.
-pub fn read<S: SetSource>(alloc: Global, folder: &mut S, name: &str) -> Result<SetFile, Fault> {
-    let Ok(name) = SetName::read(name.as_bytes()) else {
-        return Err(Fault::NoSet);
-    };
-    let file = match folder.fetch(&name) {
-        Ok(file) => file,
-        Err(SourceFault::Memory) => return Err(Fault::Memory),
-        Err(_) => return Err(Fault::NoSet),
-    };
-    match read_file(alloc, file.as_slice()) {
+// The set of a file's bytes, with the version of its format.
+fn read_bytes(alloc: Global, bytes: &[u8]) -> Result<SetFile, Fault>
+    ensures { IsReadOf bytes.now result }
+{
+    match read_file(alloc, bytes) {
         Ok(file) => Ok(file),
         Err(fault) => match fault.cause {
             Cause::Memory => Err(Fault::Memory),
             _ => Err(Fault::BadSet(fault)),
         },
+    }
+}
+
+fn of_source(fault: SourceFault) -> Fault
+    ensures { result ≡ of_source fault }
+{
+    match fault {
+        SourceFault::Memory => Fault::Memory,
+        _ => Fault::NoSet,
+    }
+}
+
+/// The set of a name with the version of its format, by its file in a folder.
+pub fn read<S: SetSource>(alloc: Global, folder: &mut S, name: &str) -> Result<SetFile, Fault>
+    ensures { ReadsNamed S.gives folder.old (name_in name.now) result folder.new }
+{
+    let Ok(name) = SetName::read(name.as_bytes()) else {
+        return Err(Fault::NoSet);
+    };
+    match folder.fetch(&name) {
+        Ok(file) => read_bytes(alloc, file.as_slice()),
+        Err(fault) => Err(of_source(fault)),
     }
 }

@@ -133,9 +133,90 @@ fn check_desk(rt: &impl Abort, world: &World) -> Result<(), Fail> {
     Ok(())
 }
 
+// The first desk requires these cents for its lots, and there is no second.
+fn check_required(rt: &impl Abort, world: &World, cents: i128) -> Result<(), Fail> {
+    let Some(requirements) = world.requirements(0) else {
+        return Err(Fail::new("no requirements"));
+    };
+    assert!(rt; requirements.lots.amount() == cents);
+    assert!(rt; world.requirements(1).is_none());
+    Ok(())
+}
+
 #[test]
 fn a_set_passes_a_hold(rt: HostRuntime) -> Result<(), Fail> {
     let world = world_after(rt.alloc(), one(), PASSED)?;
     check_told(&rt, rt.alloc(), &world, PASSED_TOLD)?;
-    check_desk(&rt, &world)
+    check_desk(&rt, &world)?;
+    check_required(&rt, &world, 0)
+}
+
+// An order that is not held has no plan: it is answered at the first Look, which ends the call. A second Look does
+// nothing, nor do Commit, Back and End, and the unit is free for another session.
+const UNPLANNED: &[(usize, &str)] = &[
+    (1, "ORIGIN CUST GROSS"),
+    (1, "OPEN A1 CUST"),
+    (1, "POST A1 CASH 1000"),
+    (1, "RELEASE A1 7"),
+    (1, "LOOK"),
+    (1, "LOOK"),
+    (1, "COMMIT"),
+    (1, "BACK"),
+    (1, "CEASE"),
+    (2, "TRADE A1 1 AAA1 2 0"),
+    (2, "LOOK"),
+    (2, "MARK"),
+    (2, "APPLY"),
+    (1, "LOOK"),
+    (2, "COMMIT"),
+    (2, "CEASE"),
+    (1, "ASK A1"),
+];
+
+const UNPLANNED_TOLD: &str =
+    "OK 1\nOK 2\nOK 3\nERR 4 25 NOORDER\nOK 5\nOK 6 600 600 1000 1000 400\n";
+
+#[test]
+fn a_second_look_without_a_plan_does_nothing(rt: HostRuntime) -> Result<(), Fail> {
+    let world = world_after(rt.alloc(), fut(), UNPLANNED)?;
+    check_told(&rt, rt.alloc(), &world, UNPLANNED_TOLD)?;
+    check_required(&rt, &world, 600)
+}
+
+// A hold without room is refused at its Commit, once: a second Commit does nothing, nor does a Look after the Back. The
+// unit is held until the End: a Begin of another session waits for it, and after the End goes on.
+const REFUSED: &[(usize, &str)] = &[
+    (1, "ORIGIN CUST GROSS"),
+    (1, "OPEN A1 CUST"),
+    (1, "POST A1 CASH 500"),
+    (1, "HOLD A1 1 AAA1 2 0"),
+    (1, "LOOK"),
+    (1, "MARK"),
+    (1, "APPLY"),
+    (1, "COMMIT"),
+    (1, "COMMIT"),
+    (1, "BACK"),
+    (1, "BACK"),
+    (1, "LOOK"),
+    (1, "COMMIT"),
+    (2, "HOLD A1 2 AAA1 1 0"),
+    (2, "LOOK"),
+    (1, "CEASE"),
+    (1, "CEASE"),
+    (2, "LOOK"),
+    (2, "HOLD A1 2 AAA1 1 0"),
+    (2, "LOOK"),
+    (2, "APPLY"),
+    (2, "COMMIT"),
+    (2, "COMMIT"),
+    (2, "CEASE"),
+    (1, "ASK A1"),
+];
+
+const REFUSED_TOLD: &str = "OK 1\nOK 2\nOK 3\nERR 4 30 NOROOM\nOK 5\nOK 6 0 300 500 500 200\n";
+
+#[test]
+fn a_second_commit_after_a_refusal_does_nothing(rt: HostRuntime) -> Result<(), Fail> {
+    let world = world_after(rt.alloc(), fut(), REFUSED)?;
+    check_told(&rt, rt.alloc(), &world, REFUSED_TOLD)
 }

@@ -4,7 +4,7 @@ use crate::drawing::Drawing;
 use mgn_book::{Book, Outcome};
 use mgn_ids::SessionNo;
 use mgn_machine::{Answer, Command, Reply};
-use mgn_params::{ParamSet, SetList};
+use mgn_params::{ParamSet, SetList, Work};
 use mgn_wire::{LineReply, reply_text};
 use std::alloc::Global;
 use std::marker::Model;
@@ -55,15 +55,28 @@ impl OneThread {
     // Takes a command.
     fn ask(&mut self, session: SessionNo, command: &Command) -> Outcome {
         let number = self.book.calls(session) + 1;
-        self.book
-            .commit_plain(self.alloc, session, number, command, &self.shelf)
+        self.book.commit_plain(
+            self.alloc,
+            session,
+            number,
+            command,
+            &self.shelf,
+            &mut Work::new(),
+        )
     }
 
     // Takes a set, for which nothing was prepared.
     fn switch(&mut self, session: SessionNo, set: ParamSet) -> Outcome {
         let number = self.book.calls(session) + 1;
-        self.book
-            .commit_switch(self.alloc, session, number, set, &mut self.shelf, &[])
+        self.book.commit_switch(
+            self.alloc,
+            session,
+            number,
+            set,
+            &mut self.shelf,
+            &[],
+            &mut Work::new(),
+        )
     }
 
     /// Takes what the entry of a book at a place asks, in its session, and tells what it is answered. A session's switches

@@ -4,13 +4,13 @@ use Rattle.mgn_desk.specs.Desks.{CanMoveMarked, Shown, marked_with, moved_desk}
 use Rattle.mgn_desk.specs.Portfolios.{opposite}
 use Rattle.mgn_plan.specs.Plans.{nets_in}
 use Rattle.mgn_pricing.specs.Desks.{four}
-use Rattle.mgn_pricing.proofs.Moved.{can_move_back, moved-shown, ready-shown}
+use Rattle.mgn_pricing.proofs.Moved.{can_move_back, moved-shown, ready-shown, row-nets}
 use Rattle.mgn_pricing.proofs.desks.take_back.Goals as goal
 
 pub take_back-requires-clause-nets : goal.take_back-requires-clause-nets
 take_back-requires-clause-nets c =
     subst (λ (m : Moves). CanMoveMarked (opposite m) c.args.desk.now.marked) (sym c.moves_of.ensures)
-    (can_move_back c.args.set.now c.args.version c.args.row.now c.args.change.now c.args.desk.now.marked c.requires.row c.requires.change c.requires.ready)
+    (can_move_back c.args.set.now c.args.version (nets_in c.args.row.now) c.args.change.now c.args.desk.now.marked c.requires.change.contract (row-nets c.args.set.now c.args.row.now c.requires.row) c.requires.ready)
 
 pub returns : goal.returns
 returns c =

@@ -6,7 +6,7 @@ use Rattle.mgn_session.proofs.run.run_lines.Given as goal
 
 abbrev pub invariant-loop-left : goal.invariant-loop-left
 invariant-loop-left g l = record {
-  way : IsUnderWay (Answers (Calls g.E.Exec.entries g.E.Exec.is_full g.E.Exec.does) g.S.SetSource.gives) l.fn.talk l.talk (l.fn.exec, l.fn.source) (l.exec, l.source) [] (268435456 - l.left) l.lines.lines l.lines.line.items;
+  way : IsUnderWay (Answers (Calls g.E.Exec.entries g.E.Exec.is_full g.E.Exec.is_broken g.E.Exec.does) g.S.SetSource.gives) l.fn.talk l.talk (l.fn.exec, l.fn.source) (l.exec, l.source) [] (268435456 - l.left) l.lines.lines l.lines.line.items;
   left : l.left ≤ 268435456;
   lines : l.lines.lines ≤ 1000000;
   quiet : IsQuiet l.talk;

@@ -1,16 +1,17 @@
-use Rattle.std.proofs.Common.{arith, rules, ◌≡◌, ◌∙◌, ◌+◌, ◌≤◌, ℕ, List, length, option_map, Bor, Err, inl, inr, refl}
+use Rattle.std.proofs.Common.{arith, rules, ◌≡◌, ◌∙◌, ◌+◌, ◌≤◌, ℕ, List, length, option_map, Bor, Some, Err, inl, inr, refl}
 use Rattle.std.specs.Prelude.{◌⊎◌}
 use Rattle.csv.specs.Records.{fields_of}
 use Rattle.mgn_setfile.specs.declared.fault.Cause.TheVariants.{Memory}
 use Rattle.mgn_setfile.specs.Fields.{whole}
 use Rattle.mgn_setfile.specs.File.{fault_in, line_of_record, outcome, records_of}
 use Rattle.mgn_setfile.specs.Lines.{line_cause}
-use Rattle.mgn_setfile.proofs.FileLemmas.{after_next, has_one, left_of, less, line_is, line_of_fault, line_of_none, no_more, numbers_left, passes_over, skips, stops, stops_at, takes, version_of_file, version_skips, version_takes}
+use Rattle.mgn_setfile.specs.Words.{detail_of, numbered_record}
+use Rattle.mgn_setfile.proofs.FileLemmas.{after_next, detail_of_fault, has_one, left_of, less, line_is, line_of_fault, line_of_none, no_more, numbers_left, passes_over, record_is, records_left, skips, stops, stops_at, takes, version_of_file, version_skips, version_takes, with_one, without_one}
 use Rattle.mgn_setfile.proofs.file.read_lines.Goals as goal
 
 pub loop-rest-init : goal.loop-rest-init
 unfolding outcome
-loop-rest-init c = record { room = omega arith; few = omega arith; none = refl; version = refl; so_far = refl; numbers = refl }
+loop-rest-init c = record { room = omega arith; few = omega arith; none = refl; version = refl; so_far = refl; records = refl; numbers = refl }
 
 pub loop-rest-preserved-in-Ok-None : goal.loop-rest-preserved-in-Ok-None
 loop-rest-preserved-in-Ok-None c =
@@ -23,6 +24,7 @@ loop-rest-preserved-in-Ok-None c =
       none = i.none;
       version = i.version ∙ version_skips c.cut_line.result.0.now c.in-Some.left.now (option_map (λ (t : Bor (List ℕ)). t.now) c.cut_line.result.1) c.loop-rest.draft c.cut_line.ensures.parts s;
       so_far = i.so_far ∙ skips c.cut_line.result.0.now c.in-Some.left.now (option_map (λ (t : Bor (List ℕ)). t.now) c.cut_line.result.1) c.loop-rest.count c.loop-rest.draft c.cut_line.ensures.parts s;
+      records = i.records ∙ without_one c.cut_line.result.0.now c.in-Some.left.now (option_map (λ (t : Bor (List ℕ)). t.now) c.cut_line.result.1) c.cut_line.ensures.parts s;
       numbers = i.numbers ∙ passes_over c.loop-rest.lines c.cut_line.result.0.now c.in-Some.left.now (option_map (λ (t : Bor (List ℕ)). t.now) c.cut_line.result.1) c.cut_line.ensures.parts s;
     }
 
@@ -50,6 +52,16 @@ returns-in_err-next-in-Ok-Some-clause-line c =
     let told_line : (fault.cause ≡ Memory) ⊎ (fault.line ≡ line_of_record c.args.text.now fault.number) = inr (rw (place.0, place.1) line) in
     rw err told_line
 
+pub returns-in_err-next-in-Ok-Some-clause-detail : goal.returns-in_err-next-in-Ok-Some-clause-detail
+returns-in_err-next-in-Ok-Some-clause-detail c =
+    let i = rw c.in-Some.is at c.loop-rest.invariant in
+    let s = rw (c.in-Ok-Some.is, c.in-Ok-Some.field-0-is) at c.read_record.ensures in
+    let fault = c.in_err-next-in-Ok-Some.field-0.0 in
+    let err : c.from_residual.result ≡ Err fault = search rules in
+    let row = record_is (records_of c.args.text.now) (records_left (option_map (λ (t : Bor (List ℕ)). t.now) c.cut_line.result.1)) c.loop-rest.count (Some (fields_of c.in-Ok-Some.row)) (i.records ∙ with_one c.cut_line.result.0.now c.in-Some.left.now (option_map (λ (t : Bor (List ℕ)). t.now) c.cut_line.result.1) (fields_of c.in-Ok-Some.row) c.cut_line.ensures.parts s) in
+    let told_detail : fault.detail ≡ detail_of (numbered_record (records_of c.args.text.now) fault.number) (fault_in fault) = rw (c.in_err-next-in-Ok-Some.ensures.place.0, row) c.in_err-next-in-Ok-Some.ensures.detail in
+    rw err told_detail
+
 pub loop-rest-preserved : goal.loop-rest-preserved
 loop-rest-preserved c =
     let i = rw c.in-Some.is at c.loop-rest.invariant in
@@ -62,6 +74,7 @@ loop-rest-preserved c =
       none = tt;
       version = i.version ∙ version_takes c.cut_line.result.0.now c.in-Some.left.now (option_map (λ (t : Bor (List ℕ)). t.now) c.cut_line.result.1) c.loop-rest.draft (fields_of c.in-Ok-Some.row) c.in_ok-next-in-Ok-Some.next c.cut_line.ensures.parts s a;
       so_far = i.so_far ∙ takes c.cut_line.result.0.now c.in-Some.left.now (option_map (λ (t : Bor (List ℕ)). t.now) c.cut_line.result.1) c.loop-rest.count c.loop-rest.draft (fields_of c.in-Ok-Some.row) c.in_ok-next-in-Ok-Some.next c.cut_line.ensures.parts s a;
+      records = after_next c.loop-rest.count _ _ (Some (fields_of c.in-Ok-Some.row)) (i.records ∙ with_one c.cut_line.result.0.now c.in-Some.left.now (option_map (λ (t : Bor (List ℕ)). t.now) c.cut_line.result.1) (fields_of c.in-Ok-Some.row) c.cut_line.ensures.parts s);
       numbers = after_next c.loop-rest.count _ _ (c.loop-rest.lines + 1) (i.numbers ∙ has_one c.loop-rest.lines c.cut_line.result.0.now c.in-Some.left.now (option_map (λ (t : Bor (List ℕ)). t.now) c.cut_line.result.1) (fields_of c.in-Ok-Some.row) c.cut_line.ensures.parts s);
     }
 
@@ -77,6 +90,12 @@ returns-in-Err-clause-line c =
     let i = rw c.in-Some.is at c.loop-rest.invariant in
     let s = rw (c.in-Err.is, c.in-Err.fault-is) at c.read_record.ensures in
     rw c.at.ensures (line_of_fault c.args.text.now c.cut_line.result.0.now c.in-Some.left.now (option_map (λ (t : Bor (List ℕ)). t.now) c.cut_line.result.1) c.loop-rest.count c.loop-rest.lines c.in-Err.fault i.numbers c.cut_line.ensures.parts s)
+
+pub returns-in-Err-clause-detail : goal.returns-in-Err-clause-detail
+returns-in-Err-clause-detail c =
+    let i = rw c.in-Some.is at c.loop-rest.invariant in
+    let s = rw (c.in-Err.is, c.in-Err.fault-is) at c.read_record.ensures in
+    rw c.at.ensures (detail_of_fault c.args.text.now c.cut_line.result.0.now c.in-Some.left.now (option_map (λ (t : Bor (List ℕ)). t.now) c.cut_line.result.1) c.loop-rest.count c.in-Err.fault i.records c.cut_line.ensures.parts s)
 
 pub returns-clause-fault : goal.returns-clause-fault
 returns-clause-fault c =

@@ -12,6 +12,7 @@ invariant-loop-rest l = record {
   none : IfNone l.draft (l.count ≡ 0);
   version : version_told (records_of l.fn.text) ≡ version_left (records_left (option_map (λ s. s.now) l.rest)) l.draft;
   so_far : outcome (records_of l.fn.text) ≡ told (records_left (option_map (λ s. s.now) l.rest)) l.count l.draft;
+  records : drop l.count (records_of l.fn.text) ≡ records_left (option_map (λ s. s.now) l.rest);
   numbers : drop l.count (numbered 0 (slice_split (λ b. b == 10) l.fn.text)) ≡ numbers_left l.lines (option_map (λ s. s.now) l.rest);
 }
 

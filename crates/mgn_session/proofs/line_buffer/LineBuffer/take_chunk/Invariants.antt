@@ -11,8 +11,8 @@ invariant-loop-at g l = record {
   owed : l.talk.owed ≡ line_ends (drop l.at l.chunk);
   devices : KeepsDevices l.fn.talk l.talk;
   so_far : (before : ConversationView) (first : _) (size : ℕ)
-      → IsUnderWay (Answers (Calls g.E.Exec.entries g.E.Exec.is_full g.E.Exec.does) g.S.SetSource.gives) before l.fn.talk first (l.fn.exec, l.fn.source) l.chunk size l.fn.self.lines l.fn.self.line.items
-      → IsUnderWay (Answers (Calls g.E.Exec.entries g.E.Exec.is_full g.E.Exec.does) g.S.SetSource.gives) before l.talk first (l.exec, l.source) (drop l.at l.chunk) size l.self.lines l.self.line.items;
+      → IsUnderWay (Answers (Calls g.E.Exec.entries g.E.Exec.is_full g.E.Exec.is_broken g.E.Exec.does) g.S.SetSource.gives) before l.fn.talk first (l.fn.exec, l.fn.source) l.chunk size l.fn.self.lines l.fn.self.line.items
+      → IsUnderWay (Answers (Calls g.E.Exec.entries g.E.Exec.is_full g.E.Exec.is_broken g.E.Exec.does) g.S.SetSource.gives) before l.talk first (l.exec, l.source) (drop l.at l.chunk) size l.self.lines l.self.line.items;
 }
 
 abbrev pub decreases-loop-at : goal.decreases-loop-at

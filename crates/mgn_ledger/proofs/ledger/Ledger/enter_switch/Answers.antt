@@ -1,0 +1,99 @@
+use Rattle.std.proofs.Common.{arith, ◌≡◌, ◌+◌, ◌∙◌, ℕ, List, length, ap, subst, rules, true≢false}
+use Rattle.std.specs.Prelude.{vec_capacity}
+use Rattle.mgn_params.specs.Tables.{Tables}
+use Rattle.mgn_machine.specs.declared.request.Request.TheVariants.{Switch}
+use Rattle.mgn_book.specs.BookViews.{sets_after}
+use Rattle.mgn_ledger.specs.Changes.{AreSwitched}
+use Rattle.mgn_ledger.specs.Days.{Day}
+use Rattle.mgn_ledger.proofs.Entries.{goes_on, ledger-switched}
+use Rattle.mgn_ledger.proofs.Seen.{called, is_pass}
+use Rattle.mgn_ledger.proofs.ledger.Ledger.enter_switch.Goals as goal
+
+pub taken-requires : goal.taken-requires
+taken-requires g c = c.is_full.ensures.room c.if-is_full.false
+
+pub set_next-requires : goal.set_next-requires
+set_next-requires g c = c.is_full.ensures.room c.if-is_full.false
+
+pub invariant_of-self-in-Ok : goal.invariant_of-self-in-Ok
+invariant_of-self-in-Ok g c =
+    let l = c.self.inside in
+    let place = c.in-Done.at in
+    let reply = c.in-Done.reply in
+    let session = c.pass.inside.session in
+    let number = c.calls-number.result + 1 in
+    let now = c.commit_switch-outcome.new.shelf.tokens.now in
+    let book = c.commit_switch-outcome.new.self in
+    let old : Day = record { sets = l.tokens; book = l.book } in
+    let new : Day = record { sets = now; book = book } in
+    let put : now ≡ sets_after l.tokens (Switch c.args.set) reply = c.in-Done.ensures.sets ∙ ap (λ (x : List Tables). sets_after x (Switch c.args.set) reply) c.new-shelf.ensures.sets in
+    let on = goes_on l.tokens now l.book book session number (Switch c.args.set) place reply c.self.invariant.2.stands c.in-Done.ensures.committed put c.in-Done.ensures.stands in
+    let filled : AreSwitched reply (length l.stamps + 1) l.places.items c.switch.new.places.items =
+    subst (λ (k : ℕ). AreSwitched reply (k + 1) l.places.items c.switch.new.places.items) c.len-place.ensures c.switch.ensures.switched in (
+      c.self.invariant.0,
+      c.self.invariant.1,
+      ledger-switched g.T.Image.shown l.stamps c.set_next.new.self c.of.result l.places.items c.switch.new.places.items (vec_capacity l.places) (vec_capacity c.switch.new.places) l.broken old new session number c.args.set place reply
+          c.self.invariant.2 on c.in-Ok.ensures.pushed c.of.ensures c.switch.ensures.room filled c.in-Done.ensures.committed c.in-Done.ensures.rows put,
+    )
+
+pub invariant_of-pass : goal.invariant_of-pass
+invariant_of-pass g c =
+    let l = c.self.inside in
+    let place = c.in-Done.at in
+    let reply = c.in-Done.reply in
+    let session = c.pass.inside.session in
+    let number = c.calls-number.result + 1 in
+    let now = c.commit_switch-outcome.new.shelf.tokens.now in
+    let book = c.commit_switch-outcome.new.self in
+    let old : Day = record { sets = l.tokens; book = l.book } in
+    let new : Day = record { sets = now; book = book } in
+    let put : now ≡ sets_after l.tokens (Switch c.args.set) reply = c.in-Done.ensures.sets ∙ ap (λ (x : List Tables). sets_after x (Switch c.args.set) reply) c.new-shelf.ensures.sets in
+    let on = goes_on l.tokens now l.book book session number (Switch c.args.set) place reply c.self.invariant.2.stands c.in-Done.ensures.committed put c.in-Done.ensures.stands in
+    is_pass g.T.Image.shown c.in-Ok.stamp old new session number (Switch c.args.set) place reply on
+    (ap (λ p. g.T.Image.shown p.1) c.in-Ok.ensures.stamped ∙ c.of.ensures)
+    (ap (λ (n : ℕ). n + 1) c.calls-number.ensures.count)
+
+pub invariant_of-self-in-Err : goal.invariant_of-self-in-Err
+invariant_of-self-in-Err g c =
+    let l = c.self.inside in (
+      c.self.invariant.0,
+      c.self.invariant.1,
+      record {
+        stands = c.in-Done.ensures.stands;
+        roomy = omega (arith, c.self.invariant.2.roomy, c.switch.ensures.room);
+        stamped = λ sound. absurd (true≢false sound);
+        places_are = λ sound. absurd (true≢false sound);
+      },
+    )
+
+pub invariant_of-self-in-Err-2 : goal.invariant_of-self-in-Err-2
+invariant_of-self-in-Err-2 g c =
+    let l = c.self.inside in (
+      c.self.invariant.0,
+      c.self.invariant.1,
+      record {
+        stands = c.in-Done.ensures.stands;
+        roomy = omega (arith, c.self.invariant.2.roomy, c.switch.ensures.room);
+        stamped = λ sound. absurd (true≢false sound);
+        places_are = λ sound. absurd (true≢false sound);
+      },
+    )
+
+pub returns-in-Ok : goal.returns-in-Ok
+returns-in-Ok g c =
+    let l = c.self.inside in
+    let place = c.in-Done.at in
+    let reply = c.in-Done.reply in
+    let session = c.pass.inside.session in
+    let number = c.calls-number.result + 1 in
+    let now = c.commit_switch-outcome.new.shelf.tokens.now in
+    let book = c.commit_switch-outcome.new.self in
+    let old : Day = record { sets = l.tokens; book = l.book } in
+    let new : Day = record { sets = now; book = book } in
+    let put : now ≡ sets_after l.tokens (Switch c.args.set) reply = c.in-Done.ensures.sets ∙ ap (λ (x : List Tables). sets_after x (Switch c.args.set) reply) c.new-shelf.ensures.sets in
+    let on = goes_on l.tokens now l.book book session number (Switch c.args.set) place reply c.self.invariant.2.stands c.in-Done.ensures.committed put c.in-Done.ensures.stands in
+    called c.args.pass.now old new (g.T.Image.shown c.in-Ok.stamp.1) session number (Switch c.args.set) place reply
+    (rw c.self.view_is (c.if-not-matches.ensures (search rules)))
+    (ap (λ p. p.session) c.pass.view_is)
+    on
+    (ap (λ p. g.T.Image.shown p.1) c.in-Ok.ensures.stamped ∙ c.of.ensures)

@@ -1,0 +1,5 @@
+-- A book that sessions share, seen from under its lock.
+pub mod Changes
+pub mod Days
+pub mod Ledgers
+pub mod Passes

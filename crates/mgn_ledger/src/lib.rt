@@ -1,0 +1,16 @@
+//! The book that the sessions of a service share, as it lies under its lock: with the sets that its versions show, a stamp
+//! for each entry of its history, and passes that know their own calls.
+#![tactic(auto)]
+
+mod entered;
+mod gathered;
+mod image;
+mod ledger;
+mod pass;
+mod places;
+
+pub use entered::{AuditFault, Entered};
+pub use gathered::Gathered;
+pub use image::{DayImage, Image};
+pub use ledger::Ledger;
+pub use pass::Pass;

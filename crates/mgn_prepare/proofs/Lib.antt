@@ -1,0 +1,2 @@
+-- The marks of all units, by those of each.
+pub mod Whole

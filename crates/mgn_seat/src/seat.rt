@@ -1,0 +1,88 @@
+ghost use Rattle.std.specs.Prelude.{◌≡◌};
+
+use mgn_ledger::{Image, Pass};
+use mgn_machine::{Answer, Command};
+use mgn_params::ParamSet;
+use mgn_service::{Gate, Service};
+use mgn_session::Exec;
+use mgn_slots::SlotNames;
+use mgn_table::TableName;
+use std::marker::Model;
+use std::sync::Wait;
+
+/// A session of a service, for one thread: a pass with the service that made it. Contracts see the pass.
+#[derive(Drop)]
+pub struct Seat<'s, 'a, R: Wait, T: Image, J: TableName + SlotNames, G: Gate> {
+    rt: &'s R,
+    service: &'s Service<'a, T, J>,
+    gate: &'s G,
+    pass: Pass<'a, T, J>,
+}
+
+impl<'s, 'a, R: Wait, T: Image, J: TableName + SlotNames, G: Gate> Model
+    for Seat<'s, 'a, R, T, J, G> {
+    ghost use Rattle.mgn_ledger.specs.Passes.{PassView};
+
+    ghost Value = { PassView };
+
+    ghost view = { λ s. s.pass };
+}
+
+impl<'s, 'a, R: Wait, T: Image, J: TableName + SlotNames, G: Gate> Seat<'s, 'a, R, T, J, G> {
+    /// The seat of a pass of this service, whose calls pass the gate.
+    pub fn new(
+        rt: &'s R,
+        service: &'s Service<'a, T, J>,
+        gate: &'s G,
+        pass: Pass<'a, T, J>,
+    ) -> Seat<'s, 'a, R, T, J, G>
+        ensures { result ≡ pass.entry }
+    {
+        Seat {
+            rt,
+            service,
+            gate,
+            pass,
+        }
+    }
+
+    /// The pass, for the service's audit.
+    pub fn into_pass(self) -> Pass<'a, T, J>
+        ensures { result ≡ self.entry }
+    {
+        let Seat {
+            rt: _,
+            service: _,
+            gate: _,
+            pass,
+        } = self;
+        pass
+    }
+}
+
+/// A switch is worked out on the session's own thread: the bounds of a block tell its methods of this thread alone, so none of
+/// them can hand the gate on to others. What is answered with a place stands last in the pass's transcript. Whether the history is full or the service closed only
+/// the service knows, since other sessions use it too; so either may be answered at any time.
+impl<'s, 'a, R: Wait, T: Image, J: TableName + SlotNames, G: Gate> Exec
+    for Seat<'s, 'a, R, T, J, G> {
+    ghost use Rattle.mgn_ledger.specs.Ledgers.{Answers};
+    ghost use Rattle.mgn_ledger.specs.Passes.{transcript};
+
+    ghost entries = { λ seat. transcript seat };
+
+    ghost is_full = { λ seat. Unit {0} };
+
+    ghost is_broken = { λ seat. Unit {0} };
+
+    ghost does = { λ old request answer new. Answers old request answer new };
+
+    fn exec(&mut self, command: &Command) -> Answer {
+        self.service
+            .exec(self.rt, &mut self.pass, self.gate, command)
+    }
+
+    fn switch(&mut self, set: ParamSet) -> Answer {
+        self.service
+            .switch_alone(self.rt, &mut self.pass, self.gate, set)
+    }
+}

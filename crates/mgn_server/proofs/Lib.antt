@@ -1,0 +1,2 @@
+-- Lemmas on sessions and on the places of seats.
+mod Facts

@@ -1,0 +1,3 @@
+-- What the contracts of the server cite.
+pub mod Served
+pub mod Places

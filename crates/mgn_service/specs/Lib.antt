@@ -1,0 +1,4 @@
+-- Sessions that share a book.
+pub mod Commits
+pub mod Pairs
+pub mod UnitDesks

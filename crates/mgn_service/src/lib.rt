@@ -1,0 +1,18 @@
+//! A book that sessions on threads of their own share: each command goes by desks under locks of their units, and holds the
+//! book's lock for its steps alone.
+#![tactic(auto)]
+
+mod commits;
+mod gate;
+mod looks;
+mod pairs;
+mod service;
+mod sight;
+mod transfers;
+mod unit_desk;
+mod units;
+
+pub use gate::{Gate, Point, Through};
+pub use service::Service;
+pub use sight::Sight;
+pub use unit_desk::UnitDesk;

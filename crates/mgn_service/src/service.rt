@@ -1,0 +1,371 @@
+ghost use Rattle.std.specs.Prelude.{ℕ, ◌≡◌, ◌<◌, ◌≤◌, List, IfOk, IfSome};
+ghost use Rattle.mgn_params.specs.Tables.{Tables};
+ghost use Rattle.mgn_machine.specs.declared.entry.Entry.{Entry};
+ghost use Rattle.mgn_machine.specs.declared.request.Request.TheVariants.{Do, Switch};
+ghost use Rattle.mgn_unit.specs.NewSets.{ArePrepared};
+ghost use Rattle.mgn_ledger.specs.Ledgers.{Answers};
+ghost use Rattle.mgn_ledger.specs.Passes.{AreAudited, fresh};
+ghost use Rattle.mgn_service.specs.Commits.{Begins, Tries};
+
+use crate::commits::{Decided, commit};
+use crate::gate::{Gate, Point, WorkersGate};
+use crate::looks::{Looked, look};
+use crate::sight::Sight;
+use crate::unit_desk::UnitDesk;
+use crate::units::{Units, units_of};
+use mgn_ids::SessionNo;
+use mgn_ledger::{AuditFault, Gathered, Image, Ledger, Pass};
+use mgn_machine::{Answer, Command, Refusal, Reply};
+use mgn_params::ParamSet;
+use mgn_prepare::{mark_all, mark_alone};
+use mgn_slots::{SlotNames, Slots};
+use mgn_table::{SetTable, TableName};
+use mgn_unit::PreparedUnit;
+use std::alloc::{AllocError, Global};
+use std::sync::atomic::{AtomicU64, Ordering};
+use std::sync::{Mutex, Wait};
+use std::thread::Threads;
+
+/// How many margin units there are at most, each with a desk.
+const MOST_DESKS: usize = 1024;
+
+/// How often a call looks at the book at most.
+pub(crate) const MOST_LOOKS: u8 = 65;
+
+/// A book that sessions on threads of their own share: the book under one lock, and the desk of each margin unit under a lock
+/// of its own. Locks of units are taken in rising number, then that of the book, and none while the book's is held.
+#[derive(Drop)]
+pub struct Service<'a, T: Image, J: TableName + SlotNames> {
+    pub(crate) alloc: Global,
+    pub(crate) ledger: Mutex<Ledger<'a, T, J>>,
+    pub(crate) desks: Vec<Mutex<UnitDesk<'a, T, J>>>,
+    marks: AtomicU64,
+    workers: usize,
+    ghost some: { 0 < workers },
+    ghost few: { workers ≤ 64 },
+}
+
+/// What the first look at a command found: its answer, or the units whose locks it takes.
+#[derive(Drop)]
+pub(crate) enum Begun {
+    Answered(Answer),
+    One(usize),
+    /// The giver's unit and the taker's.
+    Two(usize, usize),
+}
+
+/// What was worked out for a switch before its commit, and how many entries the history had when its nets were gathered.
+#[derive(Drop)]
+struct Prepared {
+    units: Vec<Option<PreparedUnit>>,
+    entries: usize,
+}
+
+/// What one look and commit did.
+#[derive(Drop)]
+pub(crate) enum Tried {
+    Answered(Answer),
+    Stale,
+    Apart,
+}
+
+// A command without units is committed at once.
+fn begin<'a, R: Wait, T: Image, J: TableName + SlotNames>(
+    rt: &R,
+    ledger: &mut Ledger<'a, T, J>,
+    pass: &mut Pass<'a, T, J>,
+    command: &Command,
+) -> Begun
+    ensures { Begins pass.old command.now result pass.new }
+{
+    match units_of(ledger, command) {
+        Units::Nothing => Begun::Answered(ledger.exec_plain(rt, pass, command)),
+        Units::One(unit) => Begun::One(unit),
+        Units::Two(giver, taker) => Begun::Two(giver, taker),
+    }
+}
+
+// An empty desk for each unit that there can be.
+fn empty_desks<'a, T: Image, J: SlotNames>(
+    alloc: Global,
+) -> Result<Vec<Mutex<UnitDesk<'a, T, J>>>, AllocError> {
+    let mut desks = Vec::with_capacity(alloc, MOST_DESKS)?;
+    for unit in 0..MOST_DESKS {
+        desks.push(Mutex::new(UnitDesk::empty(unit)))?;
+    }
+    Ok(desks)
+}
+
+impl<'a, T: Image, J: TableName + SlotNames> Service<'a, T, J> {
+    /// A service before its first command, under its first set. Up to so many workers, 1 to 64, share the units of a switch.
+    /// An error says that memory was refused.
+    pub fn new<R: Wait>(
+        rt: &R,
+        alloc: Global,
+        slots: &'a Slots<T>,
+        table: &'a SetTable,
+        first: ParamSet,
+        workers: usize,
+    ) -> Result<Service<'a, T, J>, AllocError>
+        requires slots { slots.now ≡ J.slots }
+        requires table { table.now ≡ J.table }
+        requires some { 0 < workers }
+        requires few { workers ≤ 64 }
+    {
+        let desks = empty_desks(alloc)?;
+        let ledger = Ledger::new(rt, alloc, slots, table, first)?;
+        Ok(Service {
+            alloc,
+            ledger: Mutex::new(ledger),
+            desks,
+            marks: AtomicU64::new(0),
+            workers,
+        })
+    }
+
+    /// A pass of a new session, which has the next number; none where there are 16.
+    pub fn pass(&self, rt: &impl Wait) -> Option<Pass<'a, T, J>>
+        ensures { IfSome result (λ pass. (session : ℕ) × (pass ≡ fresh session)) }
+    {
+        self.ledger.lock(rt).pass()
+    }
+
+    /// One command of a pass. Where the answer has a place, the pass's calls are those before with this one last, and there is a
+    /// legal history, beginning with all that the pass had seen, whose entries of this session are just these, at their places.
+    /// Without a place the pass is as it was: memory was refused, the history is full, or the service is closed.
+    pub fn exec<R: Wait, G: Gate>(
+        &self,
+        rt: &R,
+        pass: &mut Pass<'a, T, J>,
+        gate: &G,
+        command: &Command,
+    ) -> Answer
+        ensures { Answers pass.old (Do command.now) result pass.new }
+    {
+        let begun = begin(rt, &mut self.ledger.lock(rt), pass, command);
+        match begun {
+            Begun::Answered(answer) => answer,
+            Begun::One(unit) => self.exec_one(rt, pass, gate, command, unit),
+            Begun::Two(giver, taker) => self.exec_two(rt, pass, gate, command, giver, taker),
+        }
+    }
+
+    /// One switch of a pass to a set, as `exec` has it for a command. What units require under the set is worked out by the
+    /// service's workers on copies of their nets; the book's lock is held while the nets are copied, and for the commit, which
+    /// works out only units whose nets are others by then.
+    #[inline(never)]
+    pub fn switch<R: Threads + Wait + Sync, G: Gate + Sync>(
+        &self,
+        rt: &R,
+        pass: &mut Pass<'a, T, J>,
+        gate: &G,
+        set: ParamSet,
+    ) -> Answer
+        ensures { Answers pass.old (Switch set) result pass.new }
+    {
+        let Ok(prepared) = self.prepare(rt, pass.session(), gate, &set) else {
+            return Answer::refused(Refusal::Memory);
+        };
+        self.enter_switch(rt, pass, gate, set, &prepared)
+    }
+
+    /// The same, where the caller works out alone what units require, with no thread started.
+    #[inline(never)]
+    pub fn switch_alone<R: Wait, G: Gate>(
+        &self,
+        rt: &R,
+        pass: &mut Pass<'a, T, J>,
+        gate: &G,
+        set: ParamSet,
+    ) -> Answer
+        ensures { Answers pass.old (Switch set) result pass.new }
+    {
+        let Ok(prepared) = self.prepare_alone(rt, pass.session(), gate, &set) else {
+            return Answer::refused(Refusal::Memory);
+        };
+        self.enter_switch(rt, pass, gate, set, &prepared)
+    }
+
+    // The commit of a switch.
+    fn enter_switch<R: Wait, G: Gate>(
+        &self,
+        rt: &R,
+        pass: &mut Pass<'a, T, J>,
+        gate: &G,
+        set: ParamSet,
+        prepared: &Prepared,
+    ) -> Answer
+        requires { ArePrepared set prepared.now.units.items }
+        ensures { Answers pass.old (Switch set) result pass.new }
+    {
+        gate.at(Point::Prepared, pass.session());
+        let units = prepared.units.as_slice();
+        self.ledger
+            .lock(rt)
+            .enter_switch(rt, pass, set, units, prepared.entries)
+    }
+
+    // What all units require under a set. An error says that memory was refused.
+    fn prepare<R: Threads + Wait + Sync, G: Gate + Sync>(
+        &self,
+        rt: &R,
+        session: SessionNo,
+        gate: &G,
+        set: &ParamSet,
+    ) -> Result<Prepared, AllocError>
+        ensures { IfOk result (λ prepared. ArePrepared set.now prepared.units.items) }
+    {
+        let gathered = self.ledger.lock(rt).gather(self.alloc)?;
+        let Gathered {
+            set: old,
+            nets,
+            entries,
+        } = gathered;
+        let gate = WorkersGate { gate, session };
+        let units = mark_all(rt, self.alloc, old, set, nets, self.workers, &gate)?;
+        Ok(Prepared { units, entries })
+    }
+
+    // The same, by the caller alone.
+    fn prepare_alone<R: Wait, G: Gate>(
+        &self,
+        rt: &R,
+        session: SessionNo,
+        gate: &G,
+        set: &ParamSet,
+    ) -> Result<Prepared, AllocError>
+        ensures { IfOk result (λ prepared. ArePrepared set.now prepared.units.items) }
+    {
+        let gathered = self.ledger.lock(rt).gather(self.alloc)?;
+        let gate = WorkersGate { gate, session };
+        let units = mark_alone(
+            self.alloc,
+            gathered.set,
+            set,
+            gathered.nets.as_slice(),
+            &gate,
+        )?;
+        Ok(Prepared {
+            units,
+            entries: gathered.entries,
+        })
+    }
+
+    // A command of one unit, under that unit's lock.
+    fn exec_one<R: Wait, G: Gate>(
+        &self,
+        rt: &R,
+        pass: &mut Pass<'a, T, J>,
+        gate: &G,
+        command: &Command,
+        unit: usize,
+    ) -> Answer
+        ensures { Answers pass.old (Do command.now) result pass.new }
+    {
+        let Some(place) = self.desks.get(unit) else {
+            return self.ledger.lock(rt).exec_plain(rt, pass, command);
+        };
+        let mut desk = place.lock(rt);
+        for _look in 0..MOST_LOOKS {
+            match self.try_one(rt, pass, gate, command, &mut desk) {
+                Tried::Answered(answer) => return answer,
+                Tried::Stale => {}
+                Tried::Apart => break,
+            }
+        }
+        desk.forget();
+        self.ledger.lock(rt).exec_plain(rt, pass, command)
+    }
+
+    // One look at the book and one commit, between which the desk moves under its unit's lock alone.
+    fn try_one<R: Wait, G: Gate>(
+        &self,
+        rt: &R,
+        pass: &mut Pass<'a, T, J>,
+        gate: &G,
+        command: &Command,
+        desk: &mut UnitDesk<'a, T, J>,
+    ) -> Tried
+        ensures { Tries pass.old command.now result pass.new }
+    {
+        let unit = desk.unit();
+        let looked = look(
+            rt,
+            self.alloc,
+            &mut self.ledger.lock(rt),
+            pass,
+            command,
+            unit,
+            desk.stamp(),
+        );
+        let sight = match looked {
+            Looked::Seen(sight) => sight,
+            Looked::Answered(answer) => return Tried::Answered(answer),
+            Looked::Apart => return Tried::Apart,
+        };
+        if desk.ready(self.alloc, &sight).is_err() {
+            return Tried::Answered(Answer::refused(Refusal::Memory));
+        }
+        self.count_mark(&sight);
+        desk.apply(&sight);
+        gate.at(Point::Applied, pass.session());
+        let decided = commit(rt, &mut self.ledger.lock(rt), pass, command, desk, &sight);
+        let tried = match decided {
+            Decided::Settled(place, stamp) => {
+                desk.settle(&sight, stamp);
+                return Tried::Answered(Answer {
+                    place: Some(place),
+                    reply: Reply::Done,
+                });
+            }
+            Decided::Answered(answer) => Tried::Answered(answer),
+            Decided::Stale => Tried::Stale,
+            Decided::Apart => Tried::Apart,
+        };
+        desk.take_back(&sight);
+        tried
+    }
+
+    pub(crate) fn count_mark(&self, sight: &Sight<'a, T, J>) {
+        if sight.is_copied() {
+            let _ = self.marks.fetch_add(1, Ordering::SeqCst);
+        }
+    }
+
+    /// How many units had a requirement worked out in the book for a command. It stays at its greatest value.
+    pub fn plain_count(&self, rt: &impl Wait) -> u64 {
+        self.ledger.lock(rt).plain_count()
+    }
+
+    /// How many units had a requirement worked out in the book for a set that came into force, since their nets were others by
+    /// then than those that the workers had. It stays at its greatest value.
+    pub fn late_count(&self, rt: &impl Wait) -> u64 {
+        self.ledger.lock(rt).late_count()
+    }
+
+    /// How often a call marked a desk.
+    pub fn mark_count(&self) -> u64 {
+        self.marks.load(Ordering::SeqCst)
+    }
+
+    /// Ends the service, and gives how many entries its history has, where the passes are those that were made, each once, and
+    /// it has just their calls.
+    pub fn close(self, passes: Vec<Pass<'a, T, J>>) -> Result<u64, AuditFault>
+        ensures { IfOk result (λ entries. (sets : List Tables) × (history : List Entry)
+            × AreAudited sets history passes.entry.items entries) }
+    {
+        let Service {
+            alloc: _,
+            ledger,
+            desks,
+            marks: _,
+            workers: _,
+        } = self;
+        let ledger = ledger.into_inner();
+        let audited = ledger.audit(&passes);
+        // Dropped by one call each: a proof goes through each field of what a function lets go.
+        drop(ledger);
+        drop(desks);
+        audited
+    }
+}

@@ -1,0 +1,61 @@
+//! The margin units that a command names.
+
+use mgn_ids::AccountName;
+use mgn_ledger::{Image, Ledger};
+use mgn_machine::Command;
+use mgn_slots::SlotNames;
+use mgn_table::TableName;
+
+/// Whose units a command changes: none, or those of one or two accounts.
+enum Named {
+    Nobody,
+    One(AccountName),
+    Two(AccountName, AccountName),
+}
+
+/// The units whose locks a call takes.
+#[derive(Clone, Copy, PartialEq, Eq, Debug)]
+pub(crate) enum Units {
+    Nothing,
+    One(usize),
+    /// Of a transfer between two units: the giver's and the taker's.
+    Two(usize, usize),
+}
+
+// The accounts whose lots or holds a command changes.
+fn named_by(command: &Command) -> Named {
+    match command {
+        Command::Trade(trade) => Named::One(trade.account),
+        Command::Bust(account, _) | Command::Release(account, _) => Named::One(*account),
+        Command::Hold(hold) => Named::One(hold.account),
+        Command::Fill(fill) => Named::One(fill.account),
+        Command::Transfer(transfer) => Named::Two(transfer.from, transfer.to),
+        Command::NewOrigin(_, _)
+        | Command::NewAccount(_, _)
+        | Command::Post(_, _, _)
+        | Command::Draw(_, _, _)
+        | Command::Ask(_)
+        | Command::Total(_)
+        | Command::Statement(_)
+        | Command::EndDay => Named::Nobody,
+    }
+}
+
+/// The units of a command's accounts, if it has any and all of them are there.
+pub(crate) fn units_of<T: Image, J: TableName + SlotNames>(
+    ledger: &Ledger<'_, T, J>,
+    command: &Command,
+) -> Units {
+    match named_by(command) {
+        Named::Nobody => Units::Nothing,
+        Named::One(account) => match ledger.unit_of(&account) {
+            Some(unit) => Units::One(unit),
+            None => Units::Nothing,
+        },
+        Named::Two(from, to) => match (ledger.unit_of(&from), ledger.unit_of(&to)) {
+            (Some(giver), Some(taker)) if giver == taker => Units::One(giver),
+            (Some(giver), Some(taker)) => Units::Two(giver, taker),
+            _ => Units::Nothing,
+        },
+    }
+}

@@ -1,0 +1,2 @@
+-- One token more.
+pub mod Pushed

@@ -1,0 +1,41 @@
+use Rattle.std.proofs.Common.{Global, Vec, ◌≡◌, ◌+◌, ◌∙◌, ap, List, ℕ, Option, subst, sym, refl}
+use Rattle.mgn_unit.specs.declared.row.PreparedUnit.{PreparedUnit}
+use Rattle.mgn_unit.specs.NewSets.{ArePrepared}
+use Rattle.mgn_world.specs.declared.stages.Stage.{Stage}
+use Rattle.mgn_world.specs.declared.stages.Stage.TheVariants.{Idle}
+use Rattle.mgn_world.specs.declared.kept.Kept.{Kept}
+use Rattle.mgn_world.specs.Stages.{Gathering}
+use Rattle.mgn_world.proofs.Entered.{gathering_or, switched_is}
+use Rattle.mgn_world.proofs.Sounds.{after_sound, grown_sound, housed_sound, on_both, stands_in}
+use Rattle.mgn_world.proofs.kept.Kept.commit_set.Goals as goal
+
+pub commit_switch-requires-clause-prepared : goal.commit_switch-requires-clause-prepared
+commit_switch-requires-clause-prepared c =
+    subst (λ (xs : List (Option PreparedUnit)). ArePrepared c.into_parts-set.result.0 xs) (sym c.as_slice.ensures.value) c.into_parts-set.ensures.prepared
+
+pub returns-in-Full-clause-sound : goal.returns-in-Full-clause-sound
+returns-in-Full-clause-sound c =
+    let took = c.in-Some.ensures.taken c.in-Some.gathering c.in-Some.ensures.found in
+    after_sound c.args.self.now record { shelf = c.commit_switch.new.shelf; book = c.commit_switch.new.self; desks = c.args.self.now.desks; locks = c.args.self.now.locks; stages = c.take_gathering.new.stages } c.args.place Idle
+    c.requires.sound c.in-Full.ensures.sets c.in-Full.ensures.stands refl tt took.1
+
+pub returns-clause-step : goal.returns-clause-step
+returns-clause-step c =
+    on_both c.house.result
+    (λ desks locks. λ g is.
+    let took = c.in-Some.ensures.taken g is in
+    let same : c.in-Some.gathering ≡ g = ap (gathering_or g) took.0 in
+    switched_is c.args.self.now c.house.new.self c.args.place c.session_at-session.result (c.calls-number.result + 1) g c.into_parts-set.result.0 c.in-Done.field-0 c.in-Done.field-1 c.commit_switch.new.self c.commit_switch.new.shelf
+    c.session_at-session.ensures (ap (λ (n : ℕ). n + 1) c.calls-number.ensures.count) (c.into_parts-set.ensures.set ∙ ap (λ (x : Gathering). x.set) same)
+    c.in-Done.ensures.stands c.in-Done.ensures.committed c.in-Done.ensures.sets c.house.ensures.shelf c.house.ensures.book desks locks
+    (ap (λ (v : Vec Stage Global). v.items) c.house.ensures.stages ∙ took.1))
+    c.house.ensures.desks c.house.ensures.locks
+
+pub returns-clause-sound : goal.returns-clause-sound
+returns-clause-sound c =
+    let took = c.in-Some.ensures.taken c.in-Some.gathering c.in-Some.ensures.found in
+    let mid : Kept = record { shelf = c.commit_switch.new.shelf; book = c.commit_switch.new.self; desks = c.args.self.now.desks; locks = c.args.self.now.locks; stages = c.take_gathering.new.stages } in
+    let sound = grown_sound c.args.self.now mid c.args.place c.into_parts-set.result.0 c.in-Done.field-1 c.requires.sound c.in-Done.ensures.sets c.in-Done.ensures.stands refl took.1 in
+    on_both c.house.result
+    (λ desks more. housed_sound mid c.house.new.self sound c.house.ensures.shelf (stands_in mid c.house.new.self c.in-Done.ensures.stands c.house.ensures.shelf c.house.ensures.book) c.house.ensures.stages (desks sound.desks) more)
+    c.house.ensures.sound c.house.ensures.grown

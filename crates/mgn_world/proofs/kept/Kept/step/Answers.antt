@@ -1,0 +1,17 @@
+use Rattle.std.proofs.Common.{◌≡◌, ◌<◌, ◌∙◌, suc, ap, arith, length}
+use Rattle.std.proofs.lemmas.Result.{on_ok_weaker}
+use Rattle.mgn_world.specs.declared.stages.Deed.TheVariants.{Gather}
+use Rattle.mgn_params.specs.Tables.{Tables}
+use Rattle.mgn_world.specs.World.{does}
+use Rattle.mgn_world.specs.Worlds.{shown}
+use Rattle.mgn_world.proofs.Ran.{stepped_as}
+use Rattle.mgn_world.proofs.kept.Kept.step.Goals as goal
+
+pub returns-in-Gather-clause-next : goal.returns-in-Gather-clause-next
+returns-in-Gather-clause-next c =
+    let session : c.args.step.session ≡ suc c.in-Some.place = omega (arith, c.in-Some.ensures) in
+    let inside : c.in-Some.place < length c.args.self.now.stages.items = omega (arith, c.if-place-len.false, c.len.ensures, c.args.self.now.stages.ok) in
+    on_ok_weaker c.gather.result
+    (λ is. stepped_as (shown c.args.self.now) (shown c.gather.new.self) c.args.step c.in-Some.place (Gather c.in-Gather.set) session c.in-Gather.is inside
+    (is ∙ ap (λ (t : Tables). does (shown c.args.self.now) c.in-Some.place (Gather t)) c.in-Gather.set-is))
+    c.gather.ensures.step

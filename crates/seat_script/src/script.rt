@@ -1,0 +1,70 @@
+ghost use Rattle.std.specs.Prelude.{◌≡◌};
+
+use command_line::SetFile;
+use mgn_ledger::{DayImage, Image};
+use mgn_params::ParamSet;
+use mgn_seat::Seat;
+use mgn_service::{Gate, Service, Through};
+use mgn_session::{Conversation, Counted, run_lines};
+use mgn_slots::{SlotNames, Slots};
+use mgn_table::{SetTable, TableName};
+use spand_lib::{Fault, Folder};
+use std::io;
+use std::marker::Brand;
+use std::process::Abort;
+use std::rt::Files;
+use std::sync::Wait;
+
+/// How many entries a history has at most, each with a slot.
+const MOST_ENTRIES: usize = 1_000_000;
+
+/// How many workers share the units of a switch.
+const WORKERS: usize = 4;
+
+/// Answers standard input on standard output, to the end of the input, under the set of a file.
+pub(crate) fn run<R: Files + Input + Print + AllocGlobal + Wait + Abort>(
+    rt: &R,
+    file: &SetFile,
+) -> Result<(), Fault> {
+    let mut folder = Folder::new(rt, file.dir.as_str());
+    let first = spand_lib::read(rt.alloc(), &mut folder, file.set.as_str())?;
+    let slots = Slots::<DayImage>::new(rt.alloc(), MOST_ENTRIES)?;
+    let table = SetTable::new(rt.alloc())?;
+    answer::<_, Brand, _>(rt, &slots, &table, first.set, &mut folder)
+}
+
+fn answer<
+    T: Image,
+    J: TableName + SlotNames,
+    R: Files + Input + Print + AllocGlobal + Wait + Abort,
+>(
+    rt: &R,
+    slots: &Slots<T>,
+    table: &SetTable,
+    first: ParamSet,
+    folder: &mut Folder<'_, R>,
+) -> Result<(), Fault>
+    requires slots { slots.now ≡ J.slots }
+    requires table { table.now ≡ J.table }
+{
+    let service = Service::<T, J>::new(rt, rt.alloc(), slots, table, first, WORKERS)?;
+    talk(rt, &service, &Through, folder)
+}
+
+// The conversation of one seat.
+fn talk<
+    'a,
+    T: Image,
+    J: TableName + SlotNames,
+    G: Gate,
+    R: Files + Input + Print + AllocGlobal + Wait + Abort,
+>(rt: &R, service: &Service<'a, T, J>, gate: &G, folder: &mut Folder<'_, R>) -> Result<(), Fault> {
+    let pass = service.pass(rt).expect(rt, "the first of 16 passes");
+    let mut seat = Seat::new(rt, service, gate, pass);
+    let reader = Counted::new(rt.reader());
+    let writer = Counted::new(io::writer(rt));
+    let mut talk = Conversation::new(rt.alloc(), reader, writer);
+    run_lines(rt.alloc(), &mut talk, &mut seat, folder)
+        .map(|_| ())
+        .map_err(Fault::Session)
+}

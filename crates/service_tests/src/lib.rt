@@ -1,0 +1,5 @@
+//! Tests of sessions that share a book, on one thread and on several.
+#![tactic(auto)]
+
+#[cfg(test)]
+mod sessions;

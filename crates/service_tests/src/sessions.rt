@@ -1,0 +1,287 @@
+//! Sessions that share a book: replies worked out by hand, how often a desk was marked, and what an audit wants.
+
+ghost use Rattle.std.specs.Prelude.{◌≡◌};
+
+use mgn_ids::SessionNo;
+use mgn_ledger::{AuditFault, DayImage, Image, Pass};
+use mgn_params::ParamSet;
+use mgn_service::{Gate, Service, Through};
+use mgn_setfile::read_set;
+use mgn_slots::{SlotNames, Slots};
+use mgn_table::{SetTable, TableName};
+use mgn_wire::{Line, LineReply, read_line, reply_text};
+use std::alloc::Global;
+use std::marker::Brand;
+use std::process::Abort;
+use std::sync::Wait;
+use std::test::Fail;
+use std::thread::Threads;
+use worked_sets::{one, two};
+
+// How many workers share the units of a switch.
+const WORKERS: usize = 2;
+
+// A line, and the text that it is answered.
+type Answered = (&'static str, &'static str);
+
+// Makes the calls of some lines, and compares each answer.
+fn play<'a, R: Wait + Abort, T: Image, J: TableName + SlotNames, G: Gate>(
+    rt: &R,
+    alloc: Global,
+    service: &Service<'a, T, J>,
+    pass: &mut Pass<'a, T, J>,
+    gate: &G,
+    lines: &[Answered],
+) {
+    for (line, reply) in lines {
+        call(rt, alloc, service, pass, gate, line, reply);
+    }
+}
+
+fn call<'a, R: Wait + Abort, T: Image, J: TableName + SlotNames, G: Gate>(
+    rt: &R,
+    alloc: Global,
+    service: &Service<'a, T, J>,
+    pass: &mut Pass<'a, T, J>,
+    gate: &G,
+    line: &str,
+    reply: &str,
+) {
+    let Ok(Line::Do(command)) = read_line(line.as_bytes()) else {
+        panic!(rt; "{line} is no command")
+    };
+    let answer = service.exec(rt, pass, gate, &command);
+    let mut text = Vec::new(alloc);
+    assert!(rt; reply_text(&LineReply::Answered(answer), &mut text).is_ok());
+    assert!(rt; text.as_slice() == reply.as_bytes(), "at {line}");
+}
+
+// One account's orders, of which those that buy and those that sell do not cover one another.
+const ORDERS: [Answered; 14] = [
+    ("ORIGIN CUST GROSS", "OK 1\n"),
+    ("OPEN A1 CUST", "OK 2\n"),
+    ("POST A1 CASH 900", "OK 3\n"),
+    ("HOLD A1 1 AAA1 3 0", "OK 4\n"),
+    ("HOLD A1 2 AAA1 -3 0", "OK 5\n"),
+    ("ASK A1", "OK 6 0 900 900 900 0\n"),
+    ("RELEASE A1 2", "OK 7\n"),
+    ("ASK A1", "OK 8 0 900 900 900 0\n"),
+    ("HOLD A1 3 AAA1 -3 0", "OK 9\n"),
+    ("HOLD A1 4 AAA1 3 0", "ERR 10 30 NOROOM\n"),
+    ("RELEASE A1 3", "OK 11\n"),
+    ("ASK A1", "OK 12 0 900 900 900 0\n"),
+    ("END", "OK 13\n"),
+    ("HOLD A1 5 AAA1 1 0", "ERR 14 50 CLOSED\n"),
+];
+
+// The desk of a unit is kept from call to call, also over a refused order, and nothing is worked out in the book.
+fn keeps_its_desk<T: Image, J: TableName + SlotNames, R: Wait + Abort>(
+    rt: &R,
+    alloc: Global,
+    slots: &Slots<T>,
+    table: &SetTable,
+    first: ParamSet,
+) -> Result<(), Fail>
+    requires slots { slots.now ≡ J.slots }
+    requires table { table.now ≡ J.table }
+{
+    let service = Service::<T, J>::new(rt, alloc, slots, table, first, WORKERS)?;
+    let mut pass = service.pass(rt).ok_or("a pass")?;
+    play(rt, alloc, &service, &mut pass, &Through, &ORDERS);
+    assert!(rt; service.plain_count(rt) == 0 && service.mark_count() == 1);
+    let mut passes = Vec::new(alloc);
+    passes.push(pass)?;
+    assert!(rt; service.close(passes) == Ok(14));
+    Ok(())
+}
+
+#[test]
+fn a_desk_is_kept(rt: HostRuntime) -> Result<(), Fail> {
+    let set = read_set(rt.alloc(), one().as_bytes())?;
+    let slots = Slots::<DayImage>::new(rt.alloc(), 20)?;
+    let table = SetTable::new(rt.alloc())?;
+    keeps_its_desk::<_, Brand, _>(&rt, rt.alloc(), &slots, &table, set)
+}
+
+// A service before its first command.
+fn fresh<'a, R: Wait, T: Image, J: TableName + SlotNames>(
+    rt: &R,
+    alloc: Global,
+    slots: &'a Slots<T>,
+    table: &'a SetTable,
+) -> Result<Service<'a, T, J>, Fail>
+    requires slots { slots.now ≡ J.slots }
+    requires table { table.now ≡ J.table }
+{
+    let first = read_set(alloc, one().as_bytes())?;
+    Ok(Service::new(rt, alloc, slots, table, first, WORKERS)?)
+}
+
+fn sixteen<R: Wait + Abort, T: Image, J: TableName + SlotNames>(
+    rt: &R,
+    alloc: Global,
+    slots: &Slots<T>,
+    table: &SetTable,
+) -> Result<(), Fail>
+    requires slots { slots.now ≡ J.slots }
+    requires table { table.now ≡ J.table }
+{
+    let service = fresh::<_, T, J>(rt, alloc, slots, table)?;
+    let mut passes = Vec::new(alloc);
+    for _ in 0..16u8 {
+        passes.push(service.pass(rt).ok_or("a pass")?)?;
+    }
+    assert!(rt; service.pass(rt).is_none());
+    assert!(rt; service.close(passes) == Ok(0));
+    Ok(())
+}
+
+#[test]
+fn there_are_sixteen_passes(rt: HostRuntime) -> Result<(), Fail> {
+    let slots = Slots::<DayImage>::new(rt.alloc(), 20)?;
+    let table = SetTable::new(rt.alloc())?;
+    sixteen::<_, _, Brand>(&rt, rt.alloc(), &slots, &table)
+}
+
+// The first pass of another service, whose audit misses it.
+fn another_pass<'a, R: Wait + Abort, T: Image, J: TableName + SlotNames>(
+    rt: &R,
+    alloc: Global,
+    slots: &'a Slots<T>,
+    table: &'a SetTable,
+) -> Result<Pass<'a, T, J>, Fail>
+    requires slots { slots.now ≡ J.slots }
+    requires table { table.now ≡ J.table }
+{
+    let other = fresh::<_, T, J>(rt, alloc, slots, table)?;
+    let pass = other.pass(rt).ok_or("a pass")?;
+    assert!(rt; other.close(Vec::new(alloc)) == Err(AuditFault::Passes));
+    Ok(pass)
+}
+
+fn unmatched<R: Wait + Abort, T: Image, J: TableName + SlotNames>(
+    rt: &R,
+    alloc: Global,
+    slots: &Slots<T>,
+    table: &SetTable,
+) -> Result<(), Fail>
+    requires slots { slots.now ≡ J.slots }
+    requires table { table.now ≡ J.table }
+{
+    let service = fresh::<_, T, J>(rt, alloc, slots, table)?;
+    let mut pass = service.pass(rt).ok_or("a pass")?;
+    let lines = [("ORIGIN CUST GROSS", "OK 1\n")];
+    play(rt, alloc, &service, &mut pass, &Through, &lines);
+    let mut passes = Vec::new(alloc);
+    passes.push(another_pass(rt, alloc, slots, table)?)?;
+    let session = SessionNo::new(1);
+    assert!(rt; service.close(passes) == Err(AuditFault::Unmatched(session)));
+    Ok(())
+}
+
+#[test]
+fn an_audit_wants_its_own_passes(rt: HostRuntime) -> Result<(), Fail> {
+    let slots = Slots::<DayImage>::new(rt.alloc(), 20)?;
+    let table = SetTable::new(rt.alloc())?;
+    unmatched::<_, _, Brand>(&rt, rt.alloc(), &slots, &table)
+}
+
+// Switches to the set of a text, and compares the answer.
+fn switch<'a, R: Threads + Wait + Abort + Sync, T: Image, J: TableName + SlotNames>(
+    rt: &R,
+    alloc: Global,
+    service: &Service<'a, T, J>,
+    pass: &mut Pass<'a, T, J>,
+    file: &str,
+    reply: &str,
+) -> Result<(), Fail> {
+    let set = read_set(alloc, file.as_bytes())?;
+    let answer = service.switch(rt, pass, &Through, set);
+    let mut text = Vec::new(alloc);
+    assert!(rt; reply_text(&LineReply::Answered(answer), &mut text).is_ok());
+    assert!(rt; text.as_slice() == reply.as_bytes());
+    Ok(())
+}
+
+// Of the two lots each requires 300, and 600 under the other set.
+const BEFORE: [Answered; 4] = [
+    ("ORIGIN CUST GROSS", "OK 1\n"),
+    ("OPEN A1 CUST", "OK 2\n"),
+    ("POST A1 CASH 1000", "OK 3\n"),
+    ("TRADE A1 1 AAA1 2 0", "OK 4\n"),
+];
+
+fn two_sets<R: Threads + Wait + Abort + Sync, T: Image, J: TableName + SlotNames>(
+    rt: &R,
+    alloc: Global,
+    slots: &Slots<T>,
+    table: &SetTable,
+) -> Result<(), Fail>
+    requires slots { slots.now ≡ J.slots }
+    requires table { table.now ≡ J.table }
+{
+    let service = fresh::<_, T, J>(rt, alloc, slots, table)?;
+    let mut pass = service.pass(rt).ok_or("a pass")?;
+    play(rt, alloc, &service, &mut pass, &Through, &BEFORE);
+    switch(rt, alloc, &service, &mut pass, two(), "OK 5 1 1\n")?;
+    let under_two = [("ASK A1", "OK 6 1200 1200 1000 1000 -200\n")];
+    play(rt, alloc, &service, &mut pass, &Through, &under_two);
+    switch(rt, alloc, &service, &mut pass, two(), "OK 7 2 1\n")?;
+    switch(rt, alloc, &service, &mut pass, one(), "OK 8 3 0\n")?;
+    let after = [
+        ("ASK A1", "OK 9 600 600 1000 1000 400\n"),
+        ("TRADE A1 2 AAA1 -1 0", "OK 10\n"),
+    ];
+    play(rt, alloc, &service, &mut pass, &Through, &after);
+    assert!(rt; service.late_count(rt) == 0);
+    let mut passes = Vec::new(alloc);
+    passes.push(pass)?;
+    assert!(rt; service.close(passes) == Ok(10));
+    Ok(())
+}
+
+#[test]
+fn sets_come_into_force(rt: HostRuntime) -> Result<(), Fail> {
+    let slots = Slots::<DayImage>::new(rt.alloc(), 20)?;
+    let table = SetTable::new(rt.alloc())?;
+    two_sets::<_, _, Brand>(&rt, rt.alloc(), &slots, &table)
+}
+
+// One of two lots goes to another account, which is a unit of its own.
+const MOVED: [Answered; 9] = [
+    ("ORIGIN CUST GROSS", "OK 1\n"),
+    ("OPEN A1 CUST", "OK 2\n"),
+    ("POST A1 CASH 1000", "OK 3\n"),
+    ("TRADE A1 1 AAA1 2 0", "OK 4\n"),
+    ("ASK A1", "OK 5 600 600 1000 1000 400\n"),
+    ("OPEN A2 CUST", "OK 6\n"),
+    ("POST A2 CASH 300", "OK 7\n"),
+    ("MOVE 2 A1 A2 AAA1 1", "OK 8\n"),
+    ("TOTAL CUST", "OK 9 600 1300 0 2\n"),
+];
+
+fn two_units<R: Wait + Abort, T: Image, J: TableName + SlotNames>(
+    rt: &R,
+    alloc: Global,
+    slots: &Slots<T>,
+    table: &SetTable,
+) -> Result<(), Fail>
+    requires slots { slots.now ≡ J.slots }
+    requires table { table.now ≡ J.table }
+{
+    let service = fresh::<_, T, J>(rt, alloc, slots, table)?;
+    let mut pass = service.pass(rt).ok_or("a pass")?;
+    play(rt, alloc, &service, &mut pass, &Through, &MOVED);
+    assert!(rt; service.plain_count(rt) == 0 && service.mark_count() == 2);
+    let mut passes = Vec::new(alloc);
+    passes.push(pass)?;
+    assert!(rt; service.close(passes) == Ok(9));
+    Ok(())
+}
+
+#[test]
+fn a_lot_moves_between_units(rt: HostRuntime) -> Result<(), Fail> {
+    let slots = Slots::<DayImage>::new(rt.alloc(), 20)?;
+    let table = SetTable::new(rt.alloc())?;
+    two_units::<_, _, Brand>(&rt, rt.alloc(), &slots, &table)
+}

@@ -1,0 +1,3 @@
+-- What the program does with a set's file, and how it ends.
+pub mod Reading
+pub mod Status

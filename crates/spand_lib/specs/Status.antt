@@ -1,0 +1,38 @@
+-- Why the program ends early, and its exit status then.
+use Rattle.std.specs.Prelude.{ℕ}
+use Rattle.clap.specs.Values.{kind_of}
+use Rattle.clap.specs.declared.error.Error.{Error}
+use Rattle.clap.specs.declared.error.kind.ErrorKind.{ErrorKind}
+use Rattle.clap.specs.declared.error.kind.ErrorKind.TheVariants as kind
+use Rattle.mgn_session.specs.declared.source.SourceFault.{SourceFault}
+use Rattle.mgn_session.specs.declared.source.SourceFault.TheVariants as source
+use Rattle.spand_lib.specs.declared.fault.Fault.{Fault}
+use Rattle.spand_lib.specs.declared.fault.Fault.TheVariants.{Usage, NoSet, BadSet, BadRecord, Session, Output, Memory}
+
+-- of the command line: 0 where it asks for help or the version
+abbrev pub usage_status : ErrorKind → ℕ
+usage_status kind.DisplayHelp = 0
+usage_status kind.DisplayVersion = 0
+usage_status _ = 2
+
+abbrev pub status_of : Fault → ℕ
+status_of (Usage e) = usage_status (kind_of e)
+status_of NoSet = 3
+status_of (BadSet e) = 3
+status_of (BadRecord e) = 3
+status_of (Session e) = 4
+status_of Output = 4
+status_of Memory = 6
+
+-- what the command line's parser answers
+abbrev pub usage_by : ErrorKind → Error → Fault
+usage_by kind.OutOfMemory e = Memory
+usage_by _ e = Usage e
+
+abbrev pub usage : Error → Fault
+usage e = usage_by (kind_of e) e
+
+-- what a source answers that gives no file
+abbrev pub of_source : SourceFault → Fault
+of_source source.Memory = Memory
+of_source _ = NoSet

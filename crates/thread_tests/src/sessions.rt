@@ -1,0 +1,319 @@
+//! Sessions on two threads: replies and figures worked out by hand. Each test says by its gate what happens while a call is
+//! under way, and none rests on a schedule.
+
+ghost use Rattle.std.specs.Prelude.{◌≡◌};
+
+use crate::meeting::Meeting;
+use crate::player::{Deed, Player, play_all};
+use mgn_ledger::{DayImage, Image, Pass};
+use mgn_service::{Point, Service};
+use mgn_setfile::read_set;
+use mgn_slots::{SlotNames, Slots};
+use mgn_table::{SetTable, TableName};
+use mgn_wire::{Line, read_line};
+use std::alloc::Global;
+use std::marker::Brand;
+use std::process::Abort;
+use std::sync::Wait;
+use std::test::Fail;
+use std::thread::Threads;
+use std::time::Clock;
+use worked_sets::{one, two};
+
+/// How many workers share the units of a switch.
+const WORKERS: usize = 2;
+
+/// What two sessions do at the same time; calls of the first that come to a point are kept there until so many have come.
+struct Scene {
+    first: &'static [Deed],
+    second: &'static [Deed],
+    point: Point,
+    wanted: u64,
+}
+
+/// What came of it: what both were told, how many units were worked out in the book for a command and for a switch, and how
+/// many entries the history has.
+#[derive(Drop)]
+struct Played {
+    first: Vec<u8>,
+    second: Vec<u8>,
+    plain: u64,
+    late: u64,
+    entries: u64,
+}
+
+fn player<'s, 'm, 'r, 'a, R: Wait + Clock, T: Image, J: TableName + SlotNames>(
+    alloc: Global,
+    service: &'s Service<'a, T, J>,
+    meeting: &'m Meeting<'r, R>,
+    deeds: &'static [Deed],
+) -> Result<Player<'s, 'm, 'r, 'a, R, T, J>, Fail> {
+    let pass = service.pass(meeting.rt()).ok_or("a pass")?;
+    Ok(Player {
+        alloc,
+        service,
+        meeting,
+        pass,
+        deeds,
+        told: Vec::new(alloc),
+    })
+}
+
+/// A session's pass and what it was told.
+#[derive(Drop)]
+struct Ended<'a, T: Image, J: TableName + SlotNames> {
+    pass: Pass<'a, T, J>,
+    told: Vec<u8>,
+}
+
+// Both sessions, on threads of their own.
+fn play<
+    'a,
+    R: Threads + Wait + Clock + Abort + Sync,
+    T: Image + Send + Sync,
+    J: TableName + SlotNames + Send + Sync,
+>(
+    rt: &R,
+    alloc: Global,
+    service: &Service<'a, T, J>,
+    meeting: &Meeting<'_, R>,
+    scene: &Scene,
+) -> Result<Vec<Ended<'a, T, J>>, Fail> {
+    let mut players = Vec::with_capacity(alloc, 2)?;
+    players.push(player(alloc, service, meeting, scene.first)?)?;
+    players.push(player(alloc, service, meeting, scene.second)?)?;
+    play_all(rt, players.as_mut_slice());
+    assert!(rt; !meeting.is_missed());
+    let mut ended = Vec::with_capacity(alloc, 2)?;
+    for one in players {
+        ended.push(Ended {
+            pass: one.pass,
+            told: one.told,
+        })?;
+    }
+    Ok(ended)
+}
+
+fn stage<
+    R: Threads + Wait + Clock + Abort + Sync,
+    T: Image + Send + Sync,
+    J: TableName + SlotNames + Send + Sync,
+>(rt: &R, alloc: Global, slots: &Slots<T>, table: &SetTable, scene: &Scene) -> Result<Played, Fail>
+    requires slots { slots.now ≡ J.slots }
+    requires table { table.now ≡ J.table }
+{
+    let set = read_set(alloc, one().as_bytes())?;
+    let service = Service::<T, J>::new(rt, alloc, slots, table, set, WORKERS)?;
+    let meeting = Meeting::new(rt, 1, scene.point, scene.wanted);
+    let players = play(rt, alloc, &service, &meeting, scene)?;
+    end(rt, alloc, service, players)
+}
+
+// Closes the service.
+fn end<'a, R: Wait, T: Image, J: TableName + SlotNames>(
+    rt: &R,
+    alloc: Global,
+    service: Service<'a, T, J>,
+    players: Vec<Ended<'a, T, J>>,
+) -> Result<Played, Fail> {
+    let plain = service.plain_count(rt);
+    let late = service.late_count(rt);
+    let mut passes = Vec::with_capacity(alloc, players.len())?;
+    let mut told = Vec::with_capacity(alloc, players.len())?;
+    for player in players {
+        passes.push(player.pass)?;
+        told.push(player.told)?;
+    }
+    let entries = service.close(passes).ok().ok_or("an audit")?;
+    let second = told.pop().ok_or("the second session")?;
+    let first = told.pop().ok_or("the first session")?;
+    Ok(Played {
+        first,
+        second,
+        plain,
+        late,
+        entries,
+    })
+}
+
+// Plays a scene over 20 slots.
+fn staged<R: Threads + Wait + Clock + Abort + Sync>(
+    rt: &R,
+    alloc: Global,
+    scene: &Scene,
+) -> Result<Played, Fail> {
+    let slots = Slots::<DayImage>::new(alloc, 20)?;
+    let table = SetTable::new(alloc)?;
+    stage::<_, _, Brand>(rt, alloc, &slots, &table, scene)
+}
+
+// Each of two orders requires 600 of 1,000, so there is room for one of them.
+const ROOM_FOR_ONE: Scene = Scene {
+    first: &[
+        Deed::Call("ORIGIN CUST GROSS"),
+        Deed::Call("OPEN A1 CUST"),
+        Deed::Call("POST A1 CASH 1000"),
+        Deed::Come,
+        Deed::Call("HOLD A1 1 AAA1 2 0"),
+    ],
+    second: &[Deed::Await(1), Deed::Call("HOLD A1 2 AAA1 2 0")],
+    point: Point::Prepared,
+    wanted: 0,
+};
+
+#[test]
+fn of_two_orders_at_once_one_has_room(rt: HostRuntime) -> Result<(), Fail> {
+    let played = staged(&rt, rt.alloc(), &ROOM_FOR_ONE)?;
+    let first = played.first.as_slice();
+    let second = played.second.as_slice();
+    let first_wins = first == "OK 1\nOK 2\nOK 3\nOK 4\n".as_bytes()
+        && second == "ERR 5 30 NOROOM\n".as_bytes();
+    let second_wins = first == "OK 1\nOK 2\nOK 3\nERR 5 30 NOROOM\n".as_bytes()
+        && second == "OK 4\n".as_bytes();
+    assert!(&rt; first_wins || second_wins);
+    assert!(&rt; played.plain == 0 && played.entries == 5);
+    Ok(())
+}
+
+// An order is looked at under one set, and committed under the next, where there is no room for it.
+const SWITCH_BETWEEN: Scene = Scene {
+    first: &[
+        Deed::Call("ORIGIN CUST GROSS"),
+        Deed::Call("OPEN A1 CUST"),
+        Deed::Call("POST A1 CASH 600"),
+        Deed::Call("HOLD A1 1 AAA1 2 0"),
+    ],
+    second: &[Deed::Await(1), Deed::Switch, Deed::Come],
+    point: Point::Applied,
+    wanted: 2,
+};
+
+#[test]
+fn a_set_comes_into_force_beside_an_order(rt: HostRuntime) -> Result<(), Fail> {
+    let played = staged(&rt, rt.alloc(), &SWITCH_BETWEEN)?;
+    assert!(&rt; played.first.as_slice() == "OK 1\nOK 2\nOK 3\nERR 5 30 NOROOM\n".as_bytes());
+    assert!(&rt; played.second.as_slice() == "OK 4 1 0\n".as_bytes());
+    assert!(&rt; played.plain == 0 && played.late == 0 && played.entries == 5);
+    Ok(())
+}
+
+// While a lot is entered in one unit, another is in another one.
+const TWO_UNITS: Scene = Scene {
+    first: &[
+        Deed::Call("ORIGIN CUST GROSS"),
+        Deed::Call("OPEN A1 CUST"),
+        Deed::Call("OPEN A2 CUST"),
+        Deed::Call("TRADE A1 1 AAA1 1 0"),
+    ],
+    second: &[
+        Deed::Await(1),
+        Deed::Call("TRADE A2 1 AAA1 1 0"),
+        Deed::Come,
+    ],
+    point: Point::Applied,
+    wanted: 2,
+};
+
+#[test]
+fn commands_of_two_units_overlap(rt: HostRuntime) -> Result<(), Fail> {
+    let played = staged(&rt, rt.alloc(), &TWO_UNITS)?;
+    assert!(&rt; played.first.as_slice() == "OK 1\nOK 2\nOK 3\nOK 5\n".as_bytes());
+    assert!(&rt; played.second.as_slice() == "OK 4\n".as_bytes());
+    assert!(&rt; played.plain == 0 && played.entries == 5);
+    Ok(())
+}
+
+// A unit gets a lot after its nets were gathered for a switch.
+const LATE_LOT: Scene = Scene {
+    first: &[
+        Deed::Call("ORIGIN CUST GROSS"),
+        Deed::Call("OPEN A1 CUST"),
+        Deed::Call("POST A1 CASH 1000"),
+        Deed::Call("TRADE A1 1 AAA1 2 0"),
+        Deed::Switch,
+        Deed::Call("ASK A1"),
+    ],
+    second: &[
+        Deed::Await(1),
+        Deed::Call("TRADE A1 2 AAA1 1 0"),
+        Deed::Come,
+    ],
+    point: Point::Prepared,
+    wanted: 2,
+};
+
+#[test]
+fn a_late_lot_is_worked_out_at_the_switch(rt: HostRuntime) -> Result<(), Fail> {
+    let played = staged(&rt, rt.alloc(), &LATE_LOT)?;
+    assert!(&rt;
+        played.first.as_slice()
+            == "OK 1\nOK 2\nOK 3\nOK 4\nOK 6 1 1\nOK 7 1800 1800 1000 1000 -800\n".as_bytes()
+    );
+    assert!(&rt; played.second.as_slice() == "OK 5\n".as_bytes());
+    assert!(&rt; played.plain == 0 && played.late == 1 && played.entries == 7);
+    Ok(())
+}
+
+// A lot comes and goes: the unit's nets are those again that were gathered.
+const LOT_COMES_AND_GOES: Scene = Scene {
+    first: &[
+        Deed::Call("ORIGIN CUST GROSS"),
+        Deed::Call("OPEN A1 CUST"),
+        Deed::Call("TRADE A1 1 AAA1 2 0"),
+        Deed::Switch,
+    ],
+    second: &[
+        Deed::Await(1),
+        Deed::Call("TRADE A1 2 AAA1 1 0"),
+        Deed::Call("BUST A1 2"),
+        Deed::Come,
+    ],
+    point: Point::Prepared,
+    wanted: 2,
+};
+
+#[test]
+fn nets_that_are_the_same_again_are_not_late(rt: HostRuntime) -> Result<(), Fail> {
+    let played = staged(&rt, rt.alloc(), &LOT_COMES_AND_GOES)?;
+    assert!(&rt; played.first.as_slice() == "OK 1\nOK 2\nOK 3\nOK 6 1 1\n".as_bytes());
+    assert!(&rt; played.second.as_slice() == "OK 4\nOK 5\n".as_bytes());
+    assert!(&rt; played.plain == 0 && played.late == 0 && played.entries == 6);
+    Ok(())
+}
+
+// Two units, each prepared by a worker that waits for the other.
+fn switch_by_workers<R: Threads + Wait + Clock + Abort + Sync, T: Image, J: TableName + SlotNames>(
+    rt: &R,
+    alloc: Global,
+    slots: &Slots<T>,
+    table: &SetTable,
+) -> Result<(), Fail>
+    requires slots { slots.now ≡ J.slots }
+    requires table { table.now ≡ J.table }
+{
+    let set = read_set(alloc, one().as_bytes())?;
+    let service = Service::<T, J>::new(rt, alloc, slots, table, set, WORKERS)?;
+    let mut pass = service.pass(rt).ok_or("a pass")?;
+    let meeting = Meeting::new(rt, 1, Point::Preparing, 2);
+    for line in ["ORIGIN CUST GROSS", "OPEN A1 CUST", "OPEN A2 CUST"] {
+        if let Ok(Line::Do(command)) = read_line(line.as_bytes()) {
+            assert!(rt;
+                service
+                    .exec(rt, &mut pass, &meeting, &command)
+                    .place
+                    .is_some()
+            );
+        }
+    }
+    let answer = service.switch(rt, &mut pass, &meeting, read_set(alloc, two().as_bytes())?);
+    assert!(rt; answer.place == Some(4) && !meeting.is_missed());
+    assert!(rt; service.late_count(rt) == 0);
+    Ok(())
+}
+
+#[test]
+fn workers_of_a_switch_overlap(rt: HostRuntime) -> Result<(), Fail> {
+    let slots = Slots::<DayImage>::new(rt.alloc(), 20)?;
+    let table = SetTable::new(rt.alloc())?;
+    switch_by_workers::<_, _, Brand>(&rt, rt.alloc(), &slots, &table)
+}

@@ -1,0 +1,13 @@
+-- Lemmas of the laws.
+pub mod Places
+pub mod Turning
+pub mod Once
+pub mod Skipping
+pub mod Taking
+pub mod Calling
+pub mod Committing
+pub mod Marking
+pub mod Ending
+pub mod Filling
+pub mod Passing
+pub mod Alone
