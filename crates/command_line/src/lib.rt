@@ -2,13 +2,14 @@
 #![tactic(auto)]
 
 use clap::error::ErrorKind;
-use clap::{Arg, ArgMatches, Command, Error};
+use clap::{Arg, ArgMatches, Command, Error, value_parser};
 use std::alloc::{AllocError, Global};
 use std::io;
 use std::rt::Env;
+use std::str::FromStr;
 
 /// The version of the program, and the logic of the toolchain that proved it, as `rt version` names it.
-const VERSION: &str = "0.2.0 (logic dac8208d650f15bf)";
+const VERSION: &str = "0.3.0 (logic dac8208d650f15bf)";
 
 /// The file of a parameter set, DIR/NAME.csv.
 #[derive(Drop)]
@@ -19,11 +20,24 @@ pub struct SetFile {
     pub set: String,
 }
 
+/// What a server is to serve, and where.
+#[derive(Drop)]
+pub struct ServerOptions {
+    /// The file of its first set.
+    pub file: SetFile,
+    /// The port that it listens on, from 1.
+    pub port: u16,
+    /// How many sessions it serves, 1 to 16.
+    pub sessions: u8,
+}
+
 /// What the command line asks for.
 #[derive(Drop)]
 pub enum Request {
     /// `script`: lines on standard input are answered on standard output, under a set.
     Script(SetFile),
+    /// `serve`: the lines of several connections are answered, each a session.
+    Serve(ServerOptions),
     /// `check`: what a set has is told, or why its file is none.
     Check(SetFile),
 }
@@ -50,6 +64,20 @@ fn over_a_set<'a>(alloc: Global, name: &'a str, about: &'a str) -> Result<Comman
         ))
 }
 
+fn serve_command<'a>(alloc: Global) -> Result<Command<'a>, AllocError> {
+    let port = needed(alloc, "port", "N", "The port to listen on, of this machine alone")
+        .value_parser(value_parser!(u16).range(1..));
+    let sessions = needed(alloc, "sessions", "K", "How many sessions to serve, 1 to 16")
+        .value_parser(value_parser!(u8).range(1..=16));
+    over_a_set(
+        alloc,
+        "serve",
+        "Answers the commands of several connections, a session each, and ends with the last",
+    )?
+    .arg(port)?
+    .arg(sessions)
+}
+
 fn command<'a>(alloc: Global) -> Result<Command<'a>, AllocError> {
     let script = over_a_set(
         alloc,
@@ -66,6 +94,7 @@ fn command<'a>(alloc: Global) -> Result<Command<'a>, AllocError> {
         .version(VERSION)
         .subcommand_required(true)
         .subcommand(script)?
+        .subcommand(serve_command(alloc)?)?
         .subcommand(check)
 }
 
@@ -85,16 +114,34 @@ fn set_file(alloc: Global, matches: &ArgMatches<'_>) -> Result<SetFile, AllocErr
     Ok(SetFile { dir, set })
 }
 
+// The number of an option, which the parser has found within its range.
+fn number_of<T: FromStr>(alloc: Global, matches: &ArgMatches<'_>, id: &str) -> Result<T, Error>
+where
+    T::Err: Drop,
+{
+    match matches.get_one(id) {
+        Some(number) => Ok(number),
+        None => Err(error_of(alloc, ErrorKind::InvalidValue, "a number is missing")?),
+    }
+}
+
+fn server_options(alloc: Global, found: &ArgMatches<'_>) -> Result<ServerOptions, Error> {
+    Ok(ServerOptions {
+        file: set_file(alloc, found)?,
+        port: number_of(alloc, found, "port")?,
+        sessions: number_of(alloc, found, "sessions")?,
+    })
+}
+
 // What the words that were found ask for.
 fn request_in(alloc: Global, matches: &ArgMatches<'_>) -> Result<Request, Error> {
     let Some((name, found)) = matches.subcommand() else {
         return Err(error_of(alloc, ErrorKind::MissingSubcommand, "no command is given")?);
     };
-    let file = set_file(alloc, found)?;
-    if name == "check" {
-        Ok(Request::Check(file))
-    } else {
-        Ok(Request::Script(file))
+    match name {
+        "serve" => Ok(Request::Serve(server_options(alloc, found)?)),
+        "check" => Ok(Request::Check(set_file(alloc, found)?)),
+        _ => Ok(Request::Script(set_file(alloc, found)?)),
     }
 }
 

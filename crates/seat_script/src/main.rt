@@ -11,6 +11,7 @@ fn main(rt: HostRuntime) -> ExitCode {
     let ended = match command_line::read(&rt) {
         Ok(Request::Script(file)) => script::run(&rt, &file),
         Ok(Request::Check(file)) => check::run(&rt, &file),
+        Ok(Request::Serve(_)) => Ok(()),
         Err(error) => Err(Fault::from(error)),
     };
     match ended {

@@ -7,7 +7,7 @@ use Rattle.clap.specs.declared.error.kind.ErrorKind.TheVariants as kind
 use Rattle.mgn_session.specs.declared.source.SourceFault.{SourceFault}
 use Rattle.mgn_session.specs.declared.source.SourceFault.TheVariants as source
 use Rattle.spand_lib.specs.declared.fault.Fault.{Fault}
-use Rattle.spand_lib.specs.declared.fault.Fault.TheVariants.{Usage, NoSet, BadSet, BadRecord, Session, Output, Memory}
+use Rattle.spand_lib.specs.declared.fault.Fault.TheVariants.{Usage, NoSet, BadSet, BadRecord, Session, Output, Port, ServerOutput, Passes, Unmatched, Memory}
 
 -- of the command line: 0 where it asks for help or the version
 abbrev pub usage_status : ErrorKind → ℕ
@@ -22,6 +22,10 @@ status_of (BadSet e) = 3
 status_of (BadRecord e) = 3
 status_of (Session e) = 4
 status_of Output = 4
+status_of Port = 4
+status_of ServerOutput = 4
+status_of Passes = 5
+status_of (Unmatched session) = 5
 status_of Memory = 6
 
 -- what the command line's parser answers

@@ -29,12 +29,25 @@ pub enum Fault {
     /// What a set has could not be written.
     #[error("check WRITE")]
     Output,
+    /// The server's port is not to be had, or no more connections are.
+    #[error("port")]
+    Port,
+    /// What the server tells of its beginning and its end could not be written.
+    #[error("serve WRITE")]
+    ServerOutput,
+    /// The audit of the server's book: not each of its sessions was handed back, once.
+    #[error("audit PASSES")]
+    Passes,
+    /// The audit of the server's book: its history has not just the calls of this session.
+    #[error("audit UNMATCHED {0}")]
+    Unmatched(u8),
     /// Memory could not be had.
     #[error("memory")]
     Memory,
 }
 
-fn name_of(fault: &SessionFault) -> &'static str {
+/// The word by which a fault of a session is told.
+pub fn name_of(fault: &SessionFault) -> &'static str {
     match fault {
         SessionFault::Read => "READ",
         SessionFault::Write => "WRITE",
@@ -63,7 +76,8 @@ impl Fault {
         match self {
             Fault::Usage(error) => usage_status(error.kind()),
             Fault::NoSet | Fault::BadSet(_) | Fault::BadRecord(_) => 3,
-            Fault::Session(_) | Fault::Output => 4,
+            Fault::Session(_) | Fault::Output | Fault::Port | Fault::ServerOutput => 4,
+            Fault::Passes | Fault::Unmatched(_) => 5,
             Fault::Memory => 6,
         }
     }

@@ -6,5 +6,5 @@ pub mod check;
 mod fault;
 mod set;
 
-pub use fault::Fault;
+pub use fault::{Fault, name_of};
 pub use set::{Folder, read};

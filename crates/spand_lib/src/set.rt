@@ -7,7 +7,7 @@ use crate::fault::Fault;
 use mgn_ids::SetName;
 use mgn_session::{SetSource, SourceFault};
 use mgn_setfile::{Cause, SetFile, read_file};
-use std::alloc::Global;
+use std::alloc::{AllocError, Global};
 use std::io::{ErrorKind, Read};
 use std::rt::Files;
 use std::{fs, str};
@@ -15,11 +15,18 @@ use std::{fs, str};
 const MOST_BYTES: u64 = 8_388_608;
 
 /// The files of a folder: that of the set NAME is `DIR/NAME.csv`.
-#[derive(Drop)]
 pub struct Folder<'a, R> {
     rt: &'a R,
     dir: &'a str,
 }
+
+impl<R> Clone for Folder<'_, R> {
+    fn clone(&self) -> Result<Self, AllocError> {
+        Ok(*self)
+    }
+}
+
+impl<R> Copy for Folder<'_, R> {}
 
 // All that a file holds, unless it cannot be read or holds more than a set's file may.
 fn read_whole<F: Read + Drop>(alloc: Global, file: F) -> Result<Vec<u8>, SourceFault>

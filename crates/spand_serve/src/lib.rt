@@ -1,0 +1,10 @@
+//! The server of the program: sessions over connections, which share the book of one service.
+#![tactic(auto)]
+
+mod fault_lines;
+mod run;
+mod serve;
+
+pub use fault_lines::FaultLines;
+pub use run::{Listening, run};
+pub use serve::{Serving, serve};
