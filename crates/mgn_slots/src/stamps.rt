@@ -1,17 +1,17 @@
 ghost use Rattle.std.specs.Prelude.{◌≡◌, ◌<◌, ◌≤◌, ◌+◌, ◌-◌, ◌++◌, ◌∷◌, ◌↔◌, [], false, length, slice_index_or, IfOk, IfErr, IfSome, OnErr, OnOk, IsTrue};
 
 use crate::slots::{SlotNames, Slots};
+use boxcar::slot::Written;
 use std::alloc::{AllocError, Global};
 use std::marker::{Model, PhantomData};
-use std::sync::OnceToken;
 
 /// Shows what the slot of a place was given. It takes 8 bytes, whatever the value. Contracts see the place, which counts from
 /// 1, and the value.
 #[derive(Drop)]
 pub struct Stamp<'a, T, J: SlotNames> {
     place: usize,
-    token: OnceToken<'a, T>,
-    of: PhantomData<J>,
+    token: Written<T>,
+    of: PhantomData<(&'a (), J)>,
 }
 
 impl<'a, T, J: SlotNames> Model for Stamp<'a, T, J> {
@@ -59,7 +59,7 @@ impl<'a, T: Drop, J: SlotNames> Stamp<'a, T, J> {
 #[derive(Drop)]
 pub struct Stamps<'a, T, J: SlotNames> {
     slots: &'a Slots<T>,
-    tokens: Vec<OnceToken<'a, T>>,
+    tokens: Vec<Written<T>>,
     of: PhantomData<J>,
 }
 
@@ -138,7 +138,7 @@ impl<'a, T: Drop, J: SlotNames> Stamps<'a, T, J> {
         ensures same { OnErr result (self.new ≡ self.old) }
     {
         let count = self.tokens.len();
-        let token = self.slots.at(count).try_set(value)?;
+        let token = self.slots.at(count).set_written(value)?;
         self.tokens.push_reserved(token.again());
         Ok(Stamp {
             place: count + 1,
