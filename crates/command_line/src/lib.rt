@@ -65,10 +65,20 @@ fn over_a_set<'a>(alloc: Global, name: &'a str, about: &'a str) -> Result<Comman
 }
 
 fn serve_command<'a>(alloc: Global) -> Result<Command<'a>, AllocError> {
-    let port = needed(alloc, "port", "N", "The port to listen on, of this machine alone")
-        .value_parser(value_parser!(u16).range(1..));
-    let sessions = needed(alloc, "sessions", "K", "How many sessions to serve, 1 to 16")
-        .value_parser(value_parser!(u8).range(1..=16));
+    let port = needed(
+        alloc,
+        "port",
+        "N",
+        "The port to listen on, of this machine alone",
+    )
+    .value_parser(value_parser!(u16).range(1..));
+    let sessions = needed(
+        alloc,
+        "sessions",
+        "K",
+        "How many sessions to serve, 1 to 16",
+    )
+    .value_parser(value_parser!(u8).range(1..=16));
     over_a_set(
         alloc,
         "serve",

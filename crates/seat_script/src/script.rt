@@ -32,11 +32,7 @@ pub(crate) fn run<R: Files + Input + Print + AllocGlobal + Wait>(
     answer::<_, Brand, _>(rt, &slots, &table, first.set, &mut folder)
 }
 
-fn answer<
-    T: Image,
-    J: TableName + SlotNames,
-    R: Files + Input + Print + AllocGlobal + Wait,
->(
+fn answer<T: Image, J: TableName + SlotNames, R: Files + Input + Print + AllocGlobal + Wait>(
     rt: &R,
     slots: &Slots<T>,
     table: &SetTable,

@@ -36,7 +36,12 @@ pub struct Listening {
 /// Serves sessions over connections under the set of a file, where that was read, and returns once all of them have ended. Each has its further sets
 /// from a copy of the source. `READY` and `AUDIT` go to standard output, the faults of sessions to the other writer.
 pub fn run<
-    R: Threads + Wait + Net<Listener = TcpListener, Stream = TcpStream> + Print + AllocGlobal + Sync,
+    R: Threads
+        + Wait
+        + Net<Listener = TcpListener, Stream = TcpStream>
+        + Print
+        + AllocGlobal
+        + Sync,
     S: SetSource + Copy + Send + Drop,
     W: Write + Send + Drop,
 >(
@@ -63,7 +68,12 @@ fn copies<S: Copy + Drop>(alloc: Global, source: S, count: u8) -> Result<Vec<S>,
 }
 
 fn over<
-    R: Threads + Wait + Net<Listener = TcpListener, Stream = TcpStream> + Print + AllocGlobal + Sync,
+    R: Threads
+        + Wait
+        + Net<Listener = TcpListener, Stream = TcpStream>
+        + Print
+        + AllocGlobal
+        + Sync,
     T: Image + Send + Sync,
     J: TableName + SlotNames + Send + Sync,
     S: SetSource + Copy + Send + Drop,
