@@ -3,7 +3,7 @@ ghost use Rattle.std.specs.Prelude.{◌≡◌};
 use mgn_ledger::{Image, Pass};
 use mgn_machine::{Answer, Command};
 use mgn_params::ParamSet;
-use mgn_service::{Gate, Service};
+use mgn_service::{Gate, Service, Workers};
 use mgn_session::Exec;
 use mgn_slots::SlotNames;
 use mgn_table::TableName;
@@ -17,6 +17,7 @@ pub struct Seat<'s, 'a, R: Wait, T: Image, J: TableName + SlotNames, G: Gate> {
     service: &'s Service<'a, T, J>,
     gate: &'s G,
     pass: Pass<'a, T, J>,
+    workers: Option<&'s Workers>,
 }
 
 impl<'s, 'a, R: Wait, T: Image, J: TableName + SlotNames, G: Gate> Model
@@ -29,7 +30,7 @@ impl<'s, 'a, R: Wait, T: Image, J: TableName + SlotNames, G: Gate> Model
 }
 
 impl<'s, 'a, R: Wait, T: Image, J: TableName + SlotNames, G: Gate> Seat<'s, 'a, R, T, J, G> {
-    /// The seat of a pass of this service, whose calls pass the gate.
+    /// The seat of a pass of this service, whose calls pass the gate. It works switches out by itself.
     pub fn new(
         rt: &'s R,
         service: &'s Service<'a, T, J>,
@@ -43,7 +44,16 @@ impl<'s, 'a, R: Wait, T: Image, J: TableName + SlotNames, G: Gate> Seat<'s, 'a, 
             service,
             gate,
             pass,
+            workers: None,
         }
+    }
+
+    /// The same seat, with these workers for its switches.
+    pub fn with_workers(mut self, workers: &'s Workers) -> Seat<'s, 'a, R, T, J, G>
+        ensures { result ≡ self.entry }
+    {
+        self.workers = Some(workers);
+        self
     }
 
     /// The pass, for the service's audit.
@@ -55,13 +65,13 @@ impl<'s, 'a, R: Wait, T: Image, J: TableName + SlotNames, G: Gate> Seat<'s, 'a, 
             service: _,
             gate: _,
             pass,
+            workers: _,
         } = self;
         pass
     }
 }
 
-/// A switch is worked out on the session's own thread: the bounds of a block tell its methods of this thread alone, so none of
-/// them can hand the gate on to others. What is answered with a place stands last in the pass's transcript. Whether the history is full or the service closed only
+/// What is answered with a place stands last in the pass's transcript. Whether the history is full or the service closed only
 /// the service knows, since other sessions use it too; so either may be answered at any time.
 impl<'s, 'a, R: Wait, T: Image, J: TableName + SlotNames, G: Gate> Exec
     for Seat<'s, 'a, R, T, J, G> {
@@ -82,7 +92,15 @@ impl<'s, 'a, R: Wait, T: Image, J: TableName + SlotNames, G: Gate> Exec
     }
 
     fn switch(&mut self, set: ParamSet) -> Answer {
-        self.service
-            .switch_alone(self.rt, &mut self.pass, self.gate, set)
+        match self.workers {
+            Some(workers) => {
+                self.service
+                    .switch_by(self.rt, &mut self.pass, self.gate, workers, set)
+            }
+            None => {
+                self.service
+                    .switch_alone(self.rt, &mut self.pass, self.gate, set)
+            }
+        }
     }
 }

@@ -26,14 +26,21 @@ impl Gate for Through {
     fn at(&self, _point: Point, _session: SessionNo) {}
 }
 
-// What is passed before each unit of a session's switch.
+/// What is passed before each unit of a session's switch: its gate, which is told `Preparing`.
 #[derive(Drop)]
-pub(crate) struct WorkersGate<'g, G: Gate> {
-    pub(crate) gate: &'g G,
-    pub(crate) session: SessionNo,
+pub struct SessionGate<'g, G: Gate> {
+    gate: &'g G,
+    session: SessionNo,
 }
 
-impl<'g, G: Gate> UnitGate for WorkersGate<'g, G> {
+impl<'g, G: Gate> SessionGate<'g, G> {
+    /// The gate of a session.
+    pub fn new(gate: &'g G, session: SessionNo) -> SessionGate<'g, G> {
+        SessionGate { gate, session }
+    }
+}
+
+impl<'g, G: Gate> UnitGate for SessionGate<'g, G> {
     fn before(&self, _unit: usize) {
         self.gate.at(Point::Preparing, self.session);
     }

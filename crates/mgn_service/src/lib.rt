@@ -11,8 +11,10 @@ mod sight;
 mod transfers;
 mod unit_desk;
 mod units;
+mod workers;
 
-pub use gate::{Gate, Point, Through};
+pub use gate::{Gate, Point, SessionGate, Through};
 pub use service::Service;
 pub use sight::Sight;
 pub use unit_desk::UnitDesk;
+pub use workers::{Marking, Workers};

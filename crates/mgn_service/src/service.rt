@@ -8,11 +8,12 @@ ghost use Rattle.mgn_ledger.specs.Passes.{AreAudited, fresh};
 ghost use Rattle.mgn_service.specs.Commits.{Begins, Tries};
 
 use crate::commits::{Decided, commit};
-use crate::gate::{Gate, Point, WorkersGate};
+use crate::gate::{Gate, Point, SessionGate};
 use crate::looks::{Looked, look};
 use crate::sight::Sight;
 use crate::unit_desk::UnitDesk;
 use crate::units::{Units, units_of};
+use crate::workers::Workers;
 use mgn_ids::SessionNo;
 use mgn_ledger::{AuditFault, Gathered, Image, Ledger, Pass};
 use mgn_machine::{Answer, Command, Refusal, Reply};
@@ -169,6 +170,24 @@ impl<'a, T: Image, J: TableName + SlotNames> Service<'a, T, J> {
         self.enter_switch(rt, pass, gate, set, &prepared)
     }
 
+    /// The same, by workers that are lent.
+    #[inline(never)]
+    pub fn switch_by<R: Wait, G: Gate>(
+        &self,
+        rt: &R,
+        pass: &mut Pass<'a, T, J>,
+        gate: &G,
+        workers: &Workers,
+        set: ParamSet,
+    ) -> Answer
+        ensures { Answers pass.old (Switch set) result pass.new }
+    {
+        let Ok(prepared) = self.prepare_by(rt, pass.session(), workers, &set) else {
+            return Answer::refused(Refusal::Memory);
+        };
+        self.enter_switch(rt, pass, gate, set, &prepared)
+    }
+
     /// The same, where the caller works out alone what units require, with no thread started.
     #[inline(never)]
     pub fn switch_alone<R: Wait, G: Gate>(
@@ -221,8 +240,28 @@ impl<'a, T: Image, J: TableName + SlotNames> Service<'a, T, J> {
             nets,
             entries,
         } = gathered;
-        let gate = WorkersGate { gate, session };
+        let gate = SessionGate::new(gate, session);
         let units = mark_all(rt, self.alloc, old, set, nets, self.workers, &gate)?;
+        Ok(Prepared { units, entries })
+    }
+
+    // The same, by workers that are lent.
+    fn prepare_by<R: Wait>(
+        &self,
+        rt: &R,
+        session: SessionNo,
+        workers: &Workers,
+        set: &ParamSet,
+    ) -> Result<Prepared, AllocError>
+        ensures { IfOk result (λ prepared. ArePrepared set.now prepared.units.items) }
+    {
+        let gathered = self.ledger.lock(rt).gather(self.alloc)?;
+        let Gathered {
+            set: old,
+            nets,
+            entries,
+        } = gathered;
+        let units = workers.mark(session, old, set, nets)?;
         Ok(Prepared { units, entries })
     }
 
@@ -237,7 +276,7 @@ impl<'a, T: Image, J: TableName + SlotNames> Service<'a, T, J> {
         ensures { IfOk result (λ prepared. ArePrepared set.now prepared.units.items) }
     {
         let gathered = self.ledger.lock(rt).gather(self.alloc)?;
-        let gate = WorkersGate { gate, session };
+        let gate = SessionGate::new(gate, session);
         let units = mark_alone(
             self.alloc,
             gathered.set,

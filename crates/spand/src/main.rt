@@ -4,9 +4,19 @@
 
 mod script;
 
+ghost use Rattle.std.specs.Prelude.{All};
+ghost use Rattle.std.specs.Result.{ForOk};
+ghost use Rattle.mgn_unit.specs.NewSets.{ArePrepared};
+ghost use Rattle.mgn_unit.specs.Prepared.{AreCopied};
+
 use command_line::Request;
+use mgn_ids::SessionNo;
+use mgn_params::ParamSet;
+use mgn_service::Workers;
+use mgn_unit::{CopiedNets, PreparedUnit};
 use spand_lib::{Fault, Folder, check};
 use spand_serve::Listening;
+use std::alloc::AllocError;
 use std::process::ExitCode;
 
 fn main(rt: HostRuntime) -> ExitCode {
@@ -15,12 +25,26 @@ fn main(rt: HostRuntime) -> ExitCode {
         Ok(Request::Check(file)) => check::run(&rt, &file),
         Ok(Request::Serve(options)) => {
             let mut folder = Folder::new(&rt, options.file.dir.as_str());
-            let first = spand_lib::read(rt.alloc(), &mut folder, options.file.set.as_str());
             let listening = Listening {
                 port: options.port,
                 sessions: options.sessions,
             };
-            spand_serve::run(&rt, listening, first, folder, rt.stderr())
+            let marking = move |session: SessionNo, old: &ParamSet, new: &ParamSet, nets: Vec<
+                CopiedNets,
+            >| -> Result<Vec<Option<PreparedUnit>>, AllocError>
+                requires { All (AreCopied old.now) nets.items }
+                ensures { ForOk result (λ units. ArePrepared new.now units.items) }
+            { spand_serve::mark(&rt, session, old, new, nets) };
+            match spand_lib::read(rt.alloc(), &mut folder, options.file.set.as_str()) {
+                Ok(first) => match Box::new(rt.alloc(), marking) {
+                    Ok(marking) => {
+                        let workers = Workers::new(marking);
+                        spand_serve::run(&rt, listening, first.set, folder, &workers, rt.stderr())
+                    }
+                    Err(refused) => Err(Fault::from(AllocError::from(refused))),
+                },
+                Err(fault) => Err(fault),
+            }
         }
         Err(error) => Err(Fault::from(error)),
     };

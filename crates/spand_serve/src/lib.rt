@@ -2,9 +2,11 @@
 #![tactic(auto)]
 
 mod fault_lines;
+mod mark;
 mod run;
 mod serve;
 
 pub use fault_lines::FaultLines;
+pub use mark::mark;
 pub use run::{Listening, run};
 pub use serve::{Serving, serve};

@@ -1,12 +1,12 @@
 ghost use Rattle.std.specs.Prelude.{◌≡◌};
 
 use crate::fault_lines::FaultLines;
+use crate::mark::WORKERS;
 use crate::serve::{Serving, serve};
 use mgn_ledger::{DayImage, Image};
 use mgn_params::ParamSet;
-use mgn_service::{Service, Through};
+use mgn_service::{Service, Through, Workers};
 use mgn_session::SetSource;
-use mgn_setfile::SetFile;
 use mgn_slots::{SlotNames, Slots};
 use mgn_table::{SetTable, TableName};
 use spand_lib::Fault;
@@ -21,9 +21,6 @@ use std::thread::Threads;
 /// How many entries a history has at most, each with a slot.
 const MOST_ENTRIES: usize = 1_000_000;
 
-/// How many workers share the units of a switch.
-const WORKERS: usize = 4;
-
 /// Where the program listens, and for how many connections.
 #[derive(Clone, Copy, Drop)]
 pub struct Listening {
@@ -33,7 +30,7 @@ pub struct Listening {
     pub sessions: u8,
 }
 
-/// Serves sessions over connections under the set of a file, where that was read, and returns once all of them have ended. Each has its further sets
+/// Serves sessions over connections under a first set, and returns once all of them have ended. Each has its further sets
 /// from a copy of the source. `READY` and `AUDIT` go to standard output, the faults of sessions to the other writer.
 pub fn run<
     R: Threads
@@ -47,15 +44,17 @@ pub fn run<
 >(
     rt: &R,
     listening: Listening,
-    first: Result<SetFile, Fault>,
+    first: ParamSet,
     source: S,
+    workers: &Workers,
     errors: W,
 ) -> Result<(), Fault> {
-    let first = first?.set;
     let slots = Slots::<DayImage>::new(rt.alloc(), MOST_ENTRIES)?;
     let table = SetTable::new(rt.alloc())?;
     let faults = Mutex::new(FaultLines::new(errors));
-    over::<_, _, Brand, _, _>(rt, listening, &slots, &table, first, source, &faults)
+    over::<_, _, Brand, _, _>(
+        rt, listening, &slots, &table, first, source, workers, &faults,
+    )
 }
 
 // So many copies of a source.
@@ -85,6 +84,7 @@ fn over<
     table: &SetTable,
     first: ParamSet,
     source: S,
+    workers: &Workers,
     faults: &Mutex<FaultLines<W>>,
 ) -> Result<(), Fault>
     requires slots { slots.now ≡ J.slots }
@@ -98,6 +98,7 @@ fn over<
     let serving = Serving {
         service,
         gate: &Through,
+        workers,
         listener,
         sources,
     };

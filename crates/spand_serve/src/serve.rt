@@ -4,7 +4,7 @@ use crate::fault_lines::FaultLines;
 use mgn_ledger::{AuditFault, Image, Pass};
 use mgn_seat::Seat;
 use mgn_server::{Seats, Served};
-use mgn_service::{Gate, Service};
+use mgn_service::{Gate, Service, Workers};
 use mgn_session::SetSource;
 use mgn_slots::SlotNames;
 use mgn_table::TableName;
@@ -15,12 +15,13 @@ use std::net::TcpListener;
 use std::sync::{Mutex, Wait};
 use std::thread::Threads;
 
-/// What is served: a service whose passes are still to be made, with a gate that each call passes, to the connections of a
-/// listener.
+/// What is served: a service whose passes are still to be made, with a gate that each call passes and the workers of its
+/// switches, to the connections of a listener.
 #[derive(Drop)]
 pub struct Serving<'g, 'a, T: Image, J: TableName + SlotNames, G: Gate, S: SetSource> {
     pub service: Service<'a, T, J>,
     pub gate: &'g G,
+    pub workers: &'g Workers,
     pub listener: TcpListener,
     /// Where the session of each connection has its sets from. There are as many connections as sources.
     pub sources: Vec<S>,
@@ -32,12 +33,14 @@ fn seats<'s, 'a, R: Wait, T: Image, J: TableName + SlotNames, G: Gate, S: SetSou
     alloc: Global,
     service: &'s Service<'a, T, J>,
     gate: &'s G,
+    workers: &'s Workers,
     sources: Vec<S>,
 ) -> Result<Seats<Seat<'s, 'a, R, T, J, G>, S>, AllocError> {
     let mut seats = Vec::with_capacity(alloc, sources.len())?;
     for source in sources {
         if let Some(pass) = service.pass(rt) {
-            seats.push((Seat::new(rt, service, gate, pass), source))?;
+            let seat = Seat::new(rt, service, gate, pass).with_workers(workers);
+            seats.push((seat, source))?;
         }
     }
     Seats::new(alloc, seats)
@@ -102,6 +105,7 @@ pub fn serve<
     let Serving {
         service,
         gate,
+        workers,
         listener,
         sources,
     } = serving;
@@ -109,7 +113,7 @@ pub fn serve<
         return Err(Fault::Port);
     };
     let count = sources.len();
-    let seats = seats(rt, alloc, &service, gate, sources)?;
+    let seats = seats(rt, alloc, &service, gate, workers, sources)?;
     let mut passes = Vec::with_capacity(alloc, count)?;
     let ready = writeln!(out, "READY {}", address.port()).and_then(|()| out.flush());
     let Served {

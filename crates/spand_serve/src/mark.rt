@@ -1,0 +1,31 @@
+ghost use Rattle.std.specs.Prelude.{All};
+ghost use Rattle.std.specs.Result.{ForOk};
+ghost use Rattle.mgn_unit.specs.NewSets.{ArePrepared};
+ghost use Rattle.mgn_unit.specs.Prepared.{AreCopied};
+
+use mgn_ids::SessionNo;
+use mgn_params::ParamSet;
+use mgn_prepare::mark_all;
+use mgn_service::{SessionGate, Through};
+use mgn_unit::{CopiedNets, PreparedUnit};
+use std::alloc::AllocError;
+use std::thread::Threads;
+
+/// How many workers share the units of a switch.
+pub(crate) const WORKERS: usize = 4;
+
+/// What units with these nets under the set in force require under a new one, by the workers of the server. An error says that
+/// memory was refused.
+pub fn mark<R: Threads + AllocGlobal + Sync>(
+    rt: &R,
+    session: SessionNo,
+    old: &ParamSet,
+    new: &ParamSet,
+    nets: Vec<CopiedNets>,
+) -> Result<Vec<Option<PreparedUnit>>, AllocError>
+    requires { All (AreCopied old.now) nets.items }
+    ensures { ForOk result (λ units. ArePrepared new.now units.items) }
+{
+    let gate = SessionGate::new(&Through, session);
+    mark_all(rt, rt.alloc(), old, new, nets, WORKERS, &gate)
+}
