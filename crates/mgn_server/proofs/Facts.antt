@@ -1,7 +1,8 @@
 -- How a session ended, and what comes back from the places of seats.
-use Rattle.std.specs.Prelude.{◌≡◌, ◌+◌, ◌++◌, ◌⊎◌, ℕ, List, drop, length, map, [], ◌∷◌, Result, Ok, Err, IfOk, IfErr, OnErr, refl}
+use Rattle.std.specs.Prelude.{true, ◌<◌, ◌≡◌, ◌+◌, ◌++◌, ◌⊎◌, ℕ, List, drop, length, map, [], ◌∷◌, Result, Ok, Err, IfOk, IfErr, OnErr, refl}
 use Rattle.std.specs.List.{AllZip}
 use Rattle.std.proofs.Common.{arith, ap, suc, zero, subst, sym, ◌∙◌, inl, inr}
+use Rattle.std.proofs.lemmas.Bool.{cases_lt}
 use Rattle.std.proofs.lemmas.List.{drop-append-le, drop_all, length_push, map-append}
 use Rattle.mgn_session.specs.Conversation.{ConversationView}
 use Rattle.mgn_session.specs.Session.{HasAnswered, HasStopped, HasTooMuch, Step}
@@ -10,7 +11,7 @@ use Rattle.mgn_session.specs.declared.fault.SessionFault.TheVariants as session
 use Rattle.mgn_server.specs.declared.report.ConnectionFault.{ConnectionFault}
 use Rattle.mgn_server.specs.declared.report.ConnectionFault.TheVariants as connection
 use Rattle.mgn_server.specs.Served.{Closes, Ends, HasServed, Serves}
-use Rattle.mgn_server.specs.Places.{Accepts, AreLeft, GivesBack, IsPlaceOf, Refuses}
+use Rattle.mgn_server.specs.Places.{Accepts, AreLeft, GivesBack, IsPlaceOf, Refuses, TurnsAway}
 use Rattle.mgn_server.specs.declared.server.Door.{Door}
 use Rattle.mgn_server.specs.declared.place.Place.{Place}
 use Rattle.mgn_server.specs.declared.place.Place.TheVariants.{Taken, Free}
@@ -62,6 +63,7 @@ pub closed : {X : Type 0} (step : Step X) (old new : X) (result : Result ℕ Con
 closed step old new (Ok lines) h = served step old new (Ok lines) h
 closed step old new (Err (connection.Session fault)) h = served step old new (Err fault) h
 closed step old new (Err connection.NoThread) h = rw h (unserved step old)
+closed step old new (Err connection.NoSeat) h = rw h (unserved step old)
 
 -- what comes back from the place of a seat
 comes_back : {E S : Type 0} (step : Step (E × S)) (seat : E × S) (place : Place E S) (exec : E)
@@ -111,6 +113,14 @@ goes_on old new seats places seat place number long is (inl came) left =
 goes_on old new seats places seat place number long is (inr none) left =
     rw (none.0.accepted, none.1) (one_left seats places old.accepted seat long left)
 
+-- where fewer connections were accepted than there are seats with a place, no more will be
+pub shut_since : {E S : Type 0} (old new : Door) (seats : List (E × S)) (seat : E × S) (place : Place E S) (number : ℕ)
+    → number ≡ length seats + 1 → Accepts old new number ⊎ (Refuses old new × (place ≡ Free seat))
+    → new.accepted < length (seats ++ seat ∷ []) → new.has_failed ≡ true
+shut_since old new seats seat place number is (inl came) few =
+    absurd (omega (arith, few, came.accepted, is, length_push seats seat))
+shut_since old new seats seat place number is (inr none) few = none.0.is_shut
+
 given_back : {E S : Type 0} (step : Step (E × S)) (seats : List (E × S)) (execs : List E)
     → AllZip (GivesBack step) (map (λ seat. Free seat) seats) execs → execs ≡ map (λ seat. seat.0) seats
 given_back step [] [] give = refl
@@ -133,3 +143,14 @@ pub left_as_they_were : {E S : Type 0} (step : Step (E × S)) (seats : List (E �
 left_as_they_were step seats places execs accepted left give =
     let P : _ → Type 0 = λ ps. AllZip (GivesBack step) ps (drop accepted execs) in
     given_back step (drop accepted seats) (drop accepted execs) (subst P left.free (drop_zip (GivesBack step) accepted places execs give))
+
+-- where further connections were turned away they came after those of all seats
+pub left_after : {E S : Type 0} (seats : List (E × S)) (execs : List E) (old new : Door) (more : ℕ)
+    → length execs ≡ length seats → (old.accepted < length seats → old.has_failed ≡ true) → TurnsAway old new more
+    → drop old.accepted execs ≡ map (λ seat. seat.0) (drop old.accepted seats)
+    → drop new.accepted execs ≡ map (λ seat. seat.0) (drop new.accepted seats)
+left_after seats execs old new more long shut turned left = elim (cases_lt old.accepted (length seats)) [
+  | inl few ↦ rw (turned.shut (shut few)) left
+  | inr all ↦ drop_all new.accepted execs (omega (arith, long, all, turned.kept))
+      ∙ sym (ap (λ xs. map (λ seat. seat.0) xs) (drop_all new.accepted seats (omega (arith, all, turned.kept))))
+]

@@ -1,5 +1,5 @@
 -- Where seats are while connections are served, for the inside of this crate alone.
-use Rattle.std.specs.Prelude.{◌≡◌, ◌≤◌, ℕ, true, false, List, drop, length, map}
+use Rattle.std.specs.Prelude.{◌≡◌, ◌≤◌, ◌+◌, ℕ, true, false, List, drop, length, map}
 use Rattle.mgn_session.specs.Session.{Step}
 use Rattle.mgn_server.specs.Served.{HasServed, Serves}
 use Rattle.mgn_server.specs.declared.place.Place.{Place}
@@ -26,6 +26,12 @@ pub record Accepts (old new : Door) (number : ℕ) : Type 0 where
 pub record Refuses (old new : Door) : Type 0 where
   pub is_shut : new.has_failed ≡ true
   pub accepted : new.accepted ≡ old.accepted
+
+-- at most so many connections more were accepted, and none where none will be
+pub record TurnsAway (old new : Door) (more : ℕ) : Type 0 where
+  pub kept : old.accepted ≤ new.accepted
+  pub within : new.accepted ≤ old.accepted + more
+  pub shut : old.has_failed ≡ true → new.accepted ≡ old.accepted
 
 -- the seats after so many are still here
 pub record AreLeft {E S : Type 0} (seats : List (E × S)) (places : List (Place E S)) (accepted : ℕ) : Type 0 where

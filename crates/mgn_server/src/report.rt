@@ -7,6 +7,8 @@ pub enum ConnectionFault {
     Session(SessionFault),
     /// No thread could be had for its session, and nothing was read.
     NoThread,
+    /// There was no seat for it, and nothing was read.
+    NoSeat,
 }
 
 impl From<SessionFault> for ConnectionFault {

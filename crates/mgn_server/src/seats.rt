@@ -78,7 +78,8 @@ impl<E: Exec + Send + Drop, S: SetSource + Send + Drop> Seats<E, S> {
     /// sessions have ended. What is done to a seat is what the lines of its session ask for, in their order, and nothing
     /// else. It fails at nothing: what can go wrong is in the result, or told.
     ///
-    /// The listener is closed after the last connection, while sessions still run. Where accepting fails no more
+    /// After these it accepts `more` connections, closes each without a reply, and tells that there was no seat. The listener
+    /// is closed after the last connection, while sessions still run. Where accepting fails no more
     /// connections are taken. Where a session ends by a fault its connection is closed and the fault told, and the others
     /// go on. A connection for which no thread can be had is closed without a reply, which is told too.
     pub fn serve<R: Threads + Wait + Sync, F: FaultReport + Send>(
@@ -86,10 +87,11 @@ impl<E: Exec + Send + Drop, S: SetSource + Send + Drop> Seats<E, S> {
         rt: &R,
         alloc: Global,
         listener: TcpListener,
+        more: usize,
         faults: &Mutex<F>,
     ) -> Served<E>
         ensures { Leaves (Answers (Calls E.entries E.is_full E.is_broken E.does) S.gives)
-            self result.executors.items result.accepted }
+            self more result.executors.items result.accepted }
     {
         let Seats {
             seats,
@@ -106,7 +108,7 @@ impl<E: Exec + Send + Drop, S: SetSource + Send + Drop> Seats<E, S> {
                     × (places.items ≡ []) × (vec_len seats ≤ vec_capacity places)
                     × (executors.items ≡ []) × (vec_len seats ≤ vec_capacity executors) }
                 ensures { Leaves (Answers (Calls E.entries E.is_full E.is_broken E.does) S.gives)
-                    seats.items result.executors.items result.accepted }
+                    seats.items more result.executors.items result.accepted }
             {
                 let server = Server {
                     rt,
@@ -117,6 +119,7 @@ impl<E: Exec + Send + Drop, S: SetSource + Send + Drop> Seats<E, S> {
                 };
                 let mut door = Door::new(listener);
                 let places = server.place_all(&mut door, seats, places);
+                server.turn_away(&mut door, more);
                 let accepted = door.accepted;
                 // One more client is to be refused, and not to wait until the sessions have ended.
                 drop(door);

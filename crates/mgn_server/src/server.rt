@@ -1,11 +1,11 @@
-ghost use Rattle.std.specs.Prelude.{◌≡◌, ◌⊎◌, ◌≤◌, ◌<◌, [], IfNone, IfSome, vec_len, vec_capacity, length, false};
+ghost use Rattle.std.specs.Prelude.{◌≡◌, ◌⊎◌, ◌≤◌, ◌<◌, [], IfNone, IfSome, vec_len, vec_capacity, length, true, false};
 ghost use Rattle.std.specs.List.{AllZip};
 ghost use Rattle.mgn_session.specs.Session.{Answers, Calls};
 ghost use Rattle.mgn_server.specs.Served.{HasServed};
-ghost use Rattle.mgn_server.specs.Places.{Accepts, AreLeft, IsPlaceOf, Refuses};
+ghost use Rattle.mgn_server.specs.Places.{Accepts, AreLeft, IsPlaceOf, Refuses, TurnsAway};
 
 use crate::place::Place;
-use crate::report::FaultReport;
+use crate::report::{ConnectionFault, FaultReport};
 use crate::session::{ServedFrom, Session};
 use mgn_session::{Exec, SetSource};
 use std::alloc::Global;
@@ -133,11 +133,28 @@ impl<'s, R: Threads + Wait + Sync + 's, F: FaultReport + Send + 's, Env> Server<
         ensures places { AllZip (IsPlaceOf (Answers (Calls E.entries E.is_full E.is_broken E.does) S.gives))
             seats.items result.items }
         ensures left { AreLeft seats.items result.items door.new.accepted }
+        ensures shut { door.new.accepted < length seats.items → door.new.has_failed ≡ true }
     {
         for seat in seats {
             let number = places.len() + 1;
             places.push_reserved(self.place(door, seat, number));
         }
         places
+    }
+
+    // Takes so many further connections, for which there is no seat. Each is closed at once, which is told.
+    pub fn turn_away(&self, door: &mut Door, more: usize)
+        ensures { TurnsAway door.old door.new more }
+    {
+        for _ in 0..more {
+            let number = door.accepted.saturating_add(1);
+            let Some(stream) = door.accept(number) else {
+                return;
+            };
+            drop(stream);
+            self.faults
+                .lock(self.rt)
+                .tell(number, ConnectionFault::NoSeat);
+        }
     }
 }

@@ -49,7 +49,7 @@ fn serve<R: Threads + Wait + Abort + Sync, C: FnOnce(SocketAddr) + Send>(
     let ((), served) = thread::join(
         rt,
         move || client(address),
-        move || seats.serve(rt, alloc, listener, faults),
+        move || seats.serve(rt, alloc, listener, 0, faults),
     );
     (served, told.into_inner())
 }

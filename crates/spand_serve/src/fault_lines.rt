@@ -16,11 +16,11 @@ impl<W: Write> FaultLines<W> {
     }
 }
 
-// A connection for which no thread could be had is one for which there was no memory.
+// A connection for which no thread or no pass could be had is told as one for which there was no memory.
 fn word_of(fault: &ConnectionFault) -> &'static str {
     match fault {
         ConnectionFault::Session(fault) => name_of(fault),
-        ConnectionFault::NoThread => "MEMORY",
+        ConnectionFault::NoThread | ConnectionFault::NoSeat => "MEMORY",
     }
 }
 

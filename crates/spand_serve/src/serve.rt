@@ -1,4 +1,5 @@
-ghost use Rattle.std.specs.Prelude.{◌≤◌, ◌+◌, vec_len, vec_capacity};
+ghost use Rattle.std.specs.Prelude.{◌≡◌, ◌≤◌, [], All, IfOk, Ok, vec_len, vec_capacity};
+ghost use Rattle.spand_serve.specs.Served.{IsFresh, IsServed};
 
 use crate::fault_lines::FaultLines;
 use mgn_ledger::{AuditFault, Image, Pass};
@@ -27,35 +28,41 @@ pub struct Serving<'g, 'a, T: Image, J: TableName + SlotNames, G: Gate, S: SetSo
     pub sources: Vec<S>,
 }
 
-// A seat for each source, in order of their passes.
-fn seats<'s, 'a, R: Wait, T: Image, J: TableName + SlotNames, G: Gate, S: SetSource + Drop>(
+// A seat for each source, in order of their passes, as long as there are passes.
+fn seats_of<'s, 'a, R: Wait, T: Image, J: TableName + SlotNames, G: Gate, S: SetSource + Drop>(
     rt: &'s R,
     alloc: Global,
     service: &'s Service<'a, T, J>,
     gate: &'s G,
     workers: &'s Workers,
     sources: Vec<S>,
-) -> Result<Seats<Seat<'s, 'a, R, T, J, G>, S>, AllocError> {
+) -> Result<Vec<(Seat<'s, 'a, R, T, J, G>, S)>, AllocError>
+    ensures { IfOk result (λ seats. All (λ seat. IsFresh seat.0) seats.items) }
+{
     let mut seats = Vec::with_capacity(alloc, sources.len())?;
     for source in sources {
-        if let Some(pass) = service.pass(rt) {
-            let seat = Seat::new(rt, service, gate, pass).with_workers(workers);
-            seats.push((seat, source))?;
-        }
+        let Some(pass) = service.pass(rt) else {
+            break;
+        };
+        let seat = Seat::new(rt, service, gate, pass).with_workers(workers);
+        seats.push((seat, source))?;
     }
-    Seats::new(alloc, seats)
+    Ok(seats)
 }
 
 // The passes of the seats, in their order.
 fn take_passes<'a, R: Wait, T: Image, J: TableName + SlotNames, G: Gate>(
     seats: Vec<Seat<'_, 'a, R, T, J, G>>,
-    passes: &mut Vec<Pass<'a, T, J>>,
-)
-    requires room { vec_len passes.old + vec_len seats ≤ vec_capacity passes.old }
+    mut passes: Vec<Pass<'a, T, J>>,
+) -> Vec<Pass<'a, T, J>>
+    requires empty { passes.items ≡ [] }
+    requires room { vec_len seats ≤ vec_capacity passes }
+    ensures { result.items ≡ seats.items }
 {
     for seat in seats {
         passes.push_reserved(seat.into_pass());
     }
+    passes
 }
 
 fn audit_fault(fault: AuditFault) -> Fault {
@@ -66,11 +73,9 @@ fn audit_fault(fault: AuditFault) -> Fault {
 }
 
 // How the server ends: that accepting failed comes before what the audit says.
-fn end<O: Write>(
-    out: &mut O,
-    audited: Result<u64, AuditFault>,
-    has_all: bool,
-) -> Result<u64, Fault> {
+fn end<O: Write>(out: &mut O, audited: Result<u64, AuditFault>, has_all: bool) -> Result<u64, Fault>
+    ensures { IfOk result (λ entries. audited ≡ Ok entries) }
+{
     let told = match audited {
         Ok(entries) => writeln!(out, "AUDIT {entries}").and_then(|()| out.flush()),
         Err(_) => Ok(()),
@@ -86,7 +91,13 @@ fn end<O: Write>(
 }
 
 /// Serves as many connections as there are sources of sets, each on a thread of its own, and gives the number of the
-/// history's entries once all have ended.
+/// history's entries once all have ended. It tells `READY` with the port once a client can connect, `AUDIT` with that number
+/// at the end, and of each session's fault as it comes; the sessions of the others go on.
+///
+/// The connections have passes in order of accepting. Where there is no pass for one it is closed without a reply, which is told.
+/// `Memory` comes before the first connection. Where accepting fails no more connections are taken, those that run come to
+/// their end, and it is `Port`, whatever the audit says. `Passes` and `Unmatched` are what the audit says, and `ServerOutput`
+/// comes where all else went well and what is told of the beginning or the end could not be written.
 pub fn serve<
     R: Threads + Wait + Sync,
     T: Image + Send + Sync,
@@ -101,7 +112,9 @@ pub fn serve<
     serving: Serving<'_, '_, T, J, G, S>,
     out: &mut O,
     faults: &Mutex<FaultLines<W>>,
-) -> Result<u64, Fault> {
+) -> Result<u64, Fault>
+    ensures { IfOk result (λ entries. IsServed S.gives entries) }
+{
     let Serving {
         service,
         gate,
@@ -113,14 +126,16 @@ pub fn serve<
         return Err(Fault::Port);
     };
     let count = sources.len();
-    let seats = seats(rt, alloc, &service, gate, workers, sources)?;
-    let mut passes = Vec::with_capacity(alloc, count)?;
+    let seats = seats_of(rt, alloc, &service, gate, workers, sources)?;
+    let more = count.saturating_sub(seats.len());
+    let passes = Vec::with_capacity(alloc, seats.len())?;
+    let seats = Seats::new(alloc, seats)?;
     let ready = writeln!(out, "READY {}", address.port()).and_then(|()| out.flush());
     let Served {
         executors,
         accepted,
-    } = seats.serve(rt, alloc, listener, faults);
-    take_passes(executors, &mut passes);
+    } = seats.serve(rt, alloc, listener, more, faults);
+    let passes = take_passes(executors, passes);
     let ended = end(out, service.close(passes), accepted == count);
     match ready {
         Ok(()) => ended,

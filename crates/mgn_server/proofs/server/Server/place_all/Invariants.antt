@@ -1,4 +1,4 @@
-use Rattle.std.proofs.Common.{◌≡◌, ◌≤◌, vec_len, vec_capacity, length}
+use Rattle.std.proofs.Common.{◌≡◌, ◌<◌, ◌≤◌, true, vec_len, vec_capacity, length}
 use Rattle.std.specs.List.{AllZip}
 use Rattle.mgn_session.specs.Session.{Answers, Calls}
 use Rattle.mgn_server.specs.Places.{AreLeft, IsPlaceOf}
@@ -11,3 +11,4 @@ invariant-loop-seat g l =
     × (vec_len l.places ≡ length l.yielded)
     × (vec_len l.fn.seats ≤ vec_capacity l.places)
     × AreLeft l.yielded l.places.items l.door.accepted
+    × (l.door.accepted < length l.yielded → l.door.has_failed ≡ true)

@@ -1,0 +1,2 @@
+-- What a server did.
+pub mod Served
