@@ -1,6 +1,8 @@
-//! Tests of the server, with clients over connections in the same process.
+//! Tests of the server, over executors that refuse and over a book, with clients over connections in the same process.
 #![tactic(auto)]
 
+#[cfg(test)]
+mod book;
 #[cfg(test)]
 mod client;
 #[cfg(test)]

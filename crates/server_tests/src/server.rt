@@ -34,6 +34,7 @@ fn serve<R: Threads + Wait + Abort + Sync, C: FnOnce(SocketAddr) + Send>(
     alloc: Global,
     listener: TcpListener,
     seats: Seats<Refusing, NoFiles>,
+    more: usize,
     client: C,
 ) -> (Served<Refusing>, Told)
     requires { C.IsAlwaysCallable client }
@@ -49,7 +50,7 @@ fn serve<R: Threads + Wait + Abort + Sync, C: FnOnce(SocketAddr) + Send>(
     let ((), served) = thread::join(
         rt,
         move || client(address),
-        move || seats.serve(rt, alloc, listener, 0, faults),
+        move || seats.serve(rt, alloc, listener, more, faults),
     );
     (served, told.into_inner())
 }
@@ -72,7 +73,7 @@ fn has_calls(served: &Served<Refusing>, calls: &[u64]) -> bool {
             .all(|(executor, calls)| executor.calls == *calls)
 }
 
-fn listen<R: Net<Listener = TcpListener, Stream = TcpStream> + Abort>(rt: &R) -> TcpListener {
+pub fn listen<R: Net<Listener = TcpListener, Stream = TcpStream> + Abort>(rt: &R) -> TcpListener {
     let Ok(listener) = TcpListener::bind(rt, "127.0.0.1:0") else {
         panic!(rt; "no listener")
     };
@@ -83,7 +84,7 @@ fn listen<R: Net<Listener = TcpListener, Stream = TcpStream> + Abort>(rt: &R) ->
 fn each_session_has_its_own_replies(rt: HostRuntime) -> Result<(), Fail> {
     let rt = &rt;
     let seats = seats(rt.alloc(), &[false, true])?;
-    let (served, told) = serve(rt, rt.alloc(), listen(rt), seats, |address| {
+    let (served, told) = serve(rt, rt.alloc(), listen(rt), seats, 0, |address| {
         let first = connect(rt, address);
         send(rt, &first, "END\n");
         expect(rt, &first, "ERR 92 BROKEN\n");
@@ -101,7 +102,7 @@ fn each_session_has_its_own_replies(rt: HostRuntime) -> Result<(), Fail> {
 fn no_seats_and_no_client(rt: HostRuntime) -> Result<(), Fail> {
     let rt = &rt;
     let seats = seats(rt.alloc(), &[])?;
-    let (served, told) = serve(rt, rt.alloc(), listen(rt), seats, |_| ());
+    let (served, told) = serve(rt, rt.alloc(), listen(rt), seats, 0, |_| ());
     assert!(rt; is_whole(&served, &told, &[]));
     Ok(())
 }
@@ -110,7 +111,7 @@ fn no_seats_and_no_client(rt: HostRuntime) -> Result<(), Fail> {
 fn a_half_line_is_dropped(rt: HostRuntime) -> Result<(), Fail> {
     let rt = &rt;
     let seats = seats(rt.alloc(), &[false])?;
-    let (served, told) = serve(rt, rt.alloc(), listen(rt), seats, |address| {
+    let (served, told) = serve(rt, rt.alloc(), listen(rt), seats, 0, |address| {
         let replies = ask_last(rt, connect(rt, address), "END\nTHIS\nEND");
         assert!(rt; replies.as_str() == "ERR 92 BROKEN\nERR 10 SYNTAX\n");
     });
@@ -122,7 +123,7 @@ fn a_half_line_is_dropped(rt: HostRuntime) -> Result<(), Fail> {
 fn single_bytes_make_no_difference(rt: HostRuntime) -> Result<(), Fail> {
     let rt = &rt;
     let seats = seats(rt.alloc(), &[false])?;
-    let (served, told) = serve(rt, rt.alloc(), listen(rt), seats, |address| {
+    let (served, told) = serve(rt, rt.alloc(), listen(rt), seats, 0, |address| {
         let client = connect(rt, address);
         for byte in ["E", "N", "D", "\n", "T", "\n", "E", "N", "D"] {
             send(rt, &client, byte);
@@ -157,7 +158,7 @@ fn ask_much<R: Abort + Alloc>(rt: &R, client: TcpStream) {
 fn a_closed_half_gets_all_replies(rt: HostRuntime) -> Result<(), Fail> {
     let rt = &rt;
     let seats = seats(rt.alloc(), &[true])?;
-    let (served, told) = serve(rt, rt.alloc(), listen(rt), seats, |address| {
+    let (served, told) = serve(rt, rt.alloc(), listen(rt), seats, 0, |address| {
         ask_much(rt, connect(rt, address));
     });
     assert!(rt; is_whole(&served, &told, &[1]));
@@ -175,7 +176,7 @@ fn vanish<R: Abort>(rt: &R, client: TcpStream) {
 fn a_client_that_vanishes_ends_its_session_alone(rt: HostRuntime) -> Result<(), Fail> {
     let rt = &rt;
     let seats = seats(rt.alloc(), &[false, true, false])?;
-    let (served, told) = serve(rt, rt.alloc(), listen(rt), seats, |address| {
+    let (served, told) = serve(rt, rt.alloc(), listen(rt), seats, 0, |address| {
         let first = connect(rt, address);
         send(rt, &first, "END\n");
         expect(rt, &first, "ERR 92 BROKEN\n");
@@ -199,7 +200,7 @@ fn a_client_that_vanishes_ends_its_session_alone(rt: HostRuntime) -> Result<(), 
 }
 
 // A client for which there is no seat is refused, or its connection ends without a byte.
-fn is_turned_away<R: Net<Stream = TcpStream>>(rt: &R, address: SocketAddr) -> bool {
+pub fn is_turned_away<R: Net<Stream = TcpStream>>(rt: &R, address: SocketAddr) -> bool {
     let Ok(mut client) = TcpStream::connect(rt, address) else {
         return true;
     };
@@ -217,13 +218,28 @@ fn is_turned_away<R: Net<Stream = TcpStream>>(rt: &R, address: SocketAddr) -> bo
 fn one_client_more_is_turned_away(rt: HostRuntime) -> Result<(), Fail> {
     let rt = &rt;
     let seats = seats(rt.alloc(), &[false])?;
-    let (served, told) = serve(rt, rt.alloc(), listen(rt), seats, |address| {
+    let (served, told) = serve(rt, rt.alloc(), listen(rt), seats, 0, |address| {
         let first = connect(rt, address);
         assert!(rt; is_turned_away(rt, address));
         send(rt, &first, "END\n");
         expect(rt, &first, "ERR 92 BROKEN\n");
     });
     assert!(rt; is_whole(&served, &told, &[1]));
+    Ok(())
+}
+
+#[test]
+fn clients_without_a_seat_are_closed(rt: HostRuntime) -> Result<(), Fail> {
+    let rt = &rt;
+    let seats = seats(rt.alloc(), &[false])?;
+    let (served, told) = serve(rt, rt.alloc(), listen(rt), seats, 2, |address| {
+        let first = connect(rt, address);
+        assert!(rt; is_turned_away(rt, address) && is_turned_away(rt, address));
+        send(rt, &first, "END\n");
+        expect(rt, &first, "ERR 92 BROKEN\n");
+    });
+    assert!(rt; served.accepted == 3 && has_calls(&served, &[1]));
+    assert!(rt; told.count == 2 && matches!(told.last, Some((3, ConnectionFault::NoSeat))));
     Ok(())
 }
 
@@ -241,7 +257,7 @@ fn sessions_go_on_where_accepting_fails(rt: HostRuntime) -> Result<(), Fail> {
     let listener = listen(rt);
     let latch = latch(rt, &listener);
     let seats = seats(rt.alloc(), &[false, true])?;
-    let (served, told) = serve(rt, rt.alloc(), listener, seats, |address| {
+    let (served, told) = serve(rt, rt.alloc(), listener, seats, 0, |address| {
         let first = connect(rt, address);
         send(rt, &first, "END\n");
         expect(rt, &first, "ERR 92 BROKEN\n");

@@ -1,3 +1,5 @@
+ghost use Rattle.std.specs.Prelude.{◌≡◌};
+
 use mgn_server::{ConnectionFault, FaultReport};
 use spand_lib::name_of;
 use std::io::Write;
@@ -13,6 +15,13 @@ impl<W: Write> FaultLines<W> {
     /// Lines on this writer.
     pub fn new(writer: W) -> FaultLines<W> {
         FaultLines { writer }
+    }
+
+    /// The writer, with the lines.
+    pub fn into_writer(self) -> W
+        ensures { result ≡ self.entry.writer }
+    {
+        self.writer
     }
 }
 
