@@ -115,6 +115,8 @@ class Gate:
         self.part("faults of the program", ["tests/faults.sh", program])
         self.part("refused memory", ["tests/memory.sh", program], r"(\d+) allocations, (\d+) failed")
         self.sessions("of the program", program)
+        words = [sys.executable, "tests/serve.py", program]
+        self.part("the server", words, r"(\d+) server tests passed, (\d+) failed")
 
     def sessions(self, whose, program):
         self.part(f"sessions {whose}", ["tests/examples.sh", program], r"(\d+) sessions passed, (\d+) failed")

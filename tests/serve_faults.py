@@ -118,8 +118,7 @@ def faults_of_the_command_line(program):
 
 def each_allocation_fails(program):
     """An allocation of a run with one client fails, in each run the next one. The run must end by `spand: memory`, with a fault
-    of the session and a front of the replies, with one reply 90 and else those to the lines without that one, or with a fault
-    of the audit. Where a new set or a desk does without the allocation, nothing is to be seen."""
+    of the session and a front of the replies, or with one reply 90 and else those to the lines without that one. Where a new set or a desk does without the allocation, nothing is to be seen."""
     commands = (*LINES.splitlines(), b"SWITCH TWO", b"TRADE A1 2 AAA1 -1 0", b"STMT A1")
     began, allocation, whole, faults = time.monotonic(), 0, 0, []
     with tempfile.TemporaryDirectory() as folder:
@@ -166,8 +165,7 @@ def fault_of_run(program, commands, replies, ended):
     status, output, said = ended
     # (Where the session ended early, more can have been done than was answered.)
     is_cut = (status, said) == (0, b"spand: session 1 MEMORY\n") and output.startswith(b"AUDIT ")
-    if not is_cut and (len(replies) < len(commands) or ended not in (
-            (0, b"AUDIT %d\n" % len(answered), b""), (5, b"", b"spand: audit MEMORY\n"))):
+    if not is_cut and (len(replies) < len(commands) or ended != (0, b"AUDIT %d\n" % len(answered), b"")):
         return f"{ended}, after {replies}"
     if not script(program, tuple(it for it, _ in answered)).startswith(b"".join(reply for _, reply in answered)):
         return f"other replies: {replies}"
