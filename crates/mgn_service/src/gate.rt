@@ -29,15 +29,10 @@ impl Gate for Through {
 /// What is passed before each unit of a session's switch: its gate, which is told `Preparing`.
 #[derive(Drop)]
 pub struct SessionGate<'g, G: Gate> {
-    gate: &'g G,
-    session: SessionNo,
-}
-
-impl<'g, G: Gate> SessionGate<'g, G> {
-    /// The gate of a session.
-    pub fn new(gate: &'g G, session: SessionNo) -> SessionGate<'g, G> {
-        SessionGate { gate, session }
-    }
+    /// The gate of the session.
+    pub gate: &'g G,
+    /// Whose switch it is.
+    pub session: SessionNo,
 }
 
 impl<'g, G: Gate> UnitGate for SessionGate<'g, G> {

@@ -240,7 +240,7 @@ impl<'a, T: Image, J: TableName + SlotNames> Service<'a, T, J> {
             nets,
             entries,
         } = gathered;
-        let gate = SessionGate::new(gate, session);
+        let gate = SessionGate { gate, session };
         let units = mark_all(rt, self.alloc, old, set, nets, self.workers, &gate)?;
         Ok(Prepared { units, entries })
     }
@@ -276,7 +276,7 @@ impl<'a, T: Image, J: TableName + SlotNames> Service<'a, T, J> {
         ensures { IfOk result (λ prepared. ArePrepared set.now prepared.units.items) }
     {
         let gathered = self.ledger.lock(rt).gather(self.alloc)?;
-        let gate = SessionGate::new(gate, session);
+        let gate = SessionGate { gate, session };
         let units = mark_alone(
             self.alloc,
             gathered.set,

@@ -87,7 +87,7 @@ impl<'r, R: Clock> Gate for Latch<'r, R> {
 struct Scene<'g, G> {
     /// How many of the service's passes somebody else has taken.
     taken: u8,
-    sessions: u8,
+    sessions: usize,
     gate: &'g G,
     workers: &'g Workers,
     listener: TcpListener,
@@ -110,6 +110,15 @@ fn service_of<'a, R: Wait, T: Image, J: TableName + SlotNames>(
         drop(service.pass(rt));
     }
     Ok(service)
+}
+
+// Nobody's files, so many times.
+fn sources(alloc: Global, count: usize) -> Result<Vec<NoFiles>, AllocError> {
+    let mut sources = Vec::with_capacity(alloc, count)?;
+    for _ in 0..count {
+        sources.push(NoFiles)?;
+    }
+    Ok(sources)
 }
 
 // Serves while clients play.
@@ -144,9 +153,9 @@ fn play<
         gate,
         workers,
         listener,
-        sources: vec![in alloc; NoFiles; usize::from(sessions)]?,
+        sources: sources(alloc, sessions)?,
     };
-    let faults = Mutex::new(FaultLines::new(Vec::new(alloc)));
+    let faults = Mutex::new(FaultLines(Vec::new(alloc)));
     let lent = &faults;
     let ((), (out, entries)) = thread::join(
         rt,
@@ -159,7 +168,7 @@ fn play<
     );
     Ok(Ended {
         out,
-        errors: faults.into_inner().into_writer(),
+        errors: faults.into_inner().0,
         entries,
     })
 }

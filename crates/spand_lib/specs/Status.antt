@@ -1,9 +1,11 @@
 -- Why the program ends early, and its exit status then.
-use Rattle.std.specs.Prelude.{ℕ}
+use Rattle.std.specs.Prelude.{ℕ, List, codes}
 use Rattle.clap.specs.Values.{kind_of}
 use Rattle.clap.specs.declared.error.Error.{Error}
 use Rattle.clap.specs.declared.error.kind.ErrorKind.{ErrorKind}
 use Rattle.clap.specs.declared.error.kind.ErrorKind.TheVariants as kind
+use Rattle.mgn_session.specs.declared.fault.SessionFault.{SessionFault}
+use Rattle.mgn_session.specs.declared.fault.SessionFault.TheVariants as session
 use Rattle.mgn_session.specs.declared.source.SourceFault.{SourceFault}
 use Rattle.mgn_session.specs.declared.source.SourceFault.TheVariants as source
 use Rattle.spand_lib.specs.declared.fault.Fault.{Fault}
@@ -25,8 +27,15 @@ status_of Output = 4
 status_of Port = 4
 status_of ServerOutput = 4
 status_of Passes = 5
-status_of (Unmatched session) = 5
+status_of (Unmatched s) = 5
 status_of Memory = 6
+
+-- the word by which a fault of a session is told
+abbrev pub word_of : SessionFault → List ℕ
+word_of session.Read = codes "READ"
+word_of session.Write = codes "WRITE"
+word_of session.Memory = codes "MEMORY"
+word_of session.Lines = codes "LINES"
 
 -- what the command line's parser answers
 abbrev pub usage_by : ErrorKind → Error → Fault

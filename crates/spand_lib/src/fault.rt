@@ -1,5 +1,5 @@
 ghost use Rattle.std.specs.Prelude.{◌≡◌};
-ghost use Rattle.spand_lib.specs.Status.{status_of, usage, usage_status};
+ghost use Rattle.spand_lib.specs.Status.{status_of, usage, usage_status, word_of};
 ghost use Rattle.spand_lib.specs.declared.fault.Fault.TheVariants.{Memory};
 
 use clap::error::ErrorKind;
@@ -47,7 +47,9 @@ pub enum Fault {
 }
 
 /// The word by which a fault of a session is told.
-pub fn name_of(fault: &SessionFault) -> &'static str {
+pub fn name_of(fault: &SessionFault) -> &'static str
+    ensures { result.now ≡ word_of fault.now }
+{
     match fault {
         SessionFault::Read => "READ",
         SessionFault::Write => "WRITE",

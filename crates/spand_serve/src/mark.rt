@@ -26,6 +26,9 @@ pub fn mark<R: Threads + AllocGlobal + Sync>(
     requires { All (AreCopied old.now) nets.items }
     ensures { ForOk result (λ units. ArePrepared new.now units.items) }
 {
-    let gate = SessionGate::new(&Through, session);
+    let gate = SessionGate {
+        gate: &Through,
+        session,
+    };
     mark_all(rt, rt.alloc(), old, new, nets, WORKERS, &gate)
 }

@@ -21,6 +21,9 @@ use std::thread::Threads;
 /// How many entries a history has at most, each with a slot.
 const MOST_ENTRIES: usize = 1_000_000;
 
+/// How many sessions there are at most.
+const MOST_SESSIONS: usize = 16;
+
 /// Where the program listens, and for how many connections.
 #[derive(Clone, Copy, Drop)]
 pub struct Listening {
@@ -51,7 +54,7 @@ pub fn run<
 ) -> Result<(), Fault> {
     let slots = Slots::<DayImage>::new(rt.alloc(), MOST_ENTRIES)?;
     let table = SetTable::new(rt.alloc())?;
-    let faults = Mutex::new(FaultLines::new(errors));
+    let faults = Mutex::new(FaultLines(errors));
     over::<_, _, Brand, _, _>(
         rt, listening, &slots, &table, first, source, workers, &faults,
     )
@@ -59,7 +62,7 @@ pub fn run<
 
 // So many copies of a source.
 fn copies<S: Copy + Drop>(alloc: Global, source: S, count: u8) -> Result<Vec<S>, AllocError> {
-    let mut copies = Vec::with_capacity(alloc, usize::from(count))?;
+    let mut copies = Vec::with_capacity(alloc, MOST_SESSIONS)?;
     for _ in 0..count {
         copies.push(source)?;
     }
