@@ -57,10 +57,16 @@ run empty
 wants 'no words' 2 '' some
 run empty serves
 wants 'no such command' 2 '' some
+run empty serve --dir . --set FUT --port 4000
+wants 'no number of sessions' 2 '' some
+run empty serve --dir . --set FUT --port 65536 --sessions 1
+wants 'no such port' 2 '' some
+run empty serve --dir . --set NONE --port 4000 --sessions 16
+wants 'no set to serve' 3 '' "spand: set NOSET$line"
 run empty script --dir .
 wants 'no set' 2 '' some
 run empty --version
-wants 'its version, and the logic that proved it' 0 "spand 0.2.0 ($(rt version | sed 's,^.* logic ,logic ,'))$line" ''
+wants 'its version, and the logic that proved it' 0 "spand 0.3.0 ($(rt version | sed 's,^.* logic ,logic ,'))$line" ''
 run empty script --set FUT
 wants 'no folder' 2 '' some
 run empty script --dir . --set FUT --port 80
@@ -77,6 +83,8 @@ run empty script --help
 wants 'help of a command' 0 some ''
 run empty check --help
 wants 'help of the other command' 0 some ''
+run empty serve --help
+wants 'help of the server' 0 some ''
 run empty check --dir .
 wants 'no set to check' 2 '' some
 
