@@ -1,0 +1,2 @@
+-- Lemmas on a served day.
+mod Facts
