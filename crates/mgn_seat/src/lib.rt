@@ -2,5 +2,7 @@
 #![tactic(auto)]
 
 mod seat;
+mod switches;
 
 pub use seat::Seat;
+pub use switches::{Alone, Switches};

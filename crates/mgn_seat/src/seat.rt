@@ -1,9 +1,10 @@
 ghost use Rattle.std.specs.Prelude.{◌≡◌};
 
+use crate::switches::Switches;
 use mgn_ledger::{Image, Pass};
 use mgn_machine::{Answer, Command};
 use mgn_params::ParamSet;
-use mgn_service::{Gate, Service, Workers};
+use mgn_service::{Gate, Service};
 use mgn_session::Exec;
 use mgn_slots::SlotNames;
 use mgn_table::TableName;
@@ -12,16 +13,16 @@ use std::sync::Wait;
 
 /// A session of a service, for one thread: a pass with the service that made it. Contracts see the pass.
 #[derive(Drop)]
-pub struct Seat<'s, 'a, R: Wait, T: Image, J: TableName + SlotNames, G: Gate> {
+pub struct Seat<'s, 'a, R: Wait, T: Image, J: TableName + SlotNames, G: Gate, W: Switches> {
     rt: &'s R,
     service: &'s Service<'a, T, J>,
     gate: &'s G,
     pass: Pass<'a, T, J>,
-    workers: Option<&'s Workers>,
+    workers: &'s W,
 }
 
-impl<'s, 'a, R: Wait, T: Image, J: TableName + SlotNames, G: Gate> Model
-    for Seat<'s, 'a, R, T, J, G> {
+impl<'s, 'a, R: Wait, T: Image, J: TableName + SlotNames, G: Gate, W: Switches> Model
+    for Seat<'s, 'a, R, T, J, G, W> {
     ghost use Rattle.mgn_ledger.specs.Passes.{PassView};
 
     ghost Value = { PassView };
@@ -29,14 +30,23 @@ impl<'s, 'a, R: Wait, T: Image, J: TableName + SlotNames, G: Gate> Model
     ghost view = { λ s. s.pass };
 }
 
-impl<'s, 'a, R: Wait, T: Image, J: TableName + SlotNames, G: Gate> Seat<'s, 'a, R, T, J, G> {
-    /// The seat of a pass of this service, whose calls pass the gate. It works switches out by itself.
+impl<'s, 'a, R: Wait, T: Image, J: TableName + SlotNames, G: Gate, W: Switches> Seat<
+    's,
+    'a,
+    R,
+    T,
+    J,
+    G,
+    W,
+> {
+    /// The seat of a pass of this service, whose calls pass the gate, and whose switches are worked out by these workers.
     pub fn new(
         rt: &'s R,
         service: &'s Service<'a, T, J>,
         gate: &'s G,
         pass: Pass<'a, T, J>,
-    ) -> Seat<'s, 'a, R, T, J, G>
+        workers: &'s W,
+    ) -> Seat<'s, 'a, R, T, J, G, W>
         ensures { result ≡ pass.entry }
     {
         Seat {
@@ -44,16 +54,8 @@ impl<'s, 'a, R: Wait, T: Image, J: TableName + SlotNames, G: Gate> Seat<'s, 'a, 
             service,
             gate,
             pass,
-            workers: None,
+            workers,
         }
-    }
-
-    /// The same seat, with these workers for its switches.
-    pub fn with_workers(mut self, workers: &'s Workers) -> Seat<'s, 'a, R, T, J, G>
-        ensures { result ≡ self.entry }
-    {
-        self.workers = Some(workers);
-        self
     }
 
     /// The pass, for the service's audit.
@@ -73,8 +75,8 @@ impl<'s, 'a, R: Wait, T: Image, J: TableName + SlotNames, G: Gate> Seat<'s, 'a, 
 
 /// What is answered with a place stands last in the pass's transcript. Whether the history is full or the service closed only
 /// the service knows, since other sessions use it too; so either may be answered at any time.
-impl<'s, 'a, R: Wait, T: Image, J: TableName + SlotNames, G: Gate> Exec
-    for Seat<'s, 'a, R, T, J, G> {
+impl<'s, 'a, R: Wait, T: Image, J: TableName + SlotNames, G: Gate, W: Switches> Exec
+    for Seat<'s, 'a, R, T, J, G, W> {
     ghost use Rattle.mgn_ledger.specs.Ledgers.{Answers};
     ghost use Rattle.mgn_ledger.specs.Passes.{transcript};
 
@@ -92,15 +94,7 @@ impl<'s, 'a, R: Wait, T: Image, J: TableName + SlotNames, G: Gate> Exec
     }
 
     fn switch(&mut self, set: ParamSet) -> Answer {
-        match self.workers {
-            Some(workers) => {
-                self.service
-                    .switch_by(self.rt, &mut self.pass, self.gate, workers, set)
-            }
-            None => {
-                self.service
-                    .switch_alone(self.rt, &mut self.pass, self.gate, set)
-            }
-        }
+        self.workers
+            .switch(self.rt, self.service, &mut self.pass, self.gate, set)
     }
 }

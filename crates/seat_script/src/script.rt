@@ -3,7 +3,7 @@ ghost use Rattle.std.specs.Prelude.{◌≡◌};
 use command_line::SetFile;
 use mgn_ledger::{DayImage, Image};
 use mgn_params::ParamSet;
-use mgn_seat::Seat;
+use mgn_seat::{Alone, Seat};
 use mgn_service::{Gate, Service, Through};
 use mgn_session::{Conversation, Counted, run_lines};
 use mgn_slots::{SlotNames, Slots};
@@ -58,7 +58,7 @@ fn talk<
     let Some(pass) = service.pass(rt) else {
         return Ok(());
     };
-    let mut seat = Seat::new(rt, service, gate, pass);
+    let mut seat = Seat::new(rt, service, gate, pass, &Alone);
     let reader = Counted::new(rt.reader());
     let writer = Counted::new(io::writer(rt));
     let mut talk = Conversation::new(rt.alloc(), reader, writer);

@@ -1,24 +1,20 @@
 //! Sessions of several clients that share one book, by the function that the program calls.
 
-ghost use Rattle.std.specs.Prelude.{◌≡◌, All};
-ghost use Rattle.std.specs.Result.{ForOk};
-ghost use Rattle.mgn_unit.specs.NewSets.{ArePrepared};
-ghost use Rattle.mgn_unit.specs.Prepared.{AreCopied};
+ghost use Rattle.std.specs.Prelude.{◌≡◌};
 
 use crate::client::{ask_last, connect, expect, send};
 use crate::server::{is_turned_away, listen};
 use mgn_ids::SessionNo;
 use mgn_ledger::{DayImage, Image};
-use mgn_params::ParamSet;
-use mgn_service::{Gate, Point, Service, Through, Workers};
+use mgn_seat::Alone;
+use mgn_service::{Gate, Point, Service, Through};
 use mgn_session::NoFiles;
 use mgn_setfile::read_set;
 use mgn_slots::{SlotNames, Slots};
 use mgn_table::{SetTable, TableName};
-use mgn_unit::{CopiedNets, PreparedUnit};
 use spand_lib::Fault;
 use spand_serve::{FaultLines, Serving, serve};
-use std::alloc::{AllocError, Global};
+use std::alloc::Global;
 use std::marker::Brand;
 use std::net::{Net, SocketAddr, TcpListener, TcpStream};
 use std::process::Abort;
@@ -89,7 +85,6 @@ struct Scene<'g, G> {
     taken: u8,
     sessions: usize,
     gate: &'g G,
-    workers: &'g Workers,
     listener: TcpListener,
 }
 
@@ -144,14 +139,13 @@ fn play<
         taken,
         sessions,
         gate,
-        workers,
         listener,
     } = scene;
     let address = listener.local_addr()?;
     let serving = Serving {
         service: service_of::<_, T, J>(rt, alloc, slots, table, taken)?,
         gate,
-        workers,
+        workers: &Alone,
         listener,
         sources: sources(alloc, sessions)?,
     };
@@ -226,10 +220,6 @@ fn staged<R: Threads + Wait + Sync, G: Gate + Sync, C: FnOnce(SocketAddr) + Send
 
 #[test]
 fn sessions_share_a_book(rt: HostRuntime) -> Result<(), Fail> {
-    let marking = move |session: SessionNo, old: &ParamSet, new: &ParamSet, nets: Vec<CopiedNets>| {
-        spand_serve::mark(&rt, session, old, new, nets)
-    };
-    let workers = Workers::new(Box::new(rt.alloc(), marking)?);
     let rt = &rt;
     let listener = listen(rt);
     let port = listener.local_addr()?.port();
@@ -237,7 +227,6 @@ fn sessions_share_a_book(rt: HostRuntime) -> Result<(), Fail> {
         taken: 0,
         sessions: 2,
         gate: &Through,
-        workers: &workers,
         listener,
     };
     let ended = staged(
@@ -269,16 +258,11 @@ fn both_at_once<R: Net<Stream = TcpStream> + Alloc + Abort>(rt: &R, address: Soc
 
 #[test]
 fn of_two_orders_at_once_one_has_room(rt: HostRuntime) -> Result<(), Fail> {
-    let marking = move |session: SessionNo, old: &ParamSet, new: &ParamSet, nets: Vec<CopiedNets>| {
-        spand_serve::mark(&rt, session, old, new, nets)
-    };
-    let workers = Workers::new(Box::new(rt.alloc(), marking)?);
     let rt = &rt;
     let scene = Scene {
         taken: 0,
         sessions: 2,
         gate: &Through,
-        workers: &workers,
         listener: listen(rt),
     };
     let ended = staged(rt, rt.alloc(), scene, |address| both_at_once(rt, address))?;
@@ -310,17 +294,12 @@ fn two_units<R: Net<Stream = TcpStream> + Clock + Abort>(
 
 #[test]
 fn commands_of_two_units_overlap(rt: HostRuntime) -> Result<(), Fail> {
-    let marking = move |session: SessionNo, old: &ParamSet, new: &ParamSet, nets: Vec<CopiedNets>| {
-        spand_serve::mark(&rt, session, old, new, nets)
-    };
-    let workers = Workers::new(Box::new(rt.alloc(), marking)?);
     let rt = &rt;
     let latch = Latch::new(rt);
     let scene = Scene {
         taken: 0,
         sessions: 2,
         gate: &latch,
-        workers: &workers,
         listener: listen(rt),
     };
     let ended = staged(
@@ -342,10 +321,6 @@ fn one_pass_for_three<R: Net<Stream = TcpStream> + Alloc + Abort>(rt: &R, addres
 
 #[test]
 fn a_connection_without_a_pass_is_closed(rt: HostRuntime) -> Result<(), Fail> {
-    let marking = move |session: SessionNo, old: &ParamSet, new: &ParamSet, nets: Vec<CopiedNets>| {
-        spand_serve::mark(&rt, session, old, new, nets)
-    };
-    let workers = Workers::new(Box::new(rt.alloc(), marking)?);
     let rt = &rt;
     let listener = listen(rt);
     let port = listener.local_addr()?.port();
@@ -353,7 +328,6 @@ fn a_connection_without_a_pass_is_closed(rt: HostRuntime) -> Result<(), Fail> {
         taken: 15,
         sessions: 3,
         gate: &Through,
-        workers: &workers,
         listener,
     };
     let ended = staged(

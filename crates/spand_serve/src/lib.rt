@@ -1,12 +1,12 @@
 //! The server of the program: sessions over connections, which share the book of one service.
 #![tactic(auto)]
 
+mod day;
 mod fault_lines;
-mod mark;
-mod run;
-mod serve;
+mod marking;
+mod start;
 
+pub use day::{Serving, serve};
 pub use fault_lines::FaultLines;
-pub use mark::mark;
-pub use run::{Listening, run};
-pub use serve::{Serving, serve};
+pub use marking::mark;
+pub use start::{Clients, Writers, run};

@@ -7,8 +7,8 @@ use mgn_ledger::{DayImage, Gathered, Image, Ledger, Pass};
 use mgn_machine::{Answer, Command, Reply, Request, SharedStatement};
 use mgn_params::ParamSet;
 use mgn_register::Register;
-use mgn_seat::Seat;
-use mgn_service::{Gate, Service, Sight, Through, UnitDesk};
+use mgn_seat::{Seat, Switches};
+use mgn_service::{Gate, Service, Sight, Through, UnitDesk, Workers};
 use mgn_slots::{SlotNames, Slots, Stamp, Stamps};
 use mgn_table::{SetTable, TableName, Tokens};
 use mgn_unit::{CopiedNets, PreparedUnit, Row};
@@ -73,13 +73,15 @@ fn seats<
     T: Image + Send + Sync + 'a,
     J: TableName + SlotNames + Send + Sync + 'a,
     G: Gate + Sync + 's,
+    W: Switches + Sync + 's,
 >(_rt: &R) {
-    crosses::<Seat<'s, 'a, R, T, J, G>>();
+    crosses::<Seat<'s, 'a, R, T, J, G, W>>();
 }
 
 #[test]
 fn the_service_is_shared_and_its_seats_cross(rt: HostRuntime) -> Result<(), Fail> {
     over_slots::<DayImage, Brand>();
-    seats::<_, DayImage, Brand, Through>(&rt);
+    shared::<Workers>();
+    seats::<_, DayImage, Brand, Through, Workers>(&rt);
     Ok(())
 }

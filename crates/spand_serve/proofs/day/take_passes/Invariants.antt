@@ -1,5 +1,5 @@
 use Rattle.std.proofs.Common.{◌≡◌, ◌≤◌, vec_len, vec_capacity, length}
-use Rattle.spand_serve.proofs.serve.take_passes.Given as goal
+use Rattle.spand_serve.proofs.day.take_passes.Given as goal
 
 abbrev pub invariant-loop-seat : goal.invariant-loop-seat
 invariant-loop-seat g l =

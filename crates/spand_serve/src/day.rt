@@ -3,9 +3,9 @@ ghost use Rattle.spand_serve.specs.Served.{IsFresh, IsServed};
 
 use crate::fault_lines::FaultLines;
 use mgn_ledger::{AuditFault, Image, Pass};
-use mgn_seat::Seat;
+use mgn_seat::{Seat, Switches};
 use mgn_server::{Seats, Served};
-use mgn_service::{Gate, Service, Workers};
+use mgn_service::{Gate, Service};
 use mgn_session::SetSource;
 use mgn_slots::SlotNames;
 use mgn_table::TableName;
@@ -19,24 +19,33 @@ use std::thread::Threads;
 /// What is served: a service whose passes are still to be made, with a gate that each call passes and the workers of its
 /// switches, to the connections of a listener.
 #[derive(Drop)]
-pub struct Serving<'g, 'a, T: Image, J: TableName + SlotNames, G: Gate, S: SetSource> {
+pub struct Serving<'g, 'a, T: Image, J: TableName + SlotNames, G: Gate, W: Switches, S: SetSource> {
     pub service: Service<'a, T, J>,
     pub gate: &'g G,
-    pub workers: &'g Workers,
+    pub workers: &'g W,
     pub listener: TcpListener,
     /// Where the session of each connection has its sets from. There are as many connections as sources.
     pub sources: Vec<S>,
 }
 
 // A seat for each source, in order of their passes, as long as there are passes.
-fn seats_of<'s, 'a, R: Wait, T: Image, J: TableName + SlotNames, G: Gate, S: SetSource + Drop>(
+fn seats_of<
+    's,
+    'a,
+    R: Wait,
+    T: Image,
+    J: TableName + SlotNames,
+    G: Gate,
+    W: Switches,
+    S: SetSource + Drop,
+>(
     rt: &'s R,
     alloc: Global,
     service: &'s Service<'a, T, J>,
     gate: &'s G,
-    workers: &'s Workers,
+    workers: &'s W,
     sources: Vec<S>,
-) -> Result<Vec<(Seat<'s, 'a, R, T, J, G>, S)>, AllocError>
+) -> Result<Vec<(Seat<'s, 'a, R, T, J, G, W>, S)>, AllocError>
     ensures { IfOk result (λ seats. All (λ seat. IsFresh seat.0) seats.items) }
 {
     let mut seats = Vec::with_capacity(alloc, sources.len())?;
@@ -44,20 +53,20 @@ fn seats_of<'s, 'a, R: Wait, T: Image, J: TableName + SlotNames, G: Gate, S: Set
         let Some(pass) = service.pass(rt) else {
             break;
         };
-        let seat = Seat::new(rt, service, gate, pass).with_workers(workers);
-        seats.push((seat, source))?;
+        let seat = Seat::new(rt, service, gate, pass, workers);
+        seats.push_reserved((seat, source));
     }
     Ok(seats)
 }
 
 // The passes of the seats, in their order.
-fn take_passes<'a, R: Wait, T: Image, J: TableName + SlotNames, G: Gate>(
-    seats: Vec<Seat<'_, 'a, R, T, J, G>>,
+fn take_passes<'a, R: Wait, T: Image, J: TableName + SlotNames, G: Gate, W: Switches>(
+    seats: Vec<Seat<'_, 'a, R, T, J, G, W>>,
     mut passes: Vec<Pass<'a, T, J>>,
 ) -> Vec<Pass<'a, T, J>>
     requires empty { passes.items ≡ [] }
     requires room { vec_len seats ≤ vec_capacity passes }
-    ensures { result.items ≡ seats.items }
+    ensures { result.items ≡ seats.entry.items }
 {
     for seat in seats {
         passes.push_reserved(seat.into_pass());
@@ -103,15 +112,16 @@ pub fn serve<
     T: Image + Send + Sync,
     J: TableName + SlotNames + Send + Sync,
     G: Gate + Sync,
+    W: Switches + Sync,
     S: SetSource + Send + Drop,
     O: Write,
-    W: Write + Send + Drop,
+    F: Write + Send + Drop,
 >(
     rt: &R,
     alloc: Global,
-    serving: Serving<'_, '_, T, J, G, S>,
+    serving: Serving<'_, '_, T, J, G, W, S>,
     out: &mut O,
-    faults: &Mutex<FaultLines<W>>,
+    faults: &Mutex<FaultLines<F>>,
 ) -> Result<u64, Fault>
     ensures { IfOk result (λ entries. IsServed S.gives entries) }
 {
