@@ -2,7 +2,8 @@
 
   tests/gate.sh                the short run: proves every crate, runs every test and the program, and tries the edits of the
                                crates of which tests/green.txt does not tell that all were refused, in the time that SHORT gives
-  tests/gate.sh --all          the full run: the same, with the edits of all crates, and the scripts tried on themselves
+  tests/gate.sh --all          the full run: the same, with the edits of all crates, those that tests must catch, and the scripts
+                               tried on themselves
   tests/gate.sh --crate NAME.. the proofs and tests of these crates, of all below and of all above them, and the edits of these
   tests/gate.sh --what         says whose edits the short run would try, and does nothing
 """
@@ -25,7 +26,7 @@ SEAT = "seat_script"
 SHORT = 135
 COUNTS = r"(\d+) passed, (\d+) failed"
 # (kit_selftest.py first: where another toolchain has other modules, it says so before all else)
-ITSELF = ("kit_selftest.py", "edits_selftest.py", "gate_selftest.py")
+ITSELF = ("kit_selftest.py", "edits_selftest.py", "caught_selftest.py", "gate_selftest.py")
 
 
 def say(text=""):
@@ -99,17 +100,20 @@ class Gate:
         self.part("sets that tests read", ["tests/sets.sh"], r"(\d+) sets compared, (\d+) differ")
         self.script("bare.py", "--brief")
         self.script("edits.py", "--look")
+        self.script("caught.py", "--look")
 
     def crates(self, proved, tried, until):
-        """Proves and tests the crates, runs the program, and tries the edits of some."""
+        """Proves and tests the crates, runs the program, and tries the edits of some. Returns whether all are proved."""
         keys = self.repository.keys()
         cut(self.repository, proved)
-        if self.part("rt ci", ["rt", "ci"]):
+        is_proved = self.part("rt ci", ["rt", "ci"])
+        if is_proved:
             if PROGRAM in proved:
                 self.program(f"{self.room}/crates/{PROGRAM}/out/{PROGRAM}")
             if SEAT in proved:
                 self.sessions("through a seat", f"{self.room}/crates/{SEAT}/out/{SEAT}")
             self.edits(tried, keys, until)
+        return is_proved
 
     def program(self, program):
         self.part("faults of the program", ["tests/faults.sh", program])
@@ -154,7 +158,9 @@ def run(mode, names):
     with tempfile.TemporaryDirectory(prefix="gate-") as room:
         gate = Gate(source.TOP, room)
         gate.scripts(tried == {*repository.with_edits()})
-        gate.crates(proved, tried, began + SHORT * 60 if not mode else math.inf)
+        is_proved = gate.crates(proved, tried, began + SHORT * 60 if not mode else math.inf)
+        if is_proved and mode == "--all":
+            gate.script("caught.py")
     say(f"gate: {(time.time() - began) / 60:.0f} minutes on {len(os.sched_getaffinity(0))} processors")
     say(f"{gate.passed} passed, {gate.failed} failed")
     return 1 if gate.failed else 0

@@ -247,8 +247,8 @@ fn sets_come_into_force(rt: HostRuntime) -> Result<(), Fail> {
     two_sets::<_, _, Brand>(&rt, rt.alloc(), &slots, &table)
 }
 
-// One of two lots goes to another account, which is a unit of its own.
-const MOVED: [Answered; 9] = [
+// One of two lots goes to another account, which is a unit of its own. Trades of both then find their desks in step.
+const MOVED: [Answered; 11] = [
     ("ORIGIN CUST GROSS", "OK 1\n"),
     ("OPEN A1 CUST", "OK 2\n"),
     ("POST A1 CASH 1000", "OK 3\n"),
@@ -258,6 +258,8 @@ const MOVED: [Answered; 9] = [
     ("POST A2 CASH 300", "OK 7\n"),
     ("MOVE 2 A1 A2 AAA1 1", "OK 8\n"),
     ("TOTAL CUST", "OK 9 600 1300 0 2\n"),
+    ("TRADE A1 3 AAA1 -1 0", "OK 10\n"),
+    ("TRADE A2 4 AAA1 -1 0", "OK 11\n"),
 ];
 
 fn two_units<R: Wait + Abort, T: Image, J: TableName + SlotNames>(
@@ -275,7 +277,7 @@ fn two_units<R: Wait + Abort, T: Image, J: TableName + SlotNames>(
     assert!(rt; service.plain_count(rt) == 0 && service.mark_count() == 2);
     let mut passes = Vec::new(alloc);
     passes.push(pass)?;
-    assert!(rt; service.close(passes) == Ok(9));
+    assert!(rt; service.close(passes) == Ok(11));
     Ok(())
 }
 
