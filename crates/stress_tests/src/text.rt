@@ -1,0 +1,31 @@
+//! Texts that are read line by line, and the files of sets.
+
+use mgn_ids::SetName;
+use mgn_params::ParamSet;
+use mgn_setfile::read_set;
+use std::alloc::Global;
+use worked_sets::{one, two};
+
+/// What is left of a text of lines.
+#[derive(Clone, Copy)]
+pub(crate) struct Rest<'t>(pub(crate) &'t [u8]);
+
+impl<'t> Rest<'t> {
+    /// Takes the next line, without its line feed.
+    pub(crate) fn next_line(&mut self) -> Option<&'t [u8]> {
+        let text = self.0;
+        let end = text.iter().position(|byte| *byte == b'\n')?;
+        self.0 = &text[end + 1..];
+        Some(&text[..end])
+    }
+}
+
+/// The set of a name.
+pub(crate) fn set_of(alloc: Global, name: &SetName) -> Option<ParamSet> {
+    let text = if name.as_bytes() == b"TWO".as_slice() {
+        two()
+    } else {
+        one()
+    };
+    read_set(alloc, text.as_bytes()).ok()
+}
