@@ -1,10 +1,11 @@
-//! The stress test. It rests on no schedule: whatever the threads do, the answers are those of one history.
+//! The stress test. Whatever the threads do, the answers are those of one history; how many there are of each kind varies, far
+//! above what is wanted.
 
 ghost use Rattle.std.specs.Prelude.{◌≡◌};
 
 use crate::drawn::{LINES, OPENING_LINES, SESSIONS, lines_of};
 use crate::player::{Player, play_all};
-use crate::replay::{check, tracks};
+use crate::replay::{Track, check, tracks};
 use crate::text::Rest;
 use crate::told::Told;
 use mgn_ledger::{DayImage, Image, Pass};
@@ -28,6 +29,23 @@ const SLOTS: usize = 81_000;
 
 type Players<'s, 't, 'r, 'a, R, T, J> = Vec<Player<'s, 't, 'r, 'a, R, T, J>>;
 
+fn player<'s, 't, 'r, 'a, R: Wait, T: Image, J: TableName + SlotNames>(
+    rt: &'r R,
+    alloc: Global,
+    service: &'s Service<'a, T, J>,
+    lines: &'t str,
+) -> Result<Player<'s, 't, 'r, 'a, R, T, J>, Fail> {
+    let pass = service.pass(rt).ok_or("a pass")?;
+    Ok(Player {
+        alloc,
+        rt,
+        service,
+        pass,
+        lines: Rest(lines.as_bytes()),
+        told: Told::nothing(alloc),
+    })
+}
+
 // A player for each session.
 fn seated<'s, 't, 'r, 'a, R: Wait, T: Image, J: TableName + SlotNames>(
     rt: &'r R,
@@ -35,16 +53,9 @@ fn seated<'s, 't, 'r, 'a, R: Wait, T: Image, J: TableName + SlotNames>(
     service: &'s Service<'a, T, J>,
     lines: &'t [String],
 ) -> Result<Players<'s, 't, 'r, 'a, R, T, J>, Fail> {
-    let mut players = Vec::new(alloc);
+    let mut players = Vec::with_capacity(alloc, lines.len())?;
     for text in lines {
-        players.push(Player {
-            alloc,
-            rt,
-            service,
-            pass: service.pass(rt).ok_or("a pass")?,
-            lines: Rest(text.as_bytes()),
-            told: Told::nothing(alloc),
-        })?;
+        players.push(player(rt, alloc, service, text)?)?;
     }
     Ok(players)
 }
@@ -60,8 +71,8 @@ fn parted<'s, 't, 'r, 'a, R: Wait, T: Image, J: TableName + SlotNames>(
     alloc: Global,
     players: Players<'s, 't, 'r, 'a, R, T, J>,
 ) -> Result<Ended<'a, T, J>, Fail> {
-    let mut passes = Vec::new(alloc);
-    let mut told = Vec::new(alloc);
+    let mut passes = Vec::with_capacity(alloc, players.len())?;
+    let mut told = Vec::with_capacity(alloc, players.len())?;
     for player in players {
         passes.push(player.pass)?;
         told.push(player.told)?;
@@ -89,16 +100,15 @@ fn play<
     parted(alloc, players)
 }
 
-// Closes the service, whose history has each answer.
-fn end<'a, R: Wait + Abort, T: Image, J: TableName + SlotNames>(
-    rt: &R,
-    service: Service<'a, T, J>,
-    passes: Vec<Pass<'a, T, J>>,
-) {
-    assert_eq!(rt; service.plain_count(rt), 0);
-    assert!(rt; service.close(passes) == Ok(ENTRIES));
+// No answer lacks a place, as one would that says that the service is closed.
+fn check_placed(rt: &impl Abort, told: &[Told]) {
+    for one in told {
+        assert!(rt; one.unplaced.is_empty());
+    }
 }
 
+// All that the sessions are told. The history of the service has each answer. No command was worked out in the book: it would
+// be only if more sets than there are switches had come into force while the command was under way.
 fn stress<
     R: Threads + Wait + Abort + Sync,
     T: Image + Send + Sync,
@@ -116,7 +126,10 @@ fn stress<
     let set = read_set(alloc, one().as_bytes())?;
     let service = Service::<T, J>::new(rt, alloc, slots, table, set, 1)?;
     let Ended { passes, told } = play(rt, alloc, &service, lines)?;
-    end(rt, service, passes);
+    let plain = service.plain_count(rt);
+    let entries = service.close(passes);
+    check_placed(rt, &told);
+    assert!(rt; plain == 0 && entries == Ok(ENTRIES));
     Ok(told)
 }
 
@@ -131,25 +144,28 @@ fn stressed<R: Threads + Wait + Abort + Sync>(
     stress::<_, _, Brand>(rt, alloc, &slots, &table, lines)
 }
 
-// No answer lacks a place, as one would that says that the service is closed.
-fn check_placed(rt: &impl Abort, told: &[Told]) {
-    for one in told {
-        assert!(rt; one.unplaced.is_empty());
-    }
-}
-
-// A book of one thread gives the same replies, and there are many of each kind.
-fn check_replies(
+// A book gives the same replies, and there are many of each kind.
+fn check_by(
     rt: &impl Abort,
     alloc: Global,
-    lines: &[String],
-    told: &[Told],
+    plain: &mut Plain,
+    tracks: &mut [Track<'_>],
 ) -> Result<(), Fail> {
-    let mut tracks = tracks(alloc, lines, told)?;
-    let mut plain = Plain::new(alloc, read_set(alloc, one().as_bytes())?)?;
-    let counts = check(rt, alloc, &mut plain, tracks.as_mut_slice(), ENTRIES)?;
+    let counts = check(rt, alloc, plain, tracks, ENTRIES)?;
     assert!(rt; counts.are_many(), "{counts:?}");
     Ok(())
+}
+
+// A book of one thread does so from its first set on.
+fn check_tracks(rt: &impl Abort, alloc: Global, tracks: &mut [Track<'_>]) -> Result<(), Fail> {
+    let set = read_set(alloc, one().as_bytes())?;
+    let mut plain = Plain::new(alloc, set)?;
+    check_by(rt, alloc, &mut plain, tracks)
+}
+
+fn check_told(rt: &impl Abort, alloc: Global, lines: &[String], told: &[Told]) -> Result<(), Fail> {
+    let mut tracks = tracks(alloc, lines, told)?;
+    check_tracks(rt, alloc, tracks.as_mut_slice())
 }
 
 // The lines of all sessions.
@@ -165,6 +181,5 @@ fn all_lines(alloc: Global) -> Result<Vec<String>, Fail> {
 fn sixteen_sessions_have_one_history(rt: HostRuntime) -> Result<(), Fail> {
     let lines = all_lines(rt.alloc())?;
     let told = stressed(&rt, rt.alloc(), &lines)?;
-    check_placed(&rt, &told);
-    check_replies(&rt, rt.alloc(), &lines, &told)
+    check_told(&rt, rt.alloc(), &lines, &told)
 }
