@@ -1,13 +1,13 @@
 //! Sessions on threads of their own.
 
 use crate::drawn::LINES;
-use crate::text::{Rest, set_of};
+use crate::text::{Rest, request_of};
 use crate::told::Told;
 use mgn_ledger::{Image, Pass};
+use mgn_machine::Request;
 use mgn_service::{Service, Through};
 use mgn_slots::SlotNames;
 use mgn_table::TableName;
-use mgn_wire::{Line, read_line};
 use std::alloc::Global;
 use std::sync::Wait;
 use std::thread;
@@ -39,21 +39,15 @@ pub(crate) struct Player<'s, 't, 'r, 'a, R: Wait, T: Image, J: TableName + SlotN
 impl<'s, 't, 'r, 'a, R: Wait, T: Image, J: TableName + SlotNames> Player<'s, 't, 'r, 'a, R, T, J> {
     // A line that asks for nothing is answered nothing, which the count of the entries shows.
     fn ask(&mut self, line: &[u8]) {
-        match read_line(line) {
-            Ok(Line::Do(command)) => {
-                let pass = &mut self.pass;
-                let answer = self.service.exec(self.rt, pass, &Through, &command);
-                self.told.hear(answer);
-            }
-            Ok(Line::Switch(name)) => {
-                if let Some(set) = set_of(self.alloc, &name) {
-                    let pass = &mut self.pass;
-                    let answer = self.service.switch_alone(self.rt, pass, &Through, set);
-                    self.told.hear(answer);
-                }
-            }
-            Err(_) => {}
-        }
+        let Some(request) = request_of(self.alloc, line) else {
+            return;
+        };
+        let pass = &mut self.pass;
+        let answer = match request {
+            Request::Do(command) => self.service.exec(self.rt, pass, &Through, &command),
+            Request::Switch(set) => self.service.switch_alone(self.rt, pass, &Through, set),
+        };
+        self.told.hear(answer);
     }
 
     /// Asks the next lines.

@@ -1,8 +1,10 @@
 //! Texts that are read line by line, and the files of sets.
 
 use mgn_ids::SetName;
+use mgn_machine::Request;
 use mgn_params::ParamSet;
 use mgn_setfile::read_set;
+use mgn_wire::{Line, read_line};
 use std::alloc::Global;
 use worked_sets::{one, two};
 
@@ -28,4 +30,13 @@ pub(crate) fn set_of(alloc: Global, name: &SetName) -> Option<ParamSet> {
         one()
     };
     read_set(alloc, text.as_bytes()).ok()
+}
+
+/// What a line asks for.
+pub(crate) fn request_of(alloc: Global, line: &[u8]) -> Option<Request> {
+    match read_line(line) {
+        Ok(Line::Do(command)) => Some(Request::Do(command)),
+        Ok(Line::Switch(name)) => Some(Request::Switch(set_of(alloc, &name)?)),
+        Err(_) => None,
+    }
 }
