@@ -32,11 +32,18 @@ pub(crate) fn set_of(alloc: Global, name: &SetName) -> Option<ParamSet> {
     read_set(alloc, text.as_bytes()).ok()
 }
 
+// What is asked for.
+fn request(alloc: Global, line: &Line) -> Option<Request> {
+    match line {
+        Line::Do(command) => Some(Request::Do(*command)),
+        Line::Switch(name) => Some(Request::Switch(set_of(alloc, name)?)),
+    }
+}
+
 /// What a line asks for.
 pub(crate) fn request_of(alloc: Global, line: &[u8]) -> Option<Request> {
     match read_line(line) {
-        Ok(Line::Do(command)) => Some(Request::Do(command)),
-        Ok(Line::Switch(name)) => Some(Request::Switch(set_of(alloc, &name)?)),
+        Ok(line) => request(alloc, &line),
         Err(_) => None,
     }
 }
