@@ -11,7 +11,8 @@ fn main(rt: HostRuntime) -> ExitCode {
     let ended = match command_line::read(&rt) {
         Ok(Request::Script(file)) => script::run(&rt, &file),
         Ok(Request::Check(file)) => check::run(&rt, &file),
-        Ok(Request::Serve(_)) => Ok(()),
+        // (it has one session)
+        Ok(Request::Serve(_options)) => Err(Fault::Port),
         Err(error) => Err(Fault::from(error)),
     };
     match ended {
