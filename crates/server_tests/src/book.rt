@@ -14,7 +14,7 @@ use mgn_slots::{SlotNames, Slots};
 use mgn_table::{SetTable, TableName};
 use spand_lib::Fault;
 use spand_serve::{FaultLines, Serving, serve};
-use std::alloc::Global;
+use std::alloc::{AllocError, Global};
 use std::marker::Brand;
 use std::net::{Net, SocketAddr, TcpListener, TcpStream};
 use std::process::Abort;
