@@ -1,4 +1,4 @@
-ghost use Rattle.std.specs.Prelude.{◌≡◌, ◌≤◌, ◌+◌, ◌++◌, ◌^◌, ◌<ℤ◌, ◌≤ℤ◌, ◌+ℤ◌, ◌-ℤ◌, ◌*ℤ◌, pos, neg_ℤ, unsigned_abs, IsTrue, ◌↔◌, OnOk, OnErr};
+ghost use Rattle.std.specs.Prelude.{◌≡◌, ◌≤◌, ◌+◌, ◌++◌, ◌^◌, ◌<ℤ◌, ◌≤ℤ◌, ◌+ℤ◌, ◌-ℤ◌, ◌*ℤ◌, pos, neg_ℤ, unsigned_abs, IsTrue, IsOk, ◌↔◌, OnOk, OnErr, length, vec_capacity};
 ghost use Rattle.std.specs.Int.{int_max};
 ghost use Rattle.std.specs.Fmt.{signed_decimal};
 ghost use Rattle.mgn_num.specs.Reading.{number_of};
@@ -134,10 +134,15 @@ impl Cents {
         Ok(Cents { amount: number })
     }
 
-    /// Appends the amount's text, as `parse` reads it. At an error nothing is appended.
+    /// Appends the amount's text, as `parse` reads it, at most 38 bytes. At an error nothing is appended; where there is
+    /// room for 38 bytes there is none.
+    #[tactic(auto, using(crate::proofs::TextLemmas::signed_decimal_short))]
     pub fn print(self, out: &mut Vec<u8>) -> Result<(), AllocError>
         ensures ok { OnOk result (out.new.items ≡ out.old.items ++ signed_decimal self) }
         ensures err { OnErr result (out.new.items ≡ out.old.items) }
+        ensures room { length out.old.items + 38 ≤ vec_capacity out.old → IsOk result }
+        ensures longer { OnOk result (length out.new.items ≤ length out.old.items + 38) }
+        ensures capacity { vec_capacity out.old ≤ vec_capacity out.new }
     {
         let mut buffer = Buffer::new();
         out.extend_from_slice(buffer.format(self.amount).as_bytes())

@@ -1,0 +1,11 @@
+-- How long the text of a number is.
+use Rattle.std.proofs.Common.{◌+◌, ◌≡◌, ℕ, suc, ◌<◌, ◌≤◌, length, arith, add-one, refl}
+use Rattle.std.specs.Prelude.{ℤ, pos, negsuc, ◌^◌, unsigned_abs}
+use Rattle.std.specs.Fmt.{decimal, signed_decimal}
+use Rattle.std.proofs.lemmas.Int.{ints}
+use Rattle.std.proofs.lemmas.Fmt.{length-decimal-le_wide}
+
+-- at most 37 digits and a sign
+pub signed_decimal_short : (z : ℤ) → unsigned_abs z ≤ 10 ^ 36 → length (signed_decimal z) ≤ 38
+signed_decimal_short (pos n) small = omega (arith, length-decimal-le_wide 37 n (omega arith) (omega arith) (omega arith))
+signed_decimal_short (negsuc n) small = omega (arith, length-decimal-le_wide 37 (suc n) (omega arith) (omega arith) (omega arith))
