@@ -1,6 +1,7 @@
 -- How a history keeps replies other than a refusal and a plain `OK`: figures whose amounts fit in 64 bits in one list, all
 -- others in another.
-use Rattle.std.specs.Prelude.{◌≡◌, ℕ, pos, ◌+◌, ◌++◌, ◌<◌, ◌≤◌, Bool, List, length, slice_index_or}
+use Rattle.std.specs.Prelude.{◌≡◌, ℕ, pos, ◌+◌, ◌++◌, ◌<◌, ◌≤◌, Bool, List, length, slice_index_or, FitsSigned}
+use Rattle.std.specs.Int.{w64}
 use Rattle.mgn_machine.specs.declared.reply.Figures.{Figures}
 use Rattle.mgn_machine.specs.declared.reply.Reply.{Reply}
 use Rattle.mgn_machine.specs.declared.reply.Reply.TheVariants as reply
@@ -47,3 +48,17 @@ AreFewReplies entries r = (length r.figures ≤ entries) × (length r.others ≤
 abbrev pub AddsFewReplies : ReplyLists → ReplyLists → Type 0
 AddsFewReplies old new =
     (length new.figures ≤ length old.figures + 1) × (length new.others ≤ length old.others + 1)
+
+-- 64 bits hold each of the amounts
+abbrev pub AreNarrow : Figures → Type 0
+AreNarrow f =
+    FitsSigned w64 f.requirement × (FitsSigned w64 f.exposure_requirement
+    × (FitsSigned w64 f.value × (FitsSigned w64 f.exposure_value × FitsSigned w64 f.room)))
+
+-- A reply takes no more than it has to beside its entry: nothing where it is an `OK` alone or a refusal, and no whole
+-- reply where narrow figures hold it.
+abbrev pub TakesLittle : Reply → ReplyLists → ReplyLists → Type 0
+TakesLittle reply.Done old new = (new.figures ≡ old.figures) × (new.others ≡ old.others)
+TakesLittle (reply.Refused why) old new = (new.figures ≡ old.figures) × (new.others ≡ old.others)
+TakesLittle (reply.Figures figures) old new = AreNarrow figures → new.others ≡ old.others
+TakesLittle other old new = new.figures ≡ old.figures

@@ -1,4 +1,4 @@
-ghost use Rattle.std.specs.Prelude.{◌≡◌, ◌<◌, ◌≤◌, ◌++◌, ◌∷◌, [], length, slice_index_or, IfOk, IfSome, IsOk, MatchOption, OnErr, OnOk, true};
+ghost use Rattle.std.specs.Prelude.{◌≡◌, ◌<◌, ◌≤◌, ◌++◌, ◌∷◌, [], ℕ, length, slice_index_or, IfOk, IfSome, IsOk, IsSome, MatchOption, OnErr, OnOk, true};
 ghost use Rattle.std.specs.List.{slice_get};
 ghost use Rattle.std.specs.Option.{option_flatten, option_map};
 ghost use Rattle.mgn_machine.specs.declared.entry.Entry.{Entry};
@@ -166,7 +166,8 @@ impl History {
 
 // Where a list has a set.
 fn place_of(sets: &[ParamSet], set: &ParamSet) -> Option<usize>
-    ensures { IfSome result (λ i. (i < length sets.now) × (slice_index_or sets.now i (no_tables []) ≡ set.now)) }
+    ensures there { IfSome result (λ i. (i < length sets.now) × (slice_index_or sets.now i (no_tables []) ≡ set.now)) }
+    ensures absent { (i : ℕ) → i < length sets.now → slice_index_or sets.now i (no_tables []) ≡ set.now → IsSome result }
 {
     for place in 0..sets.len() {
         if sets[place].is_same(set) {
@@ -177,12 +178,14 @@ fn place_of(sets: &[ParamSet], set: &ParamSet) -> Option<usize>
 }
 
 // Puts a set that was refused at the end of a list, unless the list has it, and returns its place. Without memory for that
-// the list is as it was.
+// the list is as it was. A set that the list has takes none.
 fn store_set(refused: &mut Vec<ParamSet>, set: ParamSet) -> Result<usize, AllocError>
     ensures grown { OnOk result (Grows refused.old.items refused.new.items) }
     ensures within { IfOk result (λ place. place < length refused.new.items) }
     ensures set { IfOk result (λ place. slice_index_or refused.new.items place (no_tables []) ≡ set) }
     ensures err { OnErr result (refused.new.items ≡ refused.old.items) }
+    ensures once { (i : ℕ) → i < length refused.old.items → slice_index_or refused.old.items i (no_tables []) ≡ set →
+        IsOk result × (refused.new.items ≡ refused.old.items) }
 {
     if let Some(place) = place_of(refused.as_slice(), &set) {
         return Ok(place);

@@ -1,8 +1,9 @@
 //! What replies of the history are stored as.
 
-ghost use Rattle.std.specs.Prelude.{◌≡◌, ◌≤◌, [], length, IfOk, IfSome, IsOk, OnOk, true};
+ghost use Rattle.std.specs.Prelude.{◌≡◌, ◌≤◌, [], length, FitsSigned, IfOk, IfSome, IsOk, IsSome, OnOk, true};
+ghost use Rattle.std.specs.Int.{w64};
 ghost use Rattle.mgn_machine.specs.Brief.{is_brief};
-ghost use Rattle.mgn_book.specs.Replies.{AddsFewReplies, IsKept, KeepsReplies, reply_of};
+ghost use Rattle.mgn_book.specs.Replies.{AddsFewReplies, AreNarrow, IsKept, KeepsReplies, TakesLittle, reply_of};
 
 use mgn_machine::{Figures, Refusal, Reply};
 use mgn_num::Cents;
@@ -42,7 +43,8 @@ impl Model for NarrowFigures {
 }
 
 fn narrowed(amount: Cents) -> Option<i64>
-    ensures { IfSome result (λ cents. cents ≡ amount) }
+    ensures same { IfSome result (λ cents. cents ≡ amount) }
+    ensures fits { FitsSigned w64 amount → IsSome result }
 {
     i64::try_from(amount.amount()).ok()
 }
@@ -50,7 +52,8 @@ fn narrowed(amount: Cents) -> Option<i64>
 impl NarrowFigures {
     /// The figures, none where one does not fit.
     fn of(figures: &Figures) -> Option<NarrowFigures>
-        ensures { IfSome result (λ narrow. narrow ≡ figures.now) }
+        ensures same { IfSome result (λ narrow. narrow ≡ figures.now) }
+        ensures fits { AreNarrow figures.now → IsSome result }
     {
         Some(NarrowFigures {
             requirement: narrowed(figures.requirement)?,
@@ -126,7 +129,8 @@ impl Replies {
         self.others.reserve(1)
     }
 
-    /// Stores a reply, in the memory that is reserved.
+    /// Stores a reply, in the memory that is reserved: figures that fit in 64 bits in half the room, an `OK` alone and a
+    /// refusal in none.
     pub fn store(&mut self, reply: Reply) -> StoredReply
         requires room { self.old.has_room ≡ true }
         requires few_figures { length self.old.figures ≤ 1000000 }
@@ -135,6 +139,7 @@ impl Replies {
         ensures stored { IsKept self.new result }
         ensures reply { reply_of self.new result ≡ reply }
         ensures few { AddsFewReplies self.old self.new }
+        ensures little { TakesLittle reply self.old self.new }
     {
         match reply {
             Reply::Done => StoredReply::Done,
@@ -152,6 +157,7 @@ impl Replies {
         ensures stored { IsKept self.new result }
         ensures reply { reply_of self.new result ≡ Reply.Figures figures.now }
         ensures few { AddsFewReplies self.old self.new }
+        ensures little { AreNarrow figures.now → self.new.others ≡ self.old.others }
     {
         let Some(narrow) = NarrowFigures::of(figures) else {
             return self.store_other(Reply::Figures(*figures));
@@ -168,6 +174,7 @@ impl Replies {
         ensures stored { IsKept self.new result }
         ensures reply { reply_of self.new result ≡ reply }
         ensures few { AddsFewReplies self.old self.new }
+        ensures figures { self.new.figures ≡ self.old.figures }
     {
         let place = self.others.len() as u32;
         self.others.push_reserved(reply);

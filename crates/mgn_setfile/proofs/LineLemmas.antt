@@ -1,21 +1,21 @@
 -- The records of one line, by what a reader of that line found, and the lines of a text.
-use Rattle.std.proofs.Common.{◌≡◌, ◌+◌, ◌-◌, ◌<◌, ◌≤◌, ℕ, zero, suc, List, [], ◌∷◌, ◌++◌, length, take, drop, Bool, true, false, Option, Some, None, Ok, Err, refl, sym, ap, ◌∙◌, ⊎_elim, arith}
+use Rattle.std.proofs.Common.{All, ◌≡◌, ◌==◌, ◌+◌, ◌-◌, ◌<◌, ◌≤◌, ℕ, zero, suc, List, [], ◌∷◌, ◌++◌, length, take, drop, Bool, true, false, Option, Some, None, Ok, Err, refl, sym, ap, ◌∙◌, ⊎_elim, arith}
 use Rattle.std.specs.Prelude.{position}
 use Rattle.std.specs.List.{slice_split, position_or_len}
-use Rattle.std.proofs.lemmas.Bool.{cases_lt, le-ltb, lt-ltb}
+use Rattle.std.proofs.lemmas.Bool.{cases_lt, eqb-true, le-ltb, lt-ltb}
 use Rattle.std.proofs.lemmas.List.{append-nil}
-use Rattle.std.proofs.lemmas.List.Elements.{All-from_get_or}
+use Rattle.std.proofs.lemmas.List.Elements.{All-from_get_or, All-head, All-tail}
 use Rattle.std.proofs.lemmas.List.Splits.{slice_split_first, slice_split_none}
-use Rattle.std.proofs.lemmas.List.Sums.{fails_before_first}
+use Rattle.std.proofs.lemmas.List.Sums.{AllPass-from_list_all, fails_before_first}
 use Rattle.csv.proofs.ReadFacts.{rows-end, rows-more}
 use Rattle.csv.specs.declared.parser.State.{State}
 use Rattle.csv.specs.declared.parser.State.TheVariants as st
 use Rattle.csv.specs.declared.reader.Reader.{Reader}
 use Rattle.csv.specs.Machine.{next_record}
-use Rattle.csv.specs.Reading.{ReadRecord, Reached, default_config, records, records_from, source_of}
+use Rattle.csv.specs.Reading.{ReadRecord, Reached, default_config, records, records_from, source_of, strip_bom}
 use Rattle.mgn_setfile.specs.declared.fault.LineFault.TheVariants.{Second}
 use Rattle.mgn_setfile.specs.Fields.{Fields}
-use Rattle.mgn_setfile.specs.Lines.{single}
+use Rattle.mgn_setfile.specs.Lines.{is_blank, line_records, single}
 
 -- records that were reached come first, and after them those of the bytes that are left
 pub reached_first : (n : ℕ) (s t : State) (xs ys : List ℕ) (rows : List Fields) → Reached default_config s xs rows t ys → records_from default_config (length rows + n) s xs ≡ rows ++ records_from default_config n t ys
@@ -36,6 +36,16 @@ pub none_left : (n : ℕ) (t : State) (ys : List ℕ) → next_record default_co
 unfolding records_from
 none_left zero t ys stop = refl
 none_left (suc n) t ys stop = rw stop refl
+
+-- carriage returns alone are no record
+returns_alone : (n : ℕ) (line : List ℕ) → All (λ b. (b == 13) ≡ true) line → records_from default_config n st.StartRecord line ≡ []
+unfolding records_from next_record
+returns_alone zero line all = refl
+returns_alone (suc n) [] all = refl
+returns_alone (suc n) (b ∷ bs) all = rw (eqb-true b 13 (All-head (λ x. (x == 13) ≡ true) b bs all)) (returns_alone (suc n) bs (All-tail (λ x. (x == 13) ≡ true) b bs all))
+
+pub blank_line : (line : List ℕ) → is_blank line ≡ true → line_records line ≡ []
+blank_line line blank = returns_alone (length (strip_bom line) + 1) (strip_bom line) (AllPass-from_list_all (λ b. b == 13) (strip_bom line) blank)
 
 -- all records of a line, where one or none was read before the end
 pub all_read : (rows : List Fields) (t : State) (xs ys : List ℕ) → length rows ≤ 1 → Reached default_config st.StartRecord xs rows t ys → next_record default_config t [] [] ys ≡ None → records default_config xs ≡ rows

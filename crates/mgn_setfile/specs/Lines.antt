@@ -1,6 +1,6 @@
 -- The lines of a file, and the record of one line.
-use Rattle.std.specs.Prelude.{◌≡◌, ℕ, ◌==◌, List, [], ◌∷◌, Option, Some, None, Result, Ok, Err}
-use Rattle.std.specs.List.{slice_split}
+use Rattle.std.specs.Prelude.{◌≡◌, ℕ, ◌==◌, Bool, List, [], ◌∷◌, Option, Some, None, Result, Ok, Err}
+use Rattle.std.specs.List.{list_all, slice_split}
 use Rattle.csv.specs.Reading.{default_config, records, strip_bom}
 use Rattle.mgn_setfile.specs.declared.fault.Cause.{Cause}
 use Rattle.mgn_setfile.specs.declared.fault.Cause.TheVariants as cause
@@ -16,6 +16,10 @@ lines_left (Some rest) = slice_split (λ b. b == 10) rest
 -- the records that the grammar of csv gives for the bytes of one line alone, without a byte order mark at its start
 abbrev pub line_records : List ℕ → List Fields
 line_records line = records default_config (strip_bom line)
+
+-- nothing, or carriage returns alone, after a byte order mark or without one
+abbrev pub is_blank : List ℕ → Bool
+is_blank line = list_all (λ b. b == 13) (strip_bom line)
 
 -- a line has one record or none
 abbrev pub single : List Fields → Result (Option Fields) LineFault

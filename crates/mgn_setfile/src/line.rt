@@ -3,7 +3,8 @@
 ghost use Rattle.std.specs.Prelude.{◌≡◌, ◌<◌, ◌∷◌, ◌==◌, length, map, option_map, position, IfOk, IfSome};
 ghost use Rattle.std.specs.List.{slice_split};
 ghost use Rattle.csv.specs.Records.{fields_of};
-ghost use Rattle.mgn_setfile.specs.Lines.{Gives, line_records, lines_left, single};
+ghost use Rattle.csv.specs.Reading.{strip_bom};
+ghost use Rattle.mgn_setfile.specs.Lines.{Gives, is_blank, line_records, lines_left, single};
 
 use crate::fault::LineFault;
 use csv::{ByteRecord, ReaderBuilder};
@@ -28,8 +29,37 @@ pub(crate) fn cut_line(text: &[u8]) -> (&[u8], Option<&[u8]>)
     }
 }
 
-// The record of a line, or `None` where the line has none.
+// A line without the byte order mark that it may begin with.
+#[tactic(auto, unfolding(csv::specs::Reading::strip_bom))]
+fn unmarked(line: &[u8]) -> &[u8]
+    ensures { result.now ≡ strip_bom line.now }
+{
+    match line {
+        [0xEF, 0xBB, 0xBF, rest @ ..] => rest,
+        _ => line,
+    }
+}
+
+// Whether a line has nothing, or carriage returns alone, so that no record can stand in it.
+fn is_blank(line: &[u8]) -> bool
+    ensures { result ≡ is_blank line.now }
+{
+    unmarked(line).iter().all(|byte| *byte == b'\r')
+}
+
+// The record of a line, or `None` where the line has none. Blank lines need no reader: making one takes longer than most lines
+// do.
 pub(crate) fn read_record(alloc: Global, line: &[u8]) -> Result<Option<ByteRecord>, LineFault>
+    ensures { Gives (option_map fields_of) result (single (line_records line.now)) }
+{
+    if is_blank(line) {
+        return Ok(None);
+    }
+    read_row(alloc, line)
+}
+
+// The same of any line, by a reader.
+fn read_row(alloc: Global, line: &[u8]) -> Result<Option<ByteRecord>, LineFault>
     ensures { Gives (option_map fields_of) result (single (line_records line.now)) }
 {
     let mut reader = ReaderBuilder::new()

@@ -4,10 +4,19 @@
 
 mod script;
 
+ghost use Rattle.std.specs.Prelude.{All};
+ghost use Rattle.std.specs.Result.{ForOk};
+ghost use Rattle.mgn_unit.specs.NewSets.{ArePrepared};
+ghost use Rattle.mgn_unit.specs.Prepared.{AreCopied};
+
 use command_line::Request;
-use mgn_seat::Alone;
+use mgn_ids::SessionNo;
+use mgn_params::ParamSet;
+use mgn_service::Workers;
+use mgn_unit::{CopiedNets, PreparedUnit};
 use spand_lib::{Fault, Folder, check};
 use spand_serve::{Clients, Writers};
+use std::alloc::AllocError;
 use std::io;
 use std::net::{Ipv4Addr, TcpListener};
 use std::process::ExitCode;
@@ -18,19 +27,29 @@ fn main(rt: HostRuntime) -> ExitCode {
         Ok(Request::Check(file)) => check::run(&rt, &file),
         Ok(Request::Serve(options)) => {
             let mut source = Folder::new(&rt, options.file.dir.as_str());
+            let marking = move |session: SessionNo, old: &ParamSet, new: &ParamSet, nets: Vec<
+                CopiedNets,
+            >| -> Result<Vec<Option<PreparedUnit>>, AllocError>
+                requires { All (AreCopied old.now) nets.items }
+                ensures { ForOk result (λ units. ArePrepared new.now units.items) }
+            { spand_serve::mark(&rt, session, old, new, nets) };
             match spand_lib::read(rt.alloc(), &mut source, options.file.set.as_str()) {
-                Ok(first) => {
-                    let clients = Clients {
-                        sessions: options.sessions,
-                        source,
-                        bind: || TcpListener::bind(&rt, (Ipv4Addr::LOCALHOST, options.port)),
-                    };
-                    let writers = Writers {
-                        out: io::writer(&rt),
-                        errors: rt.stderr(),
-                    };
-                    spand_serve::run(&rt, rt.alloc(), first.set, clients, &Alone, writers)
-                }
+                Ok(first) => match Box::new(rt.alloc(), marking) {
+                    Ok(marking) => {
+                        let clients = Clients {
+                            sessions: options.sessions,
+                            source,
+                            bind: || TcpListener::bind(&rt, (Ipv4Addr::LOCALHOST, options.port)),
+                        };
+                        let writers = Writers {
+                            out: io::writer(&rt),
+                            errors: rt.stderr(),
+                        };
+                        let workers = Workers::new(marking);
+                        spand_serve::run(&rt, rt.alloc(), first.set, clients, &workers, writers)
+                    }
+                    Err(refused) => Err(Fault::from(AllocError::from(refused))),
+                },
                 Err(fault) => Err(fault),
             }
         }

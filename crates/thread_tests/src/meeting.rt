@@ -9,24 +9,33 @@ use std::time::{Clock, Duration};
 /// How often a wait looks before it gives up, a millisecond apart.
 const TURNS: u32 = 10_000;
 
-/// Keeps the calls of a session that come to a point there until so many have come, or have said that they have.
+/// Until when a call is kept.
+#[derive(Clone, Copy)]
+pub(crate) enum Until {
+    /// So many have come, or have said that they have.
+    Come(u64),
+    /// One more has come than when it came.
+    OneMore,
+}
+
+/// Keeps the calls of a session that come to a point.
 #[derive(Drop)]
 pub(crate) struct Meeting<'r, R> {
     rt: &'r R,
     session: u8,
     point: Point,
-    wanted: u64,
+    until: Until,
     come: AtomicU64,
     is_missed: AtomicBool,
 }
 
 impl<'r, R: Clock> Meeting<'r, R> {
-    pub(crate) fn new(rt: &'r R, session: u8, point: Point, wanted: u64) -> Meeting<'r, R> {
+    pub(crate) fn new(rt: &'r R, session: u8, point: Point, until: Until) -> Meeting<'r, R> {
         Meeting {
             rt,
             session,
             point,
-            wanted,
+            until,
             come: AtomicU64::new(0),
             is_missed: AtomicBool::new(false),
         }
@@ -37,9 +46,9 @@ impl<'r, R: Clock> Meeting<'r, R> {
         self.rt
     }
 
-    /// One more has come.
-    pub(crate) fn come(&self) {
-        let _ = self.come.fetch_add(1, Ordering::SeqCst);
+    /// One more has come. Tells how many came before it.
+    pub(crate) fn come(&self) -> u64 {
+        self.come.fetch_add(1, Ordering::SeqCst)
     }
 
     /// Waits until so many have come. Where they do not in time the meeting is missed.
@@ -62,8 +71,11 @@ impl<'r, R: Clock> Meeting<'r, R> {
 impl<'r, R: Clock> Gate for Meeting<'r, R> {
     fn at(&self, point: Point, session: SessionNo) {
         if point == self.point && session.number() == self.session {
-            self.come();
-            self.wait_for(self.wanted);
+            let before = self.come();
+            self.wait_for(match self.until {
+                Until::Come(wanted) => wanted,
+                Until::OneMore => before.saturating_add(2),
+            });
         }
     }
 }

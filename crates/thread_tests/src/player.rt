@@ -26,6 +26,8 @@ pub(crate) enum Deed {
     Await(u64),
     /// Comes to the meeting.
     Come,
+    /// Switches so many times, each once the first session has come again, and comes after each.
+    SwitchEachTime(u64),
 }
 
 /// What is done on a thread of its own.
@@ -64,7 +66,16 @@ impl<'s, 'm, 'r, 'a, R: Wait + Clock, T: Image, J: TableName + SlotNames> Player
     fn act(&mut self, deed: Deed) {
         match deed {
             Deed::Await(wanted) => self.meeting.wait_for(wanted),
-            Deed::Come => self.meeting.come(),
+            Deed::Come => {
+                let _ = self.meeting.come();
+            }
+            Deed::SwitchEachTime(times) => {
+                for time in 0..times {
+                    self.meeting.wait_for(time.saturating_mul(2).saturating_add(1));
+                    self.act(Deed::Switch);
+                    let _ = self.meeting.come();
+                }
+            }
             Deed::Call(line) => {
                 if let Ok(Line::Do(command)) = read_line(line.as_bytes()) {
                     let meeting = self.meeting;

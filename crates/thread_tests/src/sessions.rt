@@ -3,7 +3,7 @@
 
 ghost use Rattle.std.specs.Prelude.{◌≡◌};
 
-use crate::meeting::Meeting;
+use crate::meeting::{Meeting, Until};
 use crate::player::{Deed, Player, play_all};
 use mgn_ledger::{DayImage, Image, Pass};
 use mgn_service::{Point, Service};
@@ -23,12 +23,12 @@ use worked_sets::{one, two};
 /// How many workers share the units of a switch.
 const WORKERS: usize = 2;
 
-/// What two sessions do at the same time; calls of the first that come to a point are kept there until so many have come.
+/// What two sessions do at the same time; calls of the first that come to a point are kept there for a time.
 struct Scene {
     first: &'static [Deed],
     second: &'static [Deed],
     point: Point,
-    wanted: u64,
+    until: Until,
 }
 
 /// What came of it: what both were told, how many units were worked out in the book for a command and for a switch, and how
@@ -104,7 +104,7 @@ fn stage<
 {
     let set = read_set(alloc, one().as_bytes())?;
     let service = Service::<T, J>::new(rt, alloc, slots, table, set, WORKERS)?;
-    let meeting = Meeting::new(rt, 1, scene.point, scene.wanted);
+    let meeting = Meeting::new(rt, 1, scene.point, scene.until);
     let players = play(rt, alloc, &service, &meeting, scene)?;
     end(rt, alloc, service, players)
 }
@@ -136,13 +136,13 @@ fn end<'a, R: Wait, T: Image, J: TableName + SlotNames>(
     })
 }
 
-// Plays a scene over 20 slots.
+// Plays a scene over 80 slots.
 fn staged<R: Threads + Wait + Clock + Abort + Sync>(
     rt: &R,
     alloc: Global,
     scene: &Scene,
 ) -> Result<Played, Fail> {
-    let slots = Slots::<DayImage>::new(alloc, 20)?;
+    let slots = Slots::<DayImage>::new(alloc, 80)?;
     let table = SetTable::new(alloc)?;
     stage::<_, _, Brand>(rt, alloc, &slots, &table, scene)
 }
@@ -158,7 +158,7 @@ const ROOM_FOR_ONE: Scene = Scene {
     ],
     second: &[Deed::Await(1), Deed::Call("HOLD A1 2 AAA1 2 0")],
     point: Point::Prepared,
-    wanted: 0,
+    until: Until::Come(0),
 };
 
 #[test]
@@ -185,7 +185,7 @@ const SWITCH_BETWEEN: Scene = Scene {
     ],
     second: &[Deed::Await(1), Deed::Switch, Deed::Come],
     point: Point::Applied,
-    wanted: 2,
+    until: Until::Come(2),
 };
 
 #[test]
@@ -194,6 +194,74 @@ fn a_set_comes_into_force_beside_an_order(rt: HostRuntime) -> Result<(), Fail> {
     assert!(&rt; played.first.as_slice() == "OK 1\nOK 2\nOK 3\nERR 5 30 NOROOM\n".as_bytes());
     assert!(&rt; played.second.as_slice() == "OK 4 1 0\n".as_bytes());
     assert!(&rt; played.plain == 0 && played.late == 0 && played.entries == 5);
+    Ok(())
+}
+
+// A position moves between two units while another unit gets a lot and a set comes into force.
+const MOVE_BESIDE_A_SWITCH: Scene = Scene {
+    first: &[
+        Deed::Await(1),
+        Deed::Call("MOVE 7 A1 A2 AAA1 2"),
+        Deed::Call("ASK A1"),
+        Deed::Call("ASK A2"),
+    ],
+    second: &[
+        Deed::Call("ORIGIN CUST GROSS"),
+        Deed::Call("OPEN A1 CUST"),
+        Deed::Call("OPEN A2 CUST"),
+        Deed::Call("OPEN A3 CUST"),
+        Deed::Call("POST A1 CASH 1200"),
+        Deed::Call("POST A2 CASH 1200"),
+        Deed::Call("TRADE A1 1 AAA1 2 0"),
+        Deed::Come,
+        Deed::Await(2),
+        Deed::Call("TRADE A3 1 AAA1 1 0"),
+        Deed::Switch,
+        Deed::Come,
+    ],
+    point: Point::Applied,
+    until: Until::Come(3),
+};
+
+#[test]
+fn a_move_goes_on_under_the_next_set(rt: HostRuntime) -> Result<(), Fail> {
+    let played = staged(&rt, rt.alloc(), &MOVE_BESIDE_A_SWITCH)?;
+    assert!(&rt;
+        played.first.as_slice()
+            == "OK 10\nOK 11 0 0 1200 1200 1200\nOK 12 1200 1200 1200 1200 0\n".as_bytes()
+    );
+    assert!(&rt;
+        played.second.as_slice()
+            == "OK 1\nOK 2\nOK 3\nOK 4\nOK 5\nOK 6\nOK 7\nOK 8\nOK 9 1 1\n".as_bytes()
+    );
+    assert!(&rt; played.plain == 0 && played.late == 0 && played.entries == 12);
+    Ok(())
+}
+
+// At each look of an order another set comes into force before its commit, as often as sets can: at the 65th it is held.
+const LOOKS: Scene = Scene {
+    first: &[
+        Deed::Call("ORIGIN CUST GROSS"),
+        Deed::Call("OPEN A1 CUST"),
+        Deed::Call("POST A1 CASH 1200"),
+        Deed::Call("HOLD A1 1 AAA1 2 0"),
+        Deed::Call("ASK A1"),
+    ],
+    second: &[Deed::SwitchEachTime(64), Deed::Await(129), Deed::Come],
+    point: Point::Applied,
+    until: Until::OneMore,
+};
+
+#[test]
+fn an_order_is_looked_at_under_each_set(rt: HostRuntime) -> Result<(), Fail> {
+    let played = staged(&rt, rt.alloc(), &LOOKS)?;
+    assert!(&rt;
+        played.first.as_slice()
+            == "OK 1\nOK 2\nOK 3\nOK 68\nOK 69 0 1200 1200 1200 0\n".as_bytes()
+    );
+    assert!(&rt; played.second.as_slice().starts_with("OK 4 1 0\nOK 5 2 0\n".as_bytes()));
+    assert!(&rt; played.second.as_slice().ends_with("OK 67 64 0\n".as_bytes()));
+    assert!(&rt; played.plain == 0 && played.late == 0 && played.entries == 69);
     Ok(())
 }
 
@@ -211,7 +279,7 @@ const TWO_UNITS: Scene = Scene {
         Deed::Come,
     ],
     point: Point::Applied,
-    wanted: 2,
+    until: Until::Come(2),
 };
 
 #[test]
@@ -239,7 +307,7 @@ const LATE_LOT: Scene = Scene {
         Deed::Come,
     ],
     point: Point::Prepared,
-    wanted: 2,
+    until: Until::Come(2),
 };
 
 #[test]
@@ -269,7 +337,7 @@ const LOT_COMES_AND_GOES: Scene = Scene {
         Deed::Come,
     ],
     point: Point::Prepared,
-    wanted: 2,
+    until: Until::Come(2),
 };
 
 #[test]
@@ -294,7 +362,7 @@ fn switch_by_workers<R: Threads + Wait + Clock + Abort + Sync, T: Image, J: Tabl
     let set = read_set(alloc, one().as_bytes())?;
     let service = Service::<T, J>::new(rt, alloc, slots, table, set, WORKERS)?;
     let mut pass = service.pass(rt).ok_or("a pass")?;
-    let meeting = Meeting::new(rt, 1, Point::Preparing, 2);
+    let meeting = Meeting::new(rt, 1, Point::Preparing, Until::Come(2));
     for line in ["ORIGIN CUST GROSS", "OPEN A1 CUST", "OPEN A2 CUST"] {
         if let Ok(Line::Do(command)) = read_line(line.as_bytes()) {
             assert!(rt;
