@@ -1,17 +1,22 @@
 -- Lists of what passes a test, as loops grow them.
-use Rattle.std.proofs.Common.{◌≡◌, ℕ, zero, suc, ◌+◌, ◌<◌, ◌≤◌, Bool, true, false, List, [], ◌∷◌, ◌++◌, length, take, map, filter, get_or, cond, refl, ap, sym, ◌∙◌, arith, append-nil, take_all}
-use Rattle.std.specs.Prelude.{ℤ, pos, ◌||◌}
+use Rattle.std.proofs.Common.{◌≡◌, ℕ, zero, suc, ◌+◌, ◌<◌, ◌≤◌, Bool, true, false, List, [], ◌∷◌, ◌++◌, length, take, map, filter, set, get_or, cond, replicate, ⊎_elim, refl, ap, sym, ◌∙◌, arith, append-nil, take_all}
+use Rattle.std.specs.Prelude.{ℤ, pos, unsigned_abs, nat_lt, ◌==◌, ◌&&◌, ◌||◌}
 use Rattle.std.specs.List.{list_any, range_with_len}
 use Rattle.std.proofs.lemmas.List.{map-append}
 use Rattle.std.proofs.lemmas.List.Elements.{filter_more, filter-append}
 use Rattle.std.proofs.lemmas.List.FromFn.{get_or-map-range_with_len, length-map-range_with_len}
-use Rattle.std.proofs.lemmas.List.Folds.{list_any_at, list_any_more}
+use Rattle.std.proofs.Math.Bool.{or-false, or-true, and-false}
+use Rattle.std.proofs.lemmas.Bool.{cases_lt, eqb-false, eqb-true}
+use Rattle.std.proofs.lemmas.Grind.{get_or-set_at}
+use Rattle.std.proofs.lemmas.List.{get_or-replicate, get_or-set_other, length-replicate}
+use Rattle.std.proofs.Math.ListN.{get_or-eq_default}
+use Rattle.std.proofs.lemmas.List.Folds.{list_any_more}
 use Rattle.mgn_lots.specs.declared.lot.Lot.{Lot}
 use Rattle.mgn_holds.specs.declared.held.Held.{Held}
 use Rattle.mgn_machine.specs.declared.statement.ClassLine.{ClassLine}
 use Rattle.mgn_machine.specs.declared.statement.CommodityLine.{CommodityLine}
 use Rattle.mgn_machine.specs.declared.statement.Heading.{Heading}
-use Rattle.mgn_machine.specs.Statements.{Told}
+use Rattle.mgn_machine.specs.Statements.{Told, is_held}
 use Rattle.mgn_params.specs.declared.tables.Contract.{Contract}
 use Rattle.mgn_params.specs.Tables.{contract_at, no_contract}
 use Rattle.mgn_span.proofs.PositionLemmas.{length_positions, position_at}
@@ -58,22 +63,52 @@ left_number f p n e =
     ap (λ (ks : List ℕ). map f (filter p ks)) (range_more n)
     ∙ ap (λ (ks : List ℕ). map f ks) (filter-append p (range_with_len 0 n) (n ∷ []) ∙ ap (λ (b : Bool). filter p (range_with_len 0 n) ++ cond b (n ∷ []) []) e ∙ append-nil (filter p (range_with_len 0 n)))
 
--- one position more that does not pass, all of them, and one that does
+-- the marks of held commodities, one position further, which is not 0, or is; and all of them
 
-pub none_more : (f : Position → Bool) (cs : List Contract) (ns : List ℤ) (i : ℕ) → i < length cs → length ns ≡ length cs → list_any f (take i (positions cs ns)) ≡ false → f (contract_at cs i, value_at ns i) ≡ false
-    → list_any f (take (i + 1) (positions cs ns)) ≡ false
-none_more f cs ns i h e none own =
-    let last = get_or (positions cs ns) i (no_contract, pos 0) in
-    list_any_more f (positions cs ns) i (no_contract, pos 0) (omega (arith, length_positions cs ns e))
-    ∙ ap (λ (b : Bool). b || f last) none ∙ ap f (position_at cs ns i h e) ∙ own
+held_more : (cs : List Contract) (ns : List ℤ) (i g : ℕ) → i < length cs → length ns ≡ length cs
+    → is_held (take (i + 1) (positions cs ns)) g ≡ (is_held (take i (positions cs ns)) g || (((contract_at cs i).commodity == g) && nat_lt 0 (unsigned_abs (value_at ns i))))
+held_more cs ns i g h e =
+    let one : Position → Bool = λ p. (p.0.commodity == g) && nat_lt 0 (unsigned_abs p.1) in
+    list_any_more one (positions cs ns) i (no_contract, pos 0) (omega (arith, length_positions cs ns e))
+    ∙ ap (λ (p : Position). is_held (take i (positions cs ns)) g || one p) (position_at cs ns i h e)
 
-pub none_all : (f : Position → Bool) (cs : List Contract) (ns : List ℤ) (i : ℕ) → length cs ≤ i → length ns ≡ length cs → list_any f (take i (positions cs ns)) ≡ false → list_any f (positions cs ns) ≡ false
-none_all f cs ns i h e none =
-    sym (ap (λ (ps : List Position). list_any f ps) (take_all i (positions cs ns) (omega (arith, length_positions cs ns e)))) ∙ none
+-- no marks, and a place that is marked
+pub none_marked : (n g : ℕ) → get_or (replicate n false) g false ≡ false
+none_marked n g =
+    ⊎_elim
+    (λ (inside : g < n). get_or-replicate n g false false inside)
+    (λ (beyond : n ≤ g). get_or-eq_default (replicate n false) false (omega (arith, length-replicate n false)))
+    (cases_lt g n)
 
-pub one_at : (f : Position → Bool) (cs : List Contract) (ns : List ℤ) (i : ℕ) → i < length cs → length ns ≡ length cs → f (contract_at cs i, value_at ns i) ≡ true → list_any f (positions cs ns) ≡ true
-one_at f cs ns i h e own =
-    list_any_at f (positions cs ns) i (no_contract, pos 0) (omega (arith, length_positions cs ns e)) (ap f (position_at cs ns i h e) ∙ own)
+marked_at : (marks : List Bool) (c g : ℕ) → c < length marks → get_or (set marks c true) g false ≡ (get_or marks g false || ((c == g) && true))
+marked_at marks c g inside = by (c == g) refl
+  where
+    by : (same : Bool) → (c == g) ≡ same → get_or (set marks c true) g false ≡ (get_or marks g false || ((c == g) && true))
+    by true e = rw e (get_or-set_at marks c g true false (sym (eqb-true c g e)) inside ∙ sym (or-true (get_or marks g false)))
+    by false e = rw e (get_or-set_other marks c g true false (λ (same : g ≡ c). eqb-false c g e (sym same)) ∙ sym (or-false (get_or marks g false)))
+
+pub marked_more : (marks : List Bool) (cs : List Contract) (ns : List ℤ) (i : ℕ) → i < length cs → length ns ≡ length cs → (contract_at cs i).commodity < length marks → nat_lt 0 (unsigned_abs (value_at ns i)) ≡ true
+    → ((g : ℕ) → get_or marks g false ≡ is_held (take i (positions cs ns)) g) → (g : ℕ) → get_or (set marks (contract_at cs i).commodity true) g false ≡ is_held (take (i + 1) (positions cs ns)) g
+marked_more marks cs ns i h e inside some before g =
+    let c = (contract_at cs i).commodity in
+    marked_at marks c g inside
+    ∙ ap (λ (b : Bool). b || ((c == g) && true)) (before g)
+    ∙ ap (λ (b : Bool). is_held (take i (positions cs ns)) g || ((c == g) && b)) (sym some)
+    ∙ sym (held_more cs ns i g h e)
+
+pub unmarked_more : (marks : List Bool) (cs : List Contract) (ns : List ℤ) (i : ℕ) → i < length cs → length ns ≡ length cs → nat_lt 0 (unsigned_abs (value_at ns i)) ≡ false
+    → ((g : ℕ) → get_or marks g false ≡ is_held (take i (positions cs ns)) g) → (g : ℕ) → get_or marks g false ≡ is_held (take (i + 1) (positions cs ns)) g
+unmarked_more marks cs ns i h e none before g =
+    let c = (contract_at cs i).commodity in
+    before g
+    ∙ sym (or-false (is_held (take i (positions cs ns)) g))
+    ∙ ap (λ (b : Bool). is_held (take i (positions cs ns)) g || b) (sym (and-false (c == g)) ∙ ap (λ (b : Bool). (c == g) && b) (sym none))
+    ∙ sym (held_more cs ns i g h e)
+
+pub all_marked : (marks : List Bool) (cs : List Contract) (ns : List ℤ) (i : ℕ) → length cs ≤ i → length ns ≡ length cs
+    → ((g : ℕ) → get_or marks g false ≡ is_held (take i (positions cs ns)) g) → (g : ℕ) → get_or marks g false ≡ is_held (positions cs ns) g
+all_marked marks cs ns i h e before g =
+    before g ∙ ap (λ (ps : List Position). is_held ps g) (take_all i (positions cs ns) (omega (arith, length_positions cs ns e)))
 
 -- a list of what numbers give
 

@@ -1,4 +1,4 @@
-ghost use Rattle.std.specs.Prelude.{◌≡◌, ◌<◌, ◌≤◌, ◌^◌, IfOk, filter, length, map};
+ghost use Rattle.std.specs.Prelude.{◌≡◌, ◌<◌, ◌≤◌, ◌^◌, ℕ, IfOk, false, filter, length, map, slice_index_or};
 ghost use Rattle.mgn_lots.specs.declared.lot.Lot.{Lot as LotValue};
 ghost use Rattle.mgn_lots.specs.Lots.{is_live};
 ghost use Rattle.mgn_coll.specs.Posted.{class_value};
@@ -17,18 +17,20 @@ use mgn_params::{Class, ParamSet};
 use mgn_plain::CommodityFigures;
 use std::alloc::{AllocError, Global};
 
-#[tactic(auto, using(crate::proofs::Lists::none_more, crate::proofs::Lists::none_all, crate::proofs::Lists::one_at))]
-// Whether a net in a contract of a commodity is not 0.
-fn is_held(set: &ParamSet, nets: &[Quantity], commodity: usize) -> bool
+// Of each commodity by its place whether a net in a contract of it is not 0. Each net is looked at once.
+fn held_commodities(set: &ParamSet, nets: &[Quantity]) -> [bool; 256]
     requires one_each { length nets.now ≡ length set.now.contracts }
-    ensures { result ≡ is_held (positions set.now.contracts nets.now) commodity }
+    ensures long { length result ≡ 256 }
+    ensures held { (g : ℕ) → slice_index_or result g false ≡ is_held (positions set.now.contracts nets.now) g }
 {
+    set.limits();
+    let mut held = [false; 256];
     for i in 0..set.contract_count() {
-        if set.contract_at(i).commodity == commodity && 0 < nets[i].size() {
-            return true;
+        if 0 < nets[i].size() {
+            held[set.contract_at(i).commodity] = true;
         }
     }
-    false
+    held
 }
 
 // The figures of a commodity by its name.
@@ -61,9 +63,10 @@ pub(crate) fn commodity_lines(
     requires figures { figures.now ≡ map (commodity_figures set.now (positions set.now.contracts nets.now)) (commodities_of set.now) }
     ensures { IfOk result (λ lines. lines.items ≡ commodity_lines set.now (positions set.now.contracts nets.now)) }
 {
+    let held = held_commodities(set, nets);
     let mut lines = Vec::new(alloc);
     for commodity in 0..set.commodity_count() {
-        if is_held(set, nets, commodity) {
+        if held[commodity] {
             lines.push(line_of(set, commodity, &figures[commodity]))?;
         }
     }

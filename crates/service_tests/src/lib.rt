@@ -2,4 +2,6 @@
 #![tactic(auto)]
 
 #[cfg(test)]
+mod full;
+#[cfg(test)]
 mod sessions;

@@ -1,0 +1,23 @@
+use Rattle.std.proofs.Common.{◌≡◌, ◌<◌, ◌≤◌, ◌∙◌, [], ℕ, ap, arith, slice_index_or, sym, ⊎_elim}
+use Rattle.std.proofs.lemmas.Bool.{cases_lt}
+use Rattle.std.proofs.lemmas.List.{get_or_default}
+use Rattle.mgn_params.specs.Tables.{no_tables}
+use Rattle.mgn_book.proofs.history.place_of.Goals as goal
+
+pub loop-place-init : goal.loop-place-init
+loop-place-init c i before same = omega arith
+
+pub loop-place-preserved : goal.loop-place-preserved
+loop-place-preserved c i before same =
+    ⊎_elim
+    (λ (earlier : i < c.loop-place.place). c.loop-place.invariant i earlier same)
+    (λ (here : c.loop-place.place ≤ i).
+        let found = c.index-sets-place.is
+            ∙ get_or_default c.args.sets.now c.loop-place.place c.index-sets-place.result (no_tables []) c.loop-place-test.true
+            ∙ ap (λ (k : ℕ). slice_index_or c.args.sets.now k (no_tables [])) (omega arith) ∙ same in
+        let told = c.is_same.ensures.1 found in
+        cc)
+    (cases_lt i c.loop-place.place)
+
+pub returns-clause-absent : goal.returns-clause-absent
+returns-clause-absent c i inside same = absurd (c.loop-place.invariant i (omega arith) same)
