@@ -4,3 +4,4 @@ pub mod SpreadLemmas
 pub mod StateLemmas
 pub mod TurnLemmas
 pub mod ReworkedLemmas
+pub mod ToldLemmas

@@ -2,5 +2,6 @@
 pub mod Sizes
 pub mod Rows
 pub mod Shares
+pub mod Told
 pub mod Credited
 pub mod CreditRows

@@ -1,7 +1,10 @@
-ghost use Rattle.std.specs.Prelude.{◌≡◌, ℕ, ◌+◌, ◌*◌, ◌^◌, ◌<◌, ◌≤◌, ◌≤ℤ◌, true, false, pos, unsigned_abs, length, replicate, slice_index, slice_set, All, IfOk, min};
+ghost use Rattle.std.specs.Prelude.{◌≡◌, ◌≢◌, ◌↔◌, ℕ, ◌+◌, ◌*◌, ◌^◌, ◌<◌, ◌≤◌, ◌≤ℤ◌, true, false, pos, unsigned_abs, [], ◌∷◌, ◌++◌, if◌then◌else◌, length, replicate, slice_index, slice_set, All, IfOk, min};
+ghost use Rattle.std.specs.List.{Contains};
+ghost use Rattle.std.specs.List.Sorted.{IsStrictlyIncreasing};
 ghost use Rattle.mgn_inter.specs.Credited.{AreCreditsOf, IsAtTurn};
-ghost use Rattle.mgn_inter.specs.Rows.{Credited, IsNextOf, AreWaiting, KeepsNumbers, moved_at, named, names};
+ghost use Rattle.mgn_inter.specs.Rows.{Credited, IsNextOf, AreWaiting, KeepsNumbers, kept_at, moved_at, named, names};
 ghost use Rattle.mgn_inter.specs.Sizes.{IsRisk};
+ghost use Rattle.mgn_inter.specs.Told.{credits_at, credits_else, told_of};
 ghost use Rattle.mgn_span.specs.Credits.{credits_of};
 ghost use Rattle.mgn_params.specs.Tables.{Tables, credit_spread_at, legs_of};
 ghost use Rattle.mgn_span.specs.Sizes.{IsDelta};
@@ -87,6 +90,8 @@ impl InterCredits {
         ensures others { (k : ℕ) → names k (legs_of (credit_spread_at set.now.credits i)) ≡ false →
             slice_index self.new.credits k ≡ slice_index self.old.credits k }
         ensures same { result ≡ false → (k : ℕ) → slice_index self.new.credits k ≡ slice_index self.old.credits k }
+        ensures kept { (j : ℕ) → j ≢ i → kept_at self.new.kept j ≡ kept_at self.old.kept j }
+        ensures told { result ≡ credits_else self.old.kept self.new.kept i }
     {
         set.limits();
         let spread = spread_at(set.credits(), i);
@@ -119,6 +124,9 @@ impl InterCredits {
         ensures waiting { AreWaiting set.now.credits g moved.new (i + 1) waiting.new }
         ensures numbers { KeepsNumbers self.old self.new }
         ensures places { IsNextOf reworked.old i reworked.new }
+        ensures kept { (j : ℕ) → j ≢ i → kept_at self.new.kept j ≡ kept_at self.old.kept j }
+        ensures told { reworked.new ≡
+            (if credits_else self.old.kept self.new.kept i then reworked.old ++ i ∷ [] else reworked.old) }
         ensures others { (k : ℕ) → named k set.now.credits reworked.new ≡ false →
             slice_index self.new.credits k ≡ slice_index self.old.credits k }
     {
@@ -143,6 +151,7 @@ impl InterCredits {
         ensures places { All (λ i. i < length set.now.credits) result }
         ensures others { (k : ℕ) → named k set.now.credits result ≡ false →
             slice_index self.new.credits k ≡ slice_index self.old.credits k }
+        ensures told { result ≡ told_of self.old.kept self.new.kept (length set.now.credits) }
     {
         set.limits();
         let mut moved = [false; 256];
@@ -181,6 +190,9 @@ impl InterCredits {
         ensures places { All (λ i. i < length set.now.credits) result }
         ensures others { (k : ℕ) → named k set.now.credits result ≡ false →
             slice_index self.new.credits k ≡ slice_index self.old.credits k }
+        ensures told { (i : ℕ) → i < length set.now.credits →
+            Contains result i ↔ (credits_at self.new.kept i ≢ credits_at self.old.kept i) }
+        ensures once { IsStrictlyIncreasing result }
     {
         set.limits();
         self.write_numbers(g, Rest::new(net_delta), price_risk2.size() as u64);

@@ -1,4 +1,4 @@
-use Rattle.std.proofs.Common.{rules, ◌≡◌, ◌∙◌, ℕ, Bool, List, ap, arith, false, length, refl, slice_index, subst, sym, true}
+use Rattle.std.proofs.Common.{rules, ◌≡◌, ◌∙◌, ◌<◌, ℕ, Bool, List, ap, arith, false, length, refl, slice_index, slice_set, subst, sym, true}
 use Rattle.std.specs.Prelude.{not}
 use Rattle.std.specs.Str.{bytes_eq}
 use Rattle.std.proofs.lemmas.Slice.Eq.{bytes_eq-Decides}
@@ -8,8 +8,11 @@ use Rattle.mgn_params.specs.declared.tables.CreditSpread.{CreditSpread}
 use Rattle.mgn_params.specs.Tables.{credit_spread_at, legs_of}
 use Rattle.mgn_inter.specs.CreditRows.{credited_of}
 use Rattle.mgn_inter.specs.Credited.{IsAtTurn}
+use Rattle.mgn_inter.specs.declared.kept.Kept.{Kept}
 use Rattle.mgn_inter.specs.Rows.{brought, Credited, kept_at, moved_at, nothing_kept}
+use Rattle.mgn_inter.specs.Told.{credits_else}
 use Rattle.mgn_inter.proofs.LegLemmas.{marked_out}
+use Rattle.mgn_inter.proofs.StateLemmas.{kept_other, kept_own}
 use Rattle.mgn_inter.proofs.TurnLemmas.{turn_covers, turn_near, turn_others, turn_own_small, turn_reworked, turn_room}
 use Rattle.mgn_inter.proofs.inter.InterCredits.rework.Goals as goal
 use Rattle.mgn_inter.proofs.inter.InterCredits.rework.Goals.{After-deref_mut-2}
@@ -107,3 +110,19 @@ returns-clause-same c =
     let moved = rw (c.deref_mut-3.ensures.value, sym alike) at (c.move_credits.ensures.moved k) in
     let same : slice_index c.move_credits.new.credits k ≡ slice_index c.self.inside.credits.items k = omega (arith, moved) in
     rw (with_items_is c.self.inside.credits c.move_credits.new.credits credits) (subst (λ (r : Credited). slice_index c.move_credits.new.credits k ≡ slice_index r.credits k) c.self.view_is same)
+
+pub returns-clause-kept : goal.returns-clause-kept
+returns-clause-kept c =
+    λ j other.
+    let kept = c.self.inside.kept.items in
+    let own = c.form_spread-new.result in
+    subst (λ (r : Credited). kept_at (slice_set kept c.args.i own) j ≡ kept_at r.kept j) c.self.view_is (kept_other kept c.args.i j own other)
+
+pub returns-clause-told : goal.returns-clause-told
+returns-clause-told c =
+    let at = (goal.at.returns-clause-told c).After-deref_mut-2 in
+    let kept = c.self.inside.kept.items in
+    let own = c.form_spread-new.result in
+    let low : c.args.i < length kept = omega (arith, c.requires.inside, (were at).one_kept_each) in
+    let is = c.ne.ensures ∙ ap (λ (k : Kept). not (bytes_eq k.credits own.credits)) (kept_is at) ∙ ap (λ (k : Kept). not (bytes_eq (kept_at kept c.args.i).credits k.credits)) (sym (kept_own kept c.args.i own low)) in
+    subst (λ (r : Credited). c.ne.result ≡ credits_else r.kept (slice_set kept c.args.i own) c.args.i) c.self.view_is is

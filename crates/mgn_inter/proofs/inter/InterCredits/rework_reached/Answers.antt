@@ -6,6 +6,8 @@ use Rattle.mgn_params.specs.declared.tables.CreditSpread.{CreditSpread}
 use Rattle.mgn_params.specs.Tables.{credit_spread_at, legs_of}
 use Rattle.mgn_inter.specs.Credited.{IsAtTurn}
 use Rattle.mgn_inter.specs.Rows.{Credited, Misses, names}
+use Rattle.mgn_inter.specs.Told.{told_of}
+use Rattle.mgn_inter.proofs.ToldLemmas.{told_next, told_none}
 use Rattle.mgn_inter.proofs.TurnLemmas.{turn_jumped, turn_last, turn_skipped, waiting_first}
 use Rattle.mgn_inter.proofs.ReworkedLemmas.{few_next, others_next, places_next}
 use Rattle.mgn_inter.proofs.inter.InterCredits.rework_reached.Goals as goal
@@ -38,6 +40,8 @@ loop-i-init c =
       few = rw c.none-reworked.ensures (omega arith);
       places = rw c.none-reworked.ensures (All-nil (λ (i : ℕ). i < length set'.credits));
       others = λ k h. refl;
+      left = λ j from. refl;
+      told = rw c.none-reworked.ensures (told_none c.args.self.now.kept c.min-i.result);
     }
 
 pub loop-i-preserved : goal.loop-i-preserved
@@ -63,6 +67,9 @@ loop-i-preserved c =
       places = places_next (length set'.credits) c.loop-i.reworked c.turn.new.reworked c.loop-i.i inside now.places c.turn.ensures.places;
       others = λ k h.
           c.turn.ensures.others k h ∙ now.others k (others_next k set'.credits c.loop-i.reworked c.turn.new.reworked c.loop-i.i c.turn.ensures.places h);
+      left = λ j from.
+          c.turn.ensures.kept j (λ e. omega (arith, e, from, behind)) ∙ now.left j (omega (arith, from, behind));
+      told = told_next c.args.self.now.kept c.loop-i.self.kept c.turn.new.self.kept c.loop-i.i next c.loop-i.reworked c.turn.new.reworked behind now.left c.turn.ensures.kept now.told c.turn.ensures.told;
     }
 
 pub returns-clause-of_set : goal.returns-clause-of_set
@@ -72,3 +79,10 @@ returns-clause-of_set c =
     let count : length c.credits-count.result.now ≡ length set'.credits = ap (λ (ss : List CreditSpread). length ss) c.credits-count.ensures in
     let end : c.loop-i.i ≡ length set'.credits = omega (arith, count, c.loop-i.invariant.inside, c.loop-i-test.false) in
     turn_last set' c.args.g now.0 c.loop-i.moved c.loop-i.self c.limits.ensures (subst (λ (n : ℕ). IsAtTurn set' c.args.g now.0 c.loop-i.moved n c.loop-i.self) end now.1)
+
+pub returns-clause-told : goal.returns-clause-told
+returns-clause-told c =
+    let set' = c.args.set.now in
+    let count : length c.credits-count.result.now ≡ length set'.credits = ap (λ (ss : List CreditSpread). length ss) c.credits-count.ensures in
+    let end : c.loop-i.i ≡ length set'.credits = omega (arith, count, c.loop-i.invariant.inside, c.loop-i-test.false) in
+    c.loop-i.invariant.told ∙ ap (λ (n : ℕ). told_of c.args.self.now.kept c.loop-i.self.kept n) end

@@ -4,6 +4,7 @@ use Rattle.mgn_params.specs.declared.tables.CreditSpread.{CreditSpread}
 use Rattle.mgn_params.specs.Tables.{credit_spread_at, legs_of, no_credit_spread}
 use Rattle.mgn_inter.specs.Rows.{Credited, reached}
 use Rattle.mgn_inter.proofs.ReworkedLemmas.{told_next, told_out}
+use Rattle.mgn_inter.proofs.ToldLemmas.{told_not}
 use Rattle.mgn_inter.proofs.TurnLemmas.{turn_passed, waiting_next}
 use Rattle.mgn_inter.proofs.inter.InterCredits.turn.Goals as goal
 use Rattle.mgn_inter.proofs.inter.InterCredits.turn.Goals.{After-tell}
@@ -51,3 +52,6 @@ returns-then-is_reached-clause-others c =
     c.rework-is_told.ensures.others k (told_out k c.args.set.now.credits c.args.reworked.now c.tell.new.self c.args.i (rw told at c.tell.ensures) out))
     (λ (silent : c.rework-is_told.result ≡ false). c.rework-is_told.ensures.same silent k)
     (cases_Bool c.rework-is_told.result)
+
+pub returns-else-is_reached-clause-told : goal.returns-else-is_reached-clause-told
+returns-else-is_reached-clause-told c = told_not c.args.self.now.kept c.args.i c.args.reworked.now
