@@ -4,3 +4,4 @@ pub mod Line
 pub mod Fields
 pub mod StatementText
 pub mod Text
+pub mod Room

@@ -1,5 +1,6 @@
-ghost use Rattle.std.specs.Prelude.{◌≡◌, ◌++◌, OnOk, OnErr, codes, length, take};
+ghost use Rattle.std.specs.Prelude.{◌≡◌, ◌≤◌, ◌+◌, ◌++◌, [], OnOk, OnErr, IsOk, codes, length, take, vec_capacity};
 ghost use Rattle.mgn_wire.specs.Fields.{field, figures_text, number_text};
+ghost use Rattle.mgn_wire.specs.Room.{FitsIn};
 ghost use Rattle.mgn_wire.specs.Text.{fault_text, line_reply_of, lines_after, place_text, refusal_text, reply_of, set_text, text_of, totals_text};
 
 use crate::fault::{LineFault, Memory};
@@ -8,6 +9,10 @@ use itoa::Buffer;
 use mgn_machine::{Answer, Figures, NewSet, Refusal, Reply, Totals};
 use mgn_num::Cents;
 use std::alloc::AllocError;
+
+/// No line of a reply is longer, with its line feed: five numbers of at most 38 bytes and a place of at most 20, with what
+/// stands between them. The further lines of a statement are not bounded by it.
+pub const LONGEST_LINE: usize = 224;
 
 /// What a line is answered.
 #[derive(Drop)]
@@ -23,7 +28,8 @@ pub enum LineReply {
 }
 
 fn refusal_text(refusal: Refusal) -> &'static str
-    ensures { result.now ≡ refusal_text refusal }
+    ensures text { result.now ≡ refusal_text refusal }
+    ensures short { length result.now ≤ 13 }
 {
     match refusal {
         Refusal::NoAccount => "20 NOACCT",
@@ -49,7 +55,8 @@ fn refusal_text(refusal: Refusal) -> &'static str
 }
 
 fn fault_text(fault: LineFault) -> &'static str
-    ensures { result.now ≡ fault_text fault }
+    ensures text { result.now ≡ fault_text fault }
+    ensures short { length result.now ≤ 9 }
 {
     match fault {
         LineFault::Syntax => "10 SYNTAX",
@@ -62,13 +69,16 @@ fn fault_text(fault: LineFault) -> &'static str
 pub(crate) fn print(text: &str, out: &mut Vec<u8>) -> Result<(), AllocError>
     ensures ok { OnOk result (out.new.items ≡ out.old.items ++ text.now) }
     ensures kept { take (length out.old.items) out.new.items ≡ out.old.items }
+    ensures room { FitsIn (length text.now) out.old out.new result }
 {
     out.extend_from_slice(text.as_bytes())
 }
 
+#[tactic(auto, using(crate::proofs::RoomFacts::decimal_short))]
 pub(crate) fn print_number(number: u64, out: &mut Vec<u8>) -> Result<(), AllocError>
     ensures ok { OnOk result (out.new.items ≡ out.old.items ++ number_text number) }
     ensures kept { take (length out.old.items) out.new.items ≡ out.old.items }
+    ensures room { FitsIn 21 out.old out.new result }
 {
     print(" ", out)?;
     print(Buffer::new().format(number), out)
@@ -77,6 +87,7 @@ pub(crate) fn print_number(number: u64, out: &mut Vec<u8>) -> Result<(), AllocEr
 fn print_place(place: Option<u64>, out: &mut Vec<u8>) -> Result<(), AllocError>
     ensures ok { OnOk result (out.new.items ≡ out.old.items ++ place_text place) }
     ensures kept { take (length out.old.items) out.new.items ≡ out.old.items }
+    ensures room { FitsIn 21 out.old out.new result }
 {
     match place {
         Some(place) => print_number(place, out),
@@ -87,6 +98,7 @@ fn print_place(place: Option<u64>, out: &mut Vec<u8>) -> Result<(), AllocError>
 pub(crate) fn print_field(cents: Cents, out: &mut Vec<u8>) -> Result<(), AllocError>
     ensures ok { OnOk result (out.new.items ≡ out.old.items ++ field cents) }
     ensures kept { take (length out.old.items) out.new.items ≡ out.old.items }
+    ensures room { FitsIn 39 out.old out.new result }
 {
     print(" ", out)?;
     cents.print(out)
@@ -95,6 +107,7 @@ pub(crate) fn print_field(cents: Cents, out: &mut Vec<u8>) -> Result<(), AllocEr
 pub(crate) fn print_figures(figures: &Figures, out: &mut Vec<u8>) -> Result<(), AllocError>
     ensures ok { OnOk result (out.new.items ≡ out.old.items ++ figures_text figures.now) }
     ensures kept { take (length out.old.items) out.new.items ≡ out.old.items }
+    ensures room { FitsIn 195 out.old out.new result }
 {
     print_field(figures.requirement, out)?;
     print_field(figures.exposure_requirement, out)?;
@@ -106,6 +119,7 @@ pub(crate) fn print_figures(figures: &Figures, out: &mut Vec<u8>) -> Result<(), 
 fn print_totals(totals: &Totals, out: &mut Vec<u8>) -> Result<(), AllocError>
     ensures ok { OnOk result (out.new.items ≡ out.old.items ++ totals_text totals.now) }
     ensures kept { take (length out.old.items) out.new.items ≡ out.old.items }
+    ensures room { FitsIn 138 out.old out.new result }
 {
     print_field(totals.requirement, out)?;
     print_field(totals.value, out)?;
@@ -116,6 +130,7 @@ fn print_totals(totals: &Totals, out: &mut Vec<u8>) -> Result<(), AllocError>
 fn print_set(told: NewSet, out: &mut Vec<u8>) -> Result<(), AllocError>
     ensures ok { OnOk result (out.new.items ≡ out.old.items ++ set_text told) }
     ensures kept { take (length out.old.items) out.new.items ≡ out.old.items }
+    ensures room { FitsIn 42 out.old out.new result }
 {
     print_number(u64::from(told.version), out)?;
     print_number(u64::from(told.on_call), out)
@@ -125,6 +140,7 @@ fn print_set(told: NewSet, out: &mut Vec<u8>) -> Result<(), AllocError>
 fn print_done(place: Option<u64>, out: &mut Vec<u8>) -> Result<(), AllocError>
     ensures ok { OnOk result (out.new.items ≡ out.old.items ++ (codes "OK" ++ place_text place)) }
     ensures kept { take (length out.old.items) out.new.items ≡ out.old.items }
+    ensures room { FitsIn 23 out.old out.new result }
 {
     print("OK", out)?;
     print_place(place, out)
@@ -134,6 +150,7 @@ fn print_refused(refusal: Refusal, place: Option<u64>, out: &mut Vec<u8>) -> Res
     ensures ok { OnOk result (out.new.items ≡ out.old.items
         ++ (codes "ERR" ++ place_text place ++ codes " " ++ refusal_text refusal)) }
     ensures kept { take (length out.old.items) out.new.items ≡ out.old.items }
+    ensures room { FitsIn 38 out.old out.new result }
 {
     print("ERR", out)?;
     print_place(place, out)?;
@@ -144,6 +161,7 @@ fn print_refused(refusal: Refusal, place: Option<u64>, out: &mut Vec<u8>) -> Res
 fn print_answer(answer: &Answer, out: &mut Vec<u8>) -> Result<(), AllocError>
     ensures ok { OnOk result (out.new.items ≡ out.old.items ++ reply_of answer.now.place answer.now.reply) }
     ensures kept { take (length out.old.items) out.new.items ≡ out.old.items }
+    ensures room { FitsIn 218 out.old out.new result }
 {
     match &answer.reply {
         Reply::Done => print_done(answer.place, out),
@@ -170,6 +188,7 @@ fn print_answer(answer: &Answer, out: &mut Vec<u8>) -> Result<(), AllocError>
 fn print_reply(reply: &LineReply, out: &mut Vec<u8>) -> Result<(), AllocError>
     ensures ok { OnOk result (out.new.items ≡ out.old.items ++ line_reply_of reply.now) }
     ensures kept { take (length out.old.items) out.new.items ≡ out.old.items }
+    ensures room { FitsIn 218 out.old out.new result }
 {
     match reply {
         LineReply::Answered(answer) => print_answer(answer, out),
@@ -186,9 +205,11 @@ fn print_reply(reply: &LineReply, out: &mut Vec<u8>) -> Result<(), AllocError>
 }
 
 // A statement has lines of its own after that of its reply.
+#[tactic(auto, using(crate::proofs::RoomFacts::statement_filled))]
 fn print_lines_after(reply: &LineReply, out: &mut Vec<u8>) -> Result<(), AllocError>
     ensures ok { OnOk result (out.new.items ≡ out.old.items ++ lines_after reply.now) }
     ensures kept { take (length out.old.items) out.new.items ≡ out.old.items }
+    ensures room { lines_after reply.now ≡ [] → FitsIn 0 out.old out.new result }
 {
     match reply {
         LineReply::Answered(answer) => match &answer.reply {
@@ -203,6 +224,7 @@ fn print_lines_after(reply: &LineReply, out: &mut Vec<u8>) -> Result<(), AllocEr
 fn print_line(reply: &LineReply, out: &mut Vec<u8>) -> Result<(), AllocError>
     ensures ok { OnOk result (out.new.items ≡ out.old.items ++ text_of reply.now) }
     ensures kept { take (length out.old.items) out.new.items ≡ out.old.items }
+    ensures room { lines_after reply.now ≡ [] → FitsIn 219 out.old out.new result }
 {
     print_reply(reply, out)?;
     print("\n", out)?;
@@ -210,10 +232,13 @@ fn print_line(reply: &LineReply, out: &mut Vec<u8>) -> Result<(), AllocError>
 }
 
 /// Appends the text of what a line is answered: a line, and after it those of a statement, each with its line feed. On
-/// `Memory` the buffer is as it was.
+/// `Memory` the text is as it was. A reply of one line, as all are but a statement, finds memory where the buffer has room
+/// for `LONGEST_LINE` bytes.
 pub fn reply_text(reply: &LineReply, out: &mut Vec<u8>) -> Result<(), Memory>
     ensures ok { OnOk result (out.new.items ≡ out.old.items ++ text_of reply.now) }
     ensures err { OnErr result (out.new.items ≡ out.old.items) }
+    ensures room { lines_after reply.now ≡ [] → length out.old.items + LONGEST_LINE ≤ vec_capacity out.old → IsOk result }
+    ensures capacity { lines_after reply.now ≡ [] → vec_capacity out.old ≤ vec_capacity out.new }
 {
     let before = out.len();
     match print_line(reply, out) {
