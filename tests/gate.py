@@ -117,12 +117,13 @@ class Gate:
 
     def program(self, program):
         self.part("faults of the program", ["tests/faults.sh", program])
-        self.part("refused memory", ["tests/memory.sh", program], r"(\d+) allocations, (\d+) failed")
         self.sessions("of the program", program)
         words = [sys.executable, "tests/serve.py", program]
         self.part("the server", words, r"(\d+) server tests passed, (\d+) failed")
 
     def sessions(self, whose, program):
+        memory = [sys.executable, "tests/memory.py", program]
+        self.part(f"refused memory {whose}", memory, r"(\d+) allocations, (\d+) failed")
         self.part(f"sessions {whose}", ["tests/examples.sh", program], r"(\d+) sessions passed, (\d+) failed")
         self.part(f"large sessions {whose}", ["tests/large.sh", program], r"(\d+) large sessions passed, (\d+) failed")
 
