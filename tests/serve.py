@@ -21,6 +21,7 @@ import days
 import serve_examples
 import serve_faults
 import serve_sessions
+import serve_system
 
 SECONDS = 120  # for each case
 LEAST_DAYS = 20
@@ -28,7 +29,7 @@ LEAST_DAYS = 20
 
 def results(program, words):
     """Gives for each test what was wrong, or None."""
-    for case in serve_sessions.CASES + serve_faults.CASES + serve_examples.CASES:
+    for case in serve_sessions.CASES + serve_faults.CASES + serve_system.CASES + serve_examples.CASES:
         try:
             with clients.deadline(SECONDS):
                 case(program)
