@@ -7,9 +7,9 @@ use Rattle.std.proofs.lemmas.Bool.Decides.{nat_tests}
 use Rattle.std.specs.Io.KnownBytes.{Appends}
 use Rattle.mgn_wire.specs.declared.reply.LineReply.{LineReply}
 use Rattle.mgn_wire.specs.Line.{line_of}
-use Rattle.mgn_wire.specs.Text.{text_of}
-use Rattle.mgn_session.specs.Conversation.{ConversationView, HasFailedToRead, HasRead, HasReplied, HasSent, IsQuiet, KeepsDevices}
-use Rattle.mgn_session.specs.Session.{Step, HasAnswered, HasStopped, HasTooMuch, IsCaughtUp, has_end}
+use Rattle.mgn_wire.specs.Text.{lines_after, text_of}
+use Rattle.mgn_session.specs.Conversation.{ConversationView, HasFailedToRead, HasRead, HasReplied, HasSent, IsQuiet, KeepsDevices, with_room}
+use Rattle.mgn_session.specs.Session.{Step, HasAnswered, HasRunOut, HasStopped, HasTooMuch, IsCaughtUp, has_end}
 use Rattle.mgn_session.specs.SessionInside.{IsCutOff, IsUnderWay}
 use Rattle.mgn_session.proofs.DeviceFacts.{appends_on, kept_none, reads_none, reads_on, writes_none}
 use Rattle.mgn_session.proofs.LineFacts.{ends_line, goes_further}
@@ -137,8 +137,8 @@ replies step before t u old mid new rest size count line last reply way whole on
 
 pub loses_reply : {X : Type 0} (step : Step X) (before t : ConversationView) (old mid new : X) (rest : List ℕ) (size count : ℕ) (line last : List ℕ) (reply : LineReply)
     → IsUnderWay step before t old mid ((last ++ 10 ∷ []) ++ rest) size count line → has_end last ≡ false → step mid (line_of (line ++ last)) reply new
-    → IsCutOff step before t old new
-loses_reply step before t old mid new rest size count line last reply way whole one =
+    → (lines_after reply ≡ [] → ⊥) → IsCutOff step before t old new
+loses_reply step before t old mid new rest size count line last reply way whole one long =
     record {
       input = way.input ++ (last ++ 10 ∷ []);
       more = rest;
@@ -147,6 +147,7 @@ loses_reply step before t old mid new rest size count line last reply way whole 
       count = count + 1;
       reads = rw (append_assoc way.input (last ++ 10 ∷ []) rest) way.reads;
       writes = way.writes;
+      lost_is = inr (reply, refl, long);
       session = (ends_line step old mid new way.input (way.written ++ t.waiting) count line last reply way.at whole one).session;
     }
 
@@ -161,6 +162,7 @@ cuts_off step before t old new rest size count line way =
       count = count;
       reads = way.reads;
       writes = way.writes;
+      lost_is = inl refl;
       session = rw (append-nil (way.written ++ t.waiting)) way.at.session;
     }
 
@@ -204,6 +206,21 @@ sends_cut_off step before t u old new k cut writes within input =
       reads = rw input cut.reads;
       writes = rw (append_assoc cut.written t.waiting cut.lost, take-append-add cut.written (t.waiting ++ cut.lost) k, take-append-le k t.waiting cut.lost within)
           (appends_on before.output t.output u.output cut.written (take k t.waiting) cut.writes writes);
+      session = cut.session;
+    }
+
+pub sends_all_but : {X : Type 0} (step : Step X) (before t u : ConversationView) (old new : X)
+    → IsCutOff step before t old new → HasSent t u → HasRunOut step before u old new
+sends_all_but step before t u old new cut sent =
+    record {
+      input = cut.input;
+      more = cut.more;
+      text = cut.written ++ t.waiting;
+      lost = cut.lost;
+      count = cut.count;
+      reads = rw sent.input cut.reads;
+      writes = appends_on before.output t.output u.output cut.written t.waiting cut.writes sent.writes;
+      lost_is = cut.lost_is;
       session = cut.session;
     }
 
@@ -256,6 +273,50 @@ keeps_on t u v first second =
       failed_writes = second.failed_writes ∙ first.failed_writes;
     }
 
+-- where nothing but the room is other
+
+pub keeps_in_room : (t u : ConversationView) → u ≡ with_room t u.room → KeepsDevices t u
+keeps_in_room t u same =
+    record {
+      input = ap (λ (v : ConversationView). v.input) same;
+      output = ap (λ (v : ConversationView). v.output) same;
+      dirty = ap (λ (v : ConversationView). v.dirty) same;
+      ended = ap (λ (v : ConversationView). v.ended) same;
+      failed_reads = ap (λ (v : ConversationView). v.failed_reads) same;
+      failed_writes = ap (λ (v : ConversationView). v.failed_writes) same;
+    }
+
+pub way_in_room : {X : Type 0} (step : Step X) (before t u : ConversationView) (old new : X) (rest : List ℕ) (size count : ℕ) (line : List ℕ)
+    → u ≡ with_room t u.room → IsUnderWay step before t old new rest size count line → IsUnderWay step before u old new rest size count line
+way_in_room step before t u old new rest size count line same way =
+    let devices = keeps_in_room t u same in
+    let waiting : u.waiting ≡ t.waiting = ap (λ (v : ConversationView). v.waiting) same in
+    record {
+      input = way.input;
+      written = way.written;
+      reads = rw devices.input way.reads;
+      writes = rw devices.output way.writes;
+      at = rw waiting way.at;
+      size_is = way.size_is;
+    }
+
+pub cut_in_room : {X : Type 0} (step : Step X) (before t u : ConversationView) (old new : X)
+    → u ≡ with_room t u.room → IsCutOff step before t old new → IsCutOff step before u old new
+cut_in_room step before t u old new same cut =
+    let devices = keeps_in_room t u same in
+    let waiting : u.waiting ≡ t.waiting = ap (λ (v : ConversationView). v.waiting) same in
+    record {
+      input = cut.input;
+      more = cut.more;
+      written = cut.written;
+      lost = cut.lost;
+      count = cut.count;
+      reads = rw devices.input cut.reads;
+      writes = rw devices.output cut.writes;
+      lost_is = cut.lost_is;
+      session = rw waiting cut.session;
+    }
+
 -- by result
 
 pub on_ok : {X E P Q : Type 0} (r : Result X E) → OnOk r P → (P → Q) → OnOk r Q
@@ -269,6 +330,10 @@ on_err (Err e) p f = f p
 pub if_err : {X E : Type 0} {P Q : E → Type 0} (r : Result X E) → IfErr r P → ((e : E) → P e → Q e) → IfErr r Q
 if_err (Ok x) p f = tt
 if_err (Err e) p f = f e p
+
+pub if_on_err : {X E P : Type 0} {Q : E → Type 0} (r : Result X E) → OnErr r P → ((e : E) → P → Q e) → IfErr r Q
+if_on_err (Ok x) p f = tt
+if_on_err (Err e) p f = f e p
 
 pub either : {X E P Q R : Type 0} (r : Result X E) → OnOk r P → OnErr r Q → (P → R) → (Q → R) → R
 either (Ok x) p q f g = f p

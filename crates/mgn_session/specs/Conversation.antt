@@ -7,7 +7,8 @@ use Rattle.mgn_session.specs.declared.counted.Counted.{Counted}
 
 -- what the reader has left and the writer was given, where they tell; the text of the replies that wait to be written;
 -- how many lines were read that have no reply; whether bytes were written that no flush followed; whether the last read
--- had room and gave nothing; how many calls of each device failed
+-- had room and gave nothing; how many calls of each device failed; how many bytes more of replies find room without new
+-- memory
 pub record ConversationView : Type 0 where
   pub input : Option (List ℕ)
   pub output : Option (List ℕ)
@@ -17,10 +18,11 @@ pub record ConversationView : Type 0 where
   pub ended : Bool
   pub failed_reads : ℕ
   pub failed_writes : ℕ
+  pub room : ℕ
 
 -- a conversation by its parts
-abbrev pub seen : {R W : Type 0} → (R → Option (List ℕ)) → (W → Option (List ℕ)) → Counted R → Counted W → List ℕ → ℕ → ConversationView
-seen remaining contents reader writer waiting owed =
+abbrev pub seen : {R W : Type 0} → (R → Option (List ℕ)) → (W → Option (List ℕ)) → Counted R → Counted W → List ℕ → ℕ → ℕ → ConversationView
+seen remaining contents reader writer waiting owed room =
     record {
       input = remaining (device_of reader);
       output = contents (device_of writer);
@@ -30,7 +32,12 @@ seen remaining contents reader writer waiting owed =
       ended = has_ended reader;
       failed_reads = failed_of reader;
       failed_writes = failed_of writer;
+      room = room;
     }
+
+-- the same with so much room
+abbrev pub with_room : ConversationView → ℕ → ConversationView
+with_room talk room = record talk { room = room }
 
 -- every line read is answered, and every reply written and flushed
 pub record IsQuiet (talk : ConversationView) : Type 0 where

@@ -15,7 +15,7 @@ use Rattle.mgn_machine.specs.declared.request.Request.{Request}
 use Rattle.mgn_machine.specs.declared.request.Request.TheVariants as request
 use Rattle.mgn_machine.specs.History.{item, recorded}
 use Rattle.mgn_wire.specs.Line.{line_of}
-use Rattle.mgn_wire.specs.Text.{text_of}
+use Rattle.mgn_wire.specs.Text.{lines_after, text_of}
 use Rattle.mgn_wire.specs.declared.fault.LineFault.{LineFault}
 use Rattle.mgn_wire.specs.declared.line.Line.{Line}
 use Rattle.mgn_wire.specs.declared.line.Line.TheVariants.{Do, Switch}
@@ -161,6 +161,22 @@ pub record HasTooMuch {X : Type 0} (step : Step X) (before after : ConversationV
   pub reads : Consumes before.input after.input (input ++ more)
   pub writes : Appends before.output after.output text
   pub session : IsSession step old new input text count
+
+-- a text that found no memory: none, or the reply of one statement, which has lines of its own after the first
+abbrev pub IsLost : List ℕ → Type 0
+IsLost lost = (lost ≡ []) ⊎ ((reply : LineReply) × (lost ≡ text_of reply) × (lines_after reply ≡ [] → ⊥))
+
+-- Memory ran out. All replies to the lines that were answered were written, but for the last where it is a statement.
+pub record HasRunOut {X : Type 0} (step : Step X) (before after : ConversationView) (old new : X) : Type 0 where
+  pub input : List ℕ
+  pub more : List ℕ
+  pub text : List ℕ
+  pub lost : List ℕ
+  pub count : ℕ
+  pub reads : Consumes before.input after.input (input ++ more)
+  pub writes : Appends before.output after.output text
+  pub lost_is : IsLost lost
+  pub session : IsSession step old new input (text ++ lost) count
 
 -- how often a device failed, by the outcome: once more at the fault of its name, else not
 abbrev pub reads_failed : {X : Type 0} → ℕ → Result X SessionFault → ℕ

@@ -1,8 +1,12 @@
 -- A session under way, for the inside of this crate alone.
-use Rattle.std.specs.Prelude.{◌≡◌, ℕ, List, ◌++◌, length, take}
+use Rattle.std.specs.Prelude.{◌≡◌, ◌⊎◌, ℕ, List, [], ◌++◌, length, take, Result}
 use Rattle.std.specs.Io.KnownBytes.{Appends, Consumes}
+use Rattle.mgn_wire.specs.Text.{lines_after}
+use Rattle.mgn_wire.specs.declared.fault.LineFault.{LineFault}
+use Rattle.mgn_wire.specs.declared.line.Line.{Line}
+use Rattle.mgn_wire.specs.declared.reply.LineReply.{LineReply}
 use Rattle.mgn_session.specs.Conversation.{ConversationView}
-use Rattle.mgn_session.specs.Session.{IsSession, Step}
+use Rattle.mgn_session.specs.Session.{IsLost, IsSession, Step}
 
 -- a session of which `line` tells as much of the line at hand as a line can need
 pub record IsAt {X : Type 0} (step : Step X) (old new : X) (input text : List ℕ) (count : ℕ) (line : List ℕ) : Type 0 where
@@ -20,7 +24,7 @@ pub record IsUnderWay {X : Type 0} (step : Step X) (before now : ConversationVie
   pub at : IsAt step old new input (written ++ now.waiting) count line
   pub size_is : size ≡ length (input ++ pending)
 
--- The session goes no further. Of the text of the answers a prefix was written or waits.
+-- The session goes no further. The text of the answers was written or waits, but for what found no memory.
 pub record IsCutOff {X : Type 0} (step : Step X) (before now : ConversationView) (old new : X) : Type 0 where
   pub input : List ℕ
   pub more : List ℕ
@@ -29,4 +33,10 @@ pub record IsCutOff {X : Type 0} (step : Step X) (before now : ConversationView)
   pub count : ℕ
   pub reads : Consumes before.input now.input (input ++ more)
   pub writes : Appends before.output now.output written
+  pub lost_is : IsLost lost
   pub session : IsSession step old new input ((written ++ now.waiting) ++ lost) count
+
+-- A line has no reply for want of memory: nothing was done, or it was answered with a statement, which has lines of its own
+-- after that of its reply.
+abbrev pub GoesWithout : {X : Type 0} → Step X → X → Result Line LineFault → X → Type 0
+GoesWithout step old read new = (new ≡ old) ⊎ ((reply : LineReply) × (lines_after reply ≡ [] → ⊥) × step old read reply new)

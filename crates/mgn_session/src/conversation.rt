@@ -1,21 +1,17 @@
-ghost use Rattle.std.specs.Prelude.{◌≡◌, ◌<◌, ◌≤◌, ◌++◌, [], ℕ, drop, length, take, IfOk, IfErr, OnOk, OnErr, false};
+ghost use Rattle.std.specs.Prelude.{◌≡◌, ◌<◌, ◌≤◌, ◌++◌, [], ℕ, drop, length, take, IfOk, IfErr, IsOk, OnOk, OnErr, false};
 ghost use Rattle.std.specs.Io.{ReadsAtMost};
 ghost use Rattle.std.specs.Io.KnownBytes.{Appends};
-ghost use Rattle.mgn_wire.specs.Text.{text_of};
+ghost use Rattle.mgn_wire.specs.Text.{lines_after, text_of};
 ghost use Rattle.mgn_session.specs.Device.{device_of, failed_of, has_ended, is_dirty, one_more};
-ghost use Rattle.mgn_session.specs.Conversation.{HasFailedToRead, HasFailedToSend, HasRead, HasReplied, HasSent, IsQuiet, seen};
+ghost use Rattle.mgn_session.specs.Conversation.{HasFailedToRead, HasFailedToSend, HasRead, HasReplied, HasSent, IsQuiet, seen, with_room};
 
 use crate::counted::Counted;
 use crate::ends::count_ends;
 use crate::fault::SessionFault;
-use mgn_wire::{LineReply, Memory, reply_text};
+use mgn_wire::{LONGEST_LINE, LineReply, Memory, reply_text};
 use std::alloc::Global;
 use std::io::{Read, Write};
 use std::marker::Model;
-
-// No first line of a reply is longer: five numbers of at most 38 bytes and a place of at most 20, with what stands between
-// them. A statement finds memory for its further lines when it is written.
-const LONGEST_REPLY: usize = 224;
 
 /// A reader of lines and the writer of their replies. It is asked for more only once every line read has its reply, and
 /// every reply is written and flushed: so a client that waits for a reply before it sends its next line gets it.
@@ -30,11 +26,13 @@ pub struct Conversation<R: Read, W: Write> {
 }
 
 impl<R: Read, W: Write> Model for Conversation<R, W> {
+    ghost use Rattle.std.specs.Prelude.{◌-◌, length, vec_capacity};
     ghost use Rattle.mgn_session.specs.Conversation.{ConversationView, seen};
 
     ghost Value = { ConversationView };
 
-    ghost view = { λ talk. seen R.remaining W.contents talk.reader talk.writer talk.waiting.items talk.owed };
+    ghost view = { λ talk. seen R.remaining W.contents talk.reader talk.writer talk.waiting.items talk.owed
+        (vec_capacity talk.waiting - length talk.waiting.items) };
 }
 
 // Writes the text, and gives how much of it was taken.
@@ -72,7 +70,7 @@ fn remove_front(bytes: &mut Vec<u8>, count: usize)
 impl<R: Read, W: Write> Conversation<R, W> {
     /// A conversation of which nothing was read yet.
     pub fn new(alloc: Global, reader: Counted<R>, writer: Counted<W>) -> Conversation<R, W>
-        ensures { result ≡ seen R.remaining W.contents reader writer [] 0 }
+        ensures { result ≡ seen R.remaining W.contents reader writer [] 0 0 }
     {
         Conversation {
             reader,
@@ -105,7 +103,7 @@ impl<R: Read, W: Write> Conversation<R, W> {
 
     /// The reader and the writer. Replies that wait are lost.
     pub fn into_parts(self) -> (Counted<R>, Counted<W>)
-        ensures { self ≡ seen R.remaining W.contents result.0 result.1 self.waiting self.owed }
+        ensures { self ≡ seen R.remaining W.contents result.0 result.1 self.waiting self.owed self.room }
     {
         let Conversation {
             reader,
@@ -131,19 +129,23 @@ impl<R: Read, W: Write> Conversation<R, W> {
         Ok(taken)
     }
 
-    /// Makes room for a reply, so that a command whose reply would find no memory need not be carried out.
+    /// Makes room for the line of a reply, so that a command whose reply would find no memory need not be carried out.
     pub fn reserve(&mut self) -> Result<(), Memory>
-        ensures { self.new ≡ self.old }
+        ensures ok { OnOk result (LONGEST_LINE ≤ self.new.room) }
+        ensures err { OnErr result (self.new ≡ self.old) }
+        ensures kept { self.new ≡ with_room self.old self.new.room }
     {
-        self.waiting.reserve(LONGEST_REPLY)?;
+        self.waiting.reserve(LONGEST_LINE)?;
         Ok(())
     }
 
-    /// Replies to a line that is owed a reply. The text waits to be sent.
+    /// Replies to a line that is owed a reply. The text waits to be sent. A reply of one line, as all are but a statement,
+    /// finds memory where there is room for one.
     pub fn reply(&mut self, reply: &LineReply) -> Result<(), Memory>
         requires { 0 < self.old.owed }
         ensures ok { OnOk result (HasReplied self.old self.new (text_of reply.now)) }
-        ensures err { OnErr result (self.new ≡ self.old) }
+        ensures err { OnErr result (self.new ≡ with_room self.old self.new.room) }
+        ensures fits { lines_after reply.now ≡ [] → LONGEST_LINE ≤ self.old.room → IsOk result }
     {
         reply_text(reply, &mut self.waiting)?;
         self.owed -= 1;

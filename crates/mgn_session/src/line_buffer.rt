@@ -2,7 +2,7 @@ ghost use Rattle.std.specs.Prelude.{◌≡◌, ◌⊎◌, ◌+◌, ◌<◌, ◌�
 ghost use Rattle.mgn_wire.specs.Line.{line_of};
 ghost use Rattle.mgn_session.specs.Conversation.{ConversationView, KeepsDevices, line_ends};
 ghost use Rattle.mgn_session.specs.Session.{Answers, Calls, Switches, has_end};
-ghost use Rattle.mgn_session.specs.SessionInside.{IsCutOff, IsUnderWay};
+ghost use Rattle.mgn_session.specs.SessionInside.{GoesWithout, IsCutOff, IsUnderWay};
 
 use crate::conversation::Conversation;
 use crate::ends::find_end;
@@ -144,6 +144,8 @@ impl LineBuffer {
             ((last.now ++ 10 ∷ []) ++ rest) size self.old.lines self.old.line.items →
             OnErr result (IsCutOff (Answers (Calls E.entries E.is_full E.is_broken E.does) S.gives)
             before talk.new first (exec.new, source.new)) }
+        ensures room { OnErr result (GoesWithout (Answers (Calls E.entries E.is_full E.is_broken E.does) S.gives)
+            (exec.old, source.old) (line_of (self.old.line.items ++ last.now)) (exec.new, source.new)) }
         ensures count { OnOk result (self.new.lines ≡ self.old.lines + 1) }
         ensures owed { OnOk result (talk.new.owed + 1 ≡ talk.old.owed) }
         ensures devices { KeepsDevices talk.old talk.new }

@@ -1,6 +1,6 @@
 ghost use Rattle.std.specs.Prelude.{◌≡◌, ◌≤◌, [], ℕ, length, IfOk, IfErr, OnOk, OnErr};
 ghost use Rattle.mgn_session.specs.Conversation.{ConversationView, IsQuiet, line_ends};
-ghost use Rattle.mgn_session.specs.Session.{Answers, BlamesDevices, Calls, HasAnswered, HasStopped, HasTooMuch, IsCaughtUp};
+ghost use Rattle.mgn_session.specs.Session.{Answers, BlamesDevices, Calls, HasAnswered, HasRunOut, HasStopped, HasTooMuch, IsCaughtUp};
 ghost use Rattle.mgn_session.specs.SessionInside.{IsUnderWay};
 
 use crate::conversation::Conversation;
@@ -41,6 +41,11 @@ fn answer_chunk<R: Read, W: Write, E: Exec, S: SetSource>(
         chunk.now size lines.old.lines lines.old.line.items →
         IfErr result (λ fault. fault ≡ SessionFault.Lines →
         HasTooMuch (Answers (Calls E.entries E.is_full E.is_broken E.does) S.gives) before talk.new first (exec.new, source.new)) }
+    ensures memory { (before : ConversationView) (first : E × S) (size : ℕ) →
+        IsUnderWay (Answers (Calls E.entries E.is_full E.is_broken E.does) S.gives) before talk.old first (exec.old, source.old)
+        chunk.now size lines.old.lines lines.old.line.items →
+        IfErr result (λ fault. fault ≡ SessionFault.Memory →
+        HasRunOut (Answers (Calls E.entries E.is_full E.is_broken E.does) S.gives) before talk.new first (exec.new, source.new)) }
     ensures read { IfErr result (λ fault. fault ≡ SessionFault.Read → ⊥) }
     ensures failures { BlamesDevices talk.old talk.new result }
     ensures lines { OnOk result (lines.new.lines ≤ MAX_LINES) }
@@ -56,8 +61,9 @@ fn answer_chunk<R: Read, W: Write, E: Exec, S: SetSource>(
 /// gives, and where it gives none, or no set, the line is refused and the executor not called.
 ///
 /// `Read` and `Write` come where that device fails, `Lines` at the next byte after 1,000,000 lines or 268,435,456 bytes
-/// with all replies before it written, `Memory` where it cannot be had. At each fault the executor did what the lines of
-/// a prefix of the input ask for and nothing else, and a prefix of the replies to them was written.
+/// with all replies before it written, `Memory` where it cannot be had, with all replies to what was done written, but for the
+/// last where it is a statement. At each fault the executor did what the lines of a prefix of the input ask for and nothing
+/// else, and a prefix of the replies to them was written.
 pub fn run_lines<R: Read, W: Write, E: Exec, S: SetSource>(
     alloc: Global,
     talk: &mut Conversation<R, W>,
@@ -74,6 +80,9 @@ pub fn run_lines<R: Read, W: Write, E: Exec, S: SetSource>(
         talk.old talk.new (exec.old, source.old) (exec.new, source.new) n) }
     ensures lines { IfErr result (λ fault. fault ≡ SessionFault.Lines →
         HasTooMuch (Answers (Calls E.entries E.is_full E.is_broken E.does) S.gives)
+        talk.old talk.new (exec.old, source.old) (exec.new, source.new)) }
+    ensures memory { IfErr result (λ fault. fault ≡ SessionFault.Memory →
+        HasRunOut (Answers (Calls E.entries E.is_full E.is_broken E.does) S.gives)
         talk.old talk.new (exec.old, source.old) (exec.new, source.new)) }
     ensures failures { BlamesDevices talk.old talk.new result }
 {

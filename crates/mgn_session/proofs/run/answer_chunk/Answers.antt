@@ -1,6 +1,6 @@
 use Rattle.std.proofs.Common.{arith, length}
 use Rattle.std.proofs.lemmas.List.{take_all}
-use Rattle.mgn_session.proofs.RunFacts.{at_err, cuts_off, either, if_err, on_err, on_ok, sends, sends_cut_off, sends_much}
+use Rattle.mgn_session.proofs.RunFacts.{at_err, cuts_off, either, if_err, if_on_err, on_err, on_ok, sends, sends_all_but, sends_cut_off, sends_much}
 use Rattle.mgn_session.proofs.run.answer_chunk.Goals as goal
 
 pub returns-in_err-send-clause-err : goal.returns-in_err-send-clause-err
@@ -25,3 +25,8 @@ pub returns-clause-many : goal.returns-clause-many
 returns-clause-many g c before first size way =
     if_err c.take_chunk-taken.result (c.take_chunk-taken.ensures.many before first size way)
     (λ fault many is. sends_much _ before _ _ first _ (many is).0 size _ (many is).2 (many is).1 c.in_ok-send.ensures.ok)
+
+pub returns-clause-memory : goal.returns-clause-memory
+returns-clause-memory g c before first size way =
+    if_on_err c.take_chunk-taken.result (c.take_chunk-taken.ensures.err before first size way)
+    (λ fault off is. sends_all_but _ before _ _ first _ off c.in_ok-send.ensures.ok)

@@ -45,6 +45,15 @@ returns-in_err-answer_chunk-clause-lines g c =
     let fault = err_from_is_err_and c.from_residual-in_err-answer_chunk.result c.from_residual-in_err-answer_chunk.ensures.1 in
     rw (fault.1, fault.2) ((rw whole at c.in_err-answer_chunk.ensures.many) _ _ _ more)
 
+pub returns-in_err-answer_chunk-clause-memory : goal.returns-in_err-answer_chunk-clause-memory
+returns-in_err-answer_chunk-clause-memory g c =
+    let inv = c.loop-left.invariant in
+    let whole = take-append-le c.in_ok-taken.taken c.read.new.buf (drop c.min-room.result c.loop-left.chunk) c.in_ok-taken.ensures.bound.0 in
+    let more = reads_more _ _ c.loop-left.talk c.read.new.self _ _ (268435456 - c.loop-left.left) c.loop-left.lines.lines (length c.read.new.buf) _
+    (take c.in_ok-taken.taken c.read.new.buf) inv.way c.in_ok-taken.ensures.ok in
+    let fault = err_from_is_err_and c.from_residual-in_err-answer_chunk.result c.from_residual-in_err-answer_chunk.ensures.1 in
+    rw (fault.1, fault.2) ((rw whole at c.in_err-answer_chunk.ensures.memory) _ _ _ more)
+
 pub loop-left-preserved : goal.loop-left-preserved
 loop-left-preserved g c =
     let inv = c.loop-left.invariant in

@@ -1,21 +1,50 @@
-use Rattle.mgn_session.proofs.RunFacts.{at_err, cuts_off, loses_reply, replies}
+use Rattle.std.proofs.Common.{refl, inl, inr}
+use Rattle.mgn_session.proofs.RunFacts.{at_err, cut_in_room, cuts_off, keeps_in_room, keeps_on, loses_reply, replies, way_in_room}
 use Rattle.mgn_session.proofs.line_buffer.LineBuffer.end_line.Goals as goal
 
 pub returns-in_err-reserve-clause-err : goal.returns-in_err-reserve-clause-err
 returns-in_err-reserve-clause-err g c before first rest size whole way =
-    rw c.reserve.ensures (at_err _ (cuts_off _ before _ first _ _ size _ _ way))
+    at_err _ (cut_in_room _ before _ _ first _ c.reserve.ensures.kept (cuts_off _ before _ first _ _ size _ _ way))
+
+pub returns-in_err-reserve-clause-room : goal.returns-in_err-reserve-clause-room
+returns-in_err-reserve-clause-room g c = at_err _ (inl refl)
+
+pub returns-in_err-reserve-clause-devices : goal.returns-in_err-reserve-clause-devices
+returns-in_err-reserve-clause-devices g c = keeps_in_room _ _ c.reserve.ensures.kept
 
 pub returns-in_err-reply-clause-err : goal.returns-in_err-reply-clause-err
 returns-in_err-reply-clause-err g c before first rest size whole way =
-    rw (c.reserve.ensures, c.in_err-reply.ensures.exec, c.in_err-reply.ensures.source) (at_err _ (cuts_off _ before _ first _ _ size _ _ way))
+    rw (c.in_err-reply.ensures.exec, c.in_err-reply.ensures.source)
+    (at_err _ (cut_in_room _ before _ _ first _ c.reserve.ensures.kept (cuts_off _ before _ first _ _ size _ _ way)))
+
+pub returns-in_err-reply-clause-room : goal.returns-in_err-reply-clause-room
+returns-in_err-reply-clause-room g c =
+    rw (c.in_err-reply.ensures.exec, c.in_err-reply.ensures.source) (at_err _ (inl refl))
+
+pub returns-in_err-reply-clause-devices : goal.returns-in_err-reply-clause-devices
+returns-in_err-reply-clause-devices g c = keeps_in_room _ _ c.reserve.ensures.kept
 
 pub returns-in_err-reply-2-clause-err : goal.returns-in_err-reply-2-clause-err
 returns-in_err-reply-2-clause-err g c before first rest size whole way =
-    rw (c.in_err-reply-2.ensures.err, c.reserve.ensures)
-    (at_err _ (loses_reply _ before _ first _ _ rest size _ c.args.self.now.line.items c.args.last.now c.in_ok-reply.reply way whole c.in_ok-reply.ensures.ok))
+    let now = way_in_room _ before _ _ first _ _ size _ _ c.reserve.ensures.kept way in
+    at_err _ (cut_in_room _ before _ _ first _ c.in_err-reply-2.ensures.err
+    (loses_reply _ before _ first _ _ rest size _ c.args.self.now.line.items c.args.last.now c.in_ok-reply.reply now whole c.in_ok-reply.ensures.ok
+    (λ none. cc (c.in_err-reply-2.ensures.fits none c.in_ok-reserve.ensures.ok))))
+
+pub returns-in_err-reply-2-clause-room : goal.returns-in_err-reply-2-clause-room
+returns-in_err-reply-2-clause-room g c =
+    at_err _ (inr (c.in_ok-reply.reply, (λ none. cc (c.in_err-reply-2.ensures.fits none c.in_ok-reserve.ensures.ok)), c.in_ok-reply.ensures.ok))
+
+pub returns-in_err-reply-2-clause-devices : goal.returns-in_err-reply-2-clause-devices
+returns-in_err-reply-2-clause-devices g c =
+    keeps_on _ _ _ (keeps_in_room _ _ c.reserve.ensures.kept) (keeps_in_room _ _ c.in_err-reply-2.ensures.err)
 
 pub returns-clause-ok : goal.returns-clause-ok
 returns-clause-ok g c before first rest size whole way =
-    let replied = rw c.reserve.ensures at c.in_ok-reply-2.ensures.ok in
+    let now = way_in_room _ before _ _ first _ _ size _ _ c.reserve.ensures.kept way in
     rw c.in_ok-reply.ensures.line
-    (replies _ before _ _ first _ _ rest size _ c.args.self.now.line.items c.args.last.now c.in_ok-reply.reply way whole c.in_ok-reply.ensures.ok replied)
+    (replies _ before _ _ first _ _ rest size _ c.args.self.now.line.items c.args.last.now c.in_ok-reply.reply now whole c.in_ok-reply.ensures.ok c.in_ok-reply-2.ensures.ok)
+
+pub returns-clause-devices : goal.returns-clause-devices
+returns-clause-devices g c =
+    keeps_on _ _ _ (keeps_in_room _ _ c.reserve.ensures.kept) c.in_ok-reply-2.ensures.ok.devices
