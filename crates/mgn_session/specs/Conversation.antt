@@ -7,8 +7,7 @@ use Rattle.mgn_session.specs.declared.counted.Counted.{Counted}
 
 -- what the reader has left and the writer was given, where they tell; the text of the replies that wait to be written;
 -- how many lines were read that have no reply; whether bytes were written that no flush followed; whether the last read
--- had room and gave nothing; how many calls of each device failed; how many bytes more of replies find room without new
--- memory
+-- had room and gave nothing; how many calls of each device failed; for how many bytes more of replies there is memory
 pub record ConversationView : Type 0 where
   pub input : Option (List ℕ)
   pub output : Option (List ℕ)
