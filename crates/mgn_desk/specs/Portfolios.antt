@@ -69,6 +69,24 @@ pub record AreParted (m : Moves) (p : Portfolios) : Type 0 where
   pub sales : p.sales.apart ≡ false → m.sales ≡ m.lots
   pub all : p.all.apart ≡ false → m.all ≡ m.lots
 
+-- of three branches, with buys, with sales and with all, those that have the nets of the lots are not apart
+pub record AreTogether (n : FourNets) (three : Branch × Branch × Branch) : Type 0 where
+  pub buys : n.buys ≡ n.lots → three.0.apart ≡ false
+  pub sales : n.sales ≡ n.lots → three.1.apart ≡ false
+  pub all : n.all ≡ n.lots → three.2.apart ≡ false
+
+-- those that move as the lots are apart only if they were
+pub record KeepsTogether (m : Moves) (old new : Portfolios) : Type 0 where
+  pub buys : m.buys ≡ m.lots → new.buys.apart ≡ old.buys.apart
+  pub sales : m.sales ≡ m.lots → new.sales.apart ≡ old.sales.apart
+  pub all : m.all ≡ m.lots → new.all.apart ≡ old.all.apart
+
+-- those are apart that were
+pub record StaysApart (old new : Portfolios) : Type 0 where
+  pub buys : new.buys.apart ≡ old.buys.apart
+  pub sales : new.sales.apart ≡ old.sales.apart
+  pub all : new.all.apart ≡ old.all.apart
+
 -- the nets after moves
 abbrev pub moved_by : Moves → FourNets → FourNets
 moved_by m n = record {

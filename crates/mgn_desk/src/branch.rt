@@ -32,6 +32,7 @@ impl Branch {
         requires nets { All IsNet nets.now }
         ensures portfolio { IfOk result (λ b. IsPortfolio set.now b.own) }
         ensures nets { IfOk result (λ b. (p : Kept) → p.nets ≡ lots.now → (branch_of p b).nets ≡ nets.now) }
+        ensures together { IfOk result (λ b. nets.now ≡ lots.now → b.apart ≡ false) }
     {
         if nets == lots {
             let own = Portfolio::new(alloc, set)?;
@@ -55,6 +56,7 @@ impl Branch {
         ensures portfolio { (set : Tables) → IsPortfolio set self.old.own → IsPortfolio set lots.now →
             IsPortfolio set self.new.own }
         ensures apart { is_other ≡ true → self.new.apart ≡ true }
+        ensures together { is_other ≡ false → self.new.apart ≡ self.old.apart }
     {
         if is_other && !self.apart {
             self.own.copy_from(lots);

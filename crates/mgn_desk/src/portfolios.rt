@@ -19,7 +19,7 @@ pub(crate) struct Portfolios {
 }
 
 impl Portfolios {
-    ghost use Rattle.mgn_desk.specs.Portfolios.{AreBranches, AreFourNets, AreParted, ArePortfolios, AreSmall, CanMove, arrays_of, four_of, moved_by, nets_of, requirements_of};
+    ghost use Rattle.mgn_desk.specs.Portfolios.{AreBranches, AreFourNets, AreParted, ArePortfolios, AreSmall, AreTogether, CanMove, KeepsTogether, StaysApart, arrays_of, four_of, moved_by, nets_of, requirements_of};
 
     // These nets. The only error is that memory was refused.
     pub fn of_nets(
@@ -30,6 +30,7 @@ impl Portfolios {
         requires { AreFourNets set.now (four_of nets.now) }
         ensures portfolios { IfOk result (ArePortfolios set.now) }
         ensures nets { IfOk result (λ p. nets_of p ≡ four_of nets.now) }
+        ensures together { IfOk result (λ p. AreTogether (four_of nets.now) (p.buys, p.sales, p.all)) }
     {
         let lots = Portfolio::of_nets(alloc, set, nets.lots)?;
         let (buys, sales, all) = Self::branches(alloc, set, nets)?;
@@ -48,7 +49,8 @@ impl Portfolios {
         nets: &UnitNets<'_>,
     ) -> Result<(Branch, Branch, Branch), AllocError>
         requires { AreFourNets set.now (four_of nets.now) }
-        ensures { IfOk result (AreBranches set.now (four_of nets.now)) }
+        ensures branches { IfOk result (AreBranches set.now (four_of nets.now)) }
+        ensures together { IfOk result (AreTogether (four_of nets.now)) }
     {
         let buys = Branch::of_nets(alloc, set, nets.lots, nets.buys)?;
         let sales = Branch::of_nets(alloc, set, nets.lots, nets.sales)?;
@@ -61,6 +63,7 @@ impl Portfolios {
         ensures portfolios { (set : Tables) → ArePortfolios set self.old → ArePortfolios set self.new }
         ensures nets { nets_of self.new ≡ nets_of self.old }
         ensures parted { AreParted moves.now self.new }
+        ensures together { KeepsTogether moves.now self.old self.new }
     {
         self.buys.part(&self.lots, differ(moves.buys, moves.lots));
         self.sales.part(&self.lots, differ(moves.sales, moves.lots));
@@ -75,6 +78,7 @@ impl Portfolios {
         requires parted { AreParted moves.now self.old }
         ensures portfolios { ArePortfolios set.now self.new }
         ensures nets { nets_of self.new ≡ moved_by moves.now (nets_of self.old) }
+        ensures apart { StaysApart self.old self.new }
         ensures counted { work.new ≡ counted work.old (arrays_of moves.now) }
     {
         self.lots.follow(set, moves.contract, moves.lots, work);
@@ -90,6 +94,7 @@ impl Portfolios {
         requires nets { CanMove moves.now (nets_of self.old) }
         ensures portfolios { ArePortfolios set.now self.new }
         ensures nets { nets_of self.new ≡ moved_by moves.now (nets_of self.old) }
+        ensures together { KeepsTogether moves.now self.old self.new }
         ensures counted { work.new ≡ counted work.old (arrays_of moves.now) }
     {
         self.part(moves);
@@ -122,7 +127,8 @@ impl Portfolios {
 }
 
 fn differ(a: Quantity, b: Quantity) -> bool
-    ensures { result ≡ false → a ≡ b }
+    ensures alike { result ≡ false → a ≡ b }
+    ensures other { a ≡ b → result ≡ false }
 {
     a.contracts() != b.contracts()
 }

@@ -12,3 +12,11 @@ returns-then-eq-clause-nets c =
     let lots = c.args.lots.now in
     let alike : nets ≡ lots = (slice_eq-Decides Decides-int_eq nets lots (pointwise int_eq nets lots) refl).0 (sym c.if-eq.ensures) in
     same ∙ sym alike
+
+pub returns-clause-together : goal.returns-clause-together
+returns-clause-together c =
+    λ same.
+    let nets = c.args.nets.now in
+    let lots = c.args.lots.now in
+    let alike = (slice_eq-Decides Decides-int_eq nets lots (pointwise int_eq nets lots) refl).1 same in
+    sym alike ∙ sym c.if-eq.ensures
