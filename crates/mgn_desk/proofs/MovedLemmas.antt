@@ -4,8 +4,9 @@ use Rattle.std.specs.Prelude.{◌+ℤ◌, neg_ℤ}
 use Rattle.std.proofs.lemmas.Int.{ints}
 use Rattle.std.proofs.lemmas.List.{set-get_or}
 use Rattle.mgn_span.specs.Scan.{value_at}
+use Rattle.mgn_desk.specs.declared.desk.Marked.{Marked}
 use Rattle.mgn_desk.specs.declared.moves.Moves.{Moves}
-use Rattle.mgn_desk.specs.Desks.{MarkedNets, moved_desk, moved_marked, Shown}
+use Rattle.mgn_desk.specs.Desks.{MarkedNets, Shown, StaysTogether, moved_desk, moved_marked}
 use Rattle.mgn_desk.specs.Moved.{counted, more_of}
 use Rattle.mgn_desk.specs.Portfolios.{arrays_of, FourNets, moved_by, opposite}
 
@@ -57,3 +58,13 @@ counted_more arrays (suc a) zero = rw (plus_zero (suc a)) refl
 counted_more arrays (suc a) (suc b) =
     let e : suc a + suc b ≡ suc (a + suc b) = omega arith in
     rw e (omega arith)
+
+-- portfolios that move back as the lots do move as they do
+pub stays_back : (m : Moves) (old new : Option Marked) → StaysTogether (opposite m) old new → StaysTogether m old new
+stays_back m None new h = tt
+stays_back m (Some old) None h = absurd h
+stays_back m (Some old) (Some new) h = record {
+  buys = λ e. h.buys (ap neg_ℤ e);
+  sales = λ e. h.sales (ap neg_ℤ e);
+  all = λ e. h.all (ap neg_ℤ e);
+}

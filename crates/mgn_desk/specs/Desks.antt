@@ -4,7 +4,7 @@ use Rattle.mgn_params.specs.Tables.{Tables}
 use Rattle.mgn_desk.specs.declared.desk.Marked.{Marked}
 use Rattle.mgn_desk.specs.declared.moves.Moves.{Moves}
 use Rattle.mgn_desk.specs.declared.moves.Requirements.{Requirements}
-use Rattle.mgn_desk.specs.Portfolios.{ArePortfolios, CanMove, FourNets, moved_by, nets_of, requirements_of}
+use Rattle.mgn_desk.specs.Portfolios.{ArePortfolios, AreTogether, CanMove, FourNets, KeepsTogether, moved_by, nets_of, requirements_of}
 
 pub record DeskRows : Type 0 where
   pub unit : ℕ
@@ -65,3 +65,14 @@ CanMoveMarked moves (Some m) = CanMove moves (nets_of m.portfolios)
 abbrev pub Requires : Tables → Option Marked → Requirements → Type 0
 Requires set None r = ⊥
 Requires set (Some m) r = r ≡ requirements_of set (nets_of m.portfolios)
+
+-- it is marked, and its portfolios that have the nets of the lots are not apart
+abbrev pub IsMarkedTogether : FourNets → Option Marked → Type 0
+IsMarkedTogether nets None = ⊥
+IsMarkedTogether nets (Some m) = AreTogether nets (m.portfolios.buys, m.portfolios.sales, m.portfolios.all)
+
+-- its portfolios that move as the lots are apart only if they were
+abbrev pub StaysTogether : Moves → Option Marked → Option Marked → Type 0
+StaysTogether moves None new = Unit {0}
+StaysTogether moves (Some old) None = ⊥
+StaysTogether moves (Some old) (Some new) = KeepsTogether moves old.portfolios new.portfolios

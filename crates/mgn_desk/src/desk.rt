@@ -38,7 +38,7 @@ impl Model for Desk {
 }
 
 impl Desk {
-    ghost use Rattle.mgn_desk.specs.Desks.{AreNetsOf, CanMoveMarked, IsMarkedBy, Requires, Shown, marked_with, moved_desk, shown, version_of};
+    ghost use Rattle.mgn_desk.specs.Desks.{AreNetsOf, CanMoveMarked, IsMarkedBy, IsMarkedTogether, Requires, Shown, StaysTogether, marked_with, moved_desk, shown, version_of};
     ghost use Rattle.mgn_desk.specs.Portfolios.{AreFourNets, AreSmall, arrays_of, four_of, opposite};
 
     /// A desk of a unit that is not marked. Takes no memory.
@@ -80,6 +80,7 @@ impl Desk {
         requires { AreFourNets set.now (four_of nets.now) }
         ensures marked { OnOk result (shown self.new ≡ marked_with self.old.unit version (four_of nets.now)) }
         ensures of_set { OnOk result (IsMarkedBy set.now self.new.marked) }
+        ensures together { OnOk result (IsMarkedTogether (four_of nets.now) self.new.marked) }
         ensures refused { OnErr result (self.new ≡ self.old) }
     {
         let portfolios = Portfolios::of_nets(alloc, set, nets)?;
@@ -99,6 +100,7 @@ impl Desk {
         requires contract { moves.now.contract < length set.now.contracts }
         requires nets { CanMoveMarked moves.now self.old.marked }
         ensures moved { shown self.new ≡ moved_desk moves.now (shown self.old) }
+        ensures together { StaysTogether moves.now self.old.marked self.new.marked }
         ensures of_set { IsMarkedBy set.now self.new.marked }
         ensures counted { work.new ≡ counted work.old (arrays_of moves.now) }
     {
@@ -113,6 +115,7 @@ impl Desk {
         requires contract { moves.now.contract < length set.now.contracts }
         requires nets { CanMoveMarked (opposite moves.now) self.old.marked }
         ensures moved { shown self.new ≡ moved_desk (opposite moves.now) (shown self.old) }
+        ensures together { StaysTogether moves.now self.old.marked self.new.marked }
         ensures before { (before : Shown) → shown self.old ≡ moved_desk moves.now before → shown self.new ≡ before }
         ensures of_set { IsMarkedBy set.now self.new.marked }
         ensures counted { work.new ≡ counted work.old (arrays_of moves.now) }
