@@ -124,6 +124,8 @@ class Gate:
     def sessions(self, whose, program):
         memory = [sys.executable, "tests/memory.py", program]
         self.part(f"refused memory {whose}", memory, r"(\d+) allocations, (\d+) failed")
+        devices = [sys.executable, "tests/devices.py", program]
+        self.part(f"failing devices {whose}", devices, r"(\d+) calls of devices, (\d+) failed")
         self.part(f"sessions {whose}", ["tests/examples.sh", program], r"(\d+) sessions passed, (\d+) failed")
         self.part(f"large sessions {whose}", ["tests/large.sh", program], r"(\d+) large sessions passed, (\d+) failed")
 

@@ -26,6 +26,7 @@ SESSIONS = {
     "the statement of two lots that spread: scan 60, a spread of two at 40": 1,
     "the statement of an order and of collateral: bills at 9,950 less 3 in 100": 1,
     "fills keep to the limit of their order": 1,
+    "each portfolio is asked for room": 1,
     "a transfer between two units, where both have room": 1,
     "a set without a lot's contract is refused, and one without an order's": 1,
     "drawing classes": 1,
@@ -60,16 +61,20 @@ def replies(lines, out):
     return given
 
 
+def prepared(room, name):
+    """Puts the sets of the sessions into a folder, and returns the library of a C file that is to stand before the C library."""
+    for folder in (f"{HERE}/../sets", f"{HERE}/sets"):
+        for it in os.listdir(folder):
+            shutil.copy(f"{folder}/{it}", room)
+    subprocess.run(["cc", "-shared", "-fPIC", "-O1", "-o", f"{room}/{name}.so", f"{HERE}/{name}.c"], check=True)
+    return f"{room}/{name}.so"
+
+
 class Refusing:
     """Runs a program with one allocation failing."""
 
     def __init__(self, program, room):
-        self.program, self.room, self.failed, self.tried = program, room, 0, 0
-        for folder in (f"{HERE}/../sets", f"{HERE}/sets"):
-            for name in os.listdir(folder):
-                shutil.copy(f"{folder}/{name}", room)
-        self.before = f"{room}/failing_alloc.so"
-        subprocess.run(["cc", "-shared", "-fPIC", "-O1", "-o", self.before, f"{HERE}/failing_alloc.c"], check=True)
+        self.program, self.before, self.failed, self.tried = program, prepared(room, "failing_alloc"), 0, 0
 
     def run(self, command, folder, name, given, nth):
         """Runs a command over a set, with its nth allocation failing, or none."""
