@@ -49,7 +49,15 @@ fn full<R: Threads + Wait + Abort + Sync, T: Image, J: TableName + SlotNames>(
         return Err("a question".into());
     };
     fill(rt, &service, &mut pass, &question);
-    call(rt, alloc, &service, &mut pass, &Through, "ASK A1", "ERR 91 FULL\n");
+    call(
+        rt,
+        alloc,
+        &service,
+        &mut pass,
+        &Through,
+        "ASK A1",
+        "ERR 91 FULL\n",
+    );
     switch(rt, alloc, &service, &mut pass, one(), "ERR 91 FULL\n")?;
     let mut passes = Vec::new(alloc);
     passes.push(pass)?;

@@ -71,7 +71,8 @@ impl<'s, 'm, 'r, 'a, R: Wait + Clock, T: Image, J: TableName + SlotNames> Player
             }
             Deed::SwitchEachTime(times) => {
                 for time in 0..times {
-                    self.meeting.wait_for(time.saturating_mul(2).saturating_add(1));
+                    self.meeting
+                        .wait_for(time.saturating_mul(2).saturating_add(1));
                     self.act(Deed::Switch);
                     let _ = self.meeting.come();
                 }

@@ -256,11 +256,20 @@ const LOOKS: Scene = Scene {
 fn an_order_is_looked_at_under_each_set(rt: HostRuntime) -> Result<(), Fail> {
     let played = staged(&rt, rt.alloc(), &LOOKS)?;
     assert!(&rt;
-        played.first.as_slice()
-            == "OK 1\nOK 2\nOK 3\nOK 68\nOK 69 0 1200 1200 1200 0\n".as_bytes()
+        played.first.as_slice() == "OK 1\nOK 2\nOK 3\nOK 68\nOK 69 0 1200 1200 1200 0\n".as_bytes()
     );
-    assert!(&rt; played.second.as_slice().starts_with("OK 4 1 0\nOK 5 2 0\n".as_bytes()));
-    assert!(&rt; played.second.as_slice().ends_with("OK 67 64 0\n".as_bytes()));
+    assert!(&rt;
+        played
+            .second
+            .as_slice()
+            .starts_with("OK 4 1 0\nOK 5 2 0\n".as_bytes())
+    );
+    assert!(&rt;
+        played
+            .second
+            .as_slice()
+            .ends_with("OK 67 64 0\n".as_bytes())
+    );
     assert!(&rt; played.plain == 0 && played.late == 0 && played.entries == 69);
     Ok(())
 }

@@ -12,11 +12,11 @@ loop-place-preserved c i before same =
     ⊎_elim
     (λ (earlier : i < c.loop-place.place). c.loop-place.invariant i earlier same)
     (λ (here : c.loop-place.place ≤ i).
-        let found = c.index-sets-place.is
-            ∙ get_or_default c.args.sets.now c.loop-place.place c.index-sets-place.result (no_tables []) c.loop-place-test.true
-            ∙ ap (λ (k : ℕ). slice_index_or c.args.sets.now k (no_tables [])) (omega arith) ∙ same in
-        let told = c.is_same.ensures.1 found in
-        cc)
+    let found = c.index-sets-place.is
+    ∙ get_or_default c.args.sets.now c.loop-place.place c.index-sets-place.result (no_tables []) c.loop-place-test.true
+    ∙ ap (λ (k : ℕ). slice_index_or c.args.sets.now k (no_tables [])) (omega arith) ∙ same in
+    let told = c.is_same.ensures.1 found in
+    cc)
     (cases_lt i c.loop-place.place)
 
 pub returns-clause-absent : goal.returns-clause-absent
