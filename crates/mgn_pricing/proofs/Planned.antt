@@ -10,7 +10,7 @@ use Rattle.mgn_unit.specs.declared.row.Row.{Row}
 use Rattle.mgn_plan.specs.declared.plans.Plan.TheVariants.{Nothing, One, Two}
 use Rattle.mgn_plan.specs.declared.plans.UnitChange.{UnitChange}
 use Rattle.mgn_plan.specs.Plans.{UnitNets, moved_nets, nets_by, nets_in, planned_nets, row_at}
-use Rattle.mgn_pricing.specs.Desks.{AreDesks, IsMovedBy, IsReady, KeepsOthers, KeepsUnplanned, Rests, marked_at}
+use Rattle.mgn_pricing.specs.Desks.{AreDesks, IsMovedBy, IsReady, KeepsMarked, KeepsOthers, KeepsUnplanned, Rests, is_of, marked_at}
 
 -- a desk that is ready rests
 pub rests : (set' : Tables) (version : ℕ) (nets : UnitNets) (now : Option Marked) → IsReady set' version nets now → Rests set' version nets now
@@ -87,3 +87,16 @@ second-back set' version rows u v old new units at_two rest others long = record
       (subst (λ (nets : UnitNets). Rests set' version nets (marked_at old k)) (by-other v k (nets_by u k (nets_in (row_at set' rows k))) apart) (at_two.each k)))
       (cases_eq v.unit k);
 }
+
+-- Still marked.
+
+pub ready-of : (set' : Tables) (version : ℕ) (nets : UnitNets) (now : Option Marked) → IsReady set' version nets now → is_of version now ≡ true
+ready-of set' version nets None ready = absurd ready
+ready-of set' version nets (Some m) ready = eq-eqb m.version version ready.under
+
+pub one-marked : (version : ℕ) (u : UnitChange) (old new : List DeskRows) → (is_of version (marked_at old u.unit) ≡ true → is_of version (marked_at new u.unit) ≡ true) → KeepsOthers u.unit old new → KeepsMarked version old new
+one-marked version u old new own others k is =
+    ⊎_elim
+    (λ (same : k ≡ u.unit). subst (λ (j : ℕ). is_of version (marked_at new j) ≡ true) (sym same) (own (subst (λ (j : ℕ). is_of version (marked_at old j) ≡ true) same is)))
+    (λ (apart : k ≢ u.unit). ap (is_of version) (others k apart) ∙ is)
+    (cases_eq k u.unit)

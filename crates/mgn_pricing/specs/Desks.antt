@@ -1,5 +1,5 @@
 -- The desks of margin units beside the rows of a book (own profile).
-use Rattle.std.specs.Prelude.{ℕ, ◌≡◌, ◌≢◌, ◌<◌, ◌≤◌, ◌==◌, ◌||◌, Bool, false, List, length, slice_index_or, Option, Some, None}
+use Rattle.std.specs.Prelude.{ℕ, ◌≡◌, ◌≢◌, ◌<◌, ◌≤◌, ◌==◌, ◌||◌, Bool, false, true, List, length, slice_index_or, Option, Some, None}
 use Rattle.mgn_params.specs.Tables.{Tables}
 use Rattle.mgn_desk.specs.declared.desk.Marked.{Marked}
 use Rattle.mgn_desk.specs.declared.moves.Moves.{Moves}
@@ -69,6 +69,10 @@ pub record AreDesks (set : Tables) (version : ℕ) (plan : Plan) (rows : List Ro
 -- the desks of all other units are as they were
 abbrev pub KeepsOthers : ℕ → List DeskRows → List DeskRows → Type 0
 KeepsOthers u old new = (k : ℕ) → k ≢ u → marked_at new k ≡ marked_at old k
+
+-- the desks that are marked under a version still are
+abbrev pub KeepsMarked : ℕ → List DeskRows → List DeskRows → Type 0
+KeepsMarked version old new = (k : ℕ) → is_of version (marked_at old k) ≡ true → is_of version (marked_at new k) ≡ true
 
 -- a unit is one of a plan's
 abbrev pub is_planned : Plan → ℕ → Bool

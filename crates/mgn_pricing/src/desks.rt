@@ -1,4 +1,4 @@
-ghost use Rattle.std.specs.Prelude.{◌≡◌, ◌<◌, ◌≤◌, ◌+◌, [], ℕ, IfOk, OnErr, OnOk, None, length, true};
+ghost use Rattle.std.specs.Prelude.{◌≡◌, ◌<◌, ◌≤◌, ◌+◌, [], ℕ, IfOk, IsOk, OnErr, OnOk, None, length, false, true};
 ghost use Rattle.mgn_desk.specs.Desks.{CanMoveMarked, IsMarkedBy, Requires};
 ghost use Rattle.mgn_desk.specs.Portfolios.{AreSmall};
 ghost use Rattle.mgn_params.specs.Tables.{Tables};
@@ -68,6 +68,7 @@ fn ready(
     requires rests { Rests set.now version (nets_in row.now) desk.old.marked }
     ensures ready { OnOk result (IsReady set.now version (nets_in row.now) desk.new.marked) }
     ensures refused { OnErr result (desk.new ≡ desk.old) }
+    ensures of_version { is_of version desk.old.marked ≡ true → (desk.new ≡ desk.old) × IsOk result }
 {
     if is_of(desk, version) {
         return Ok(());
@@ -116,6 +117,7 @@ fn take_back(desk: &mut Desk, version: Version, set: &ParamSet, row: &Row, chang
     requires change { IsChange set.now change.now }
     requires ready { IsReady set.now version (moved_nets change.now (nets_in row.now)) desk.old.marked }
     ensures ready { IsReady set.now version (nets_in row.now) desk.new.marked }
+    ensures of_version { is_of version desk.new.marked ≡ true }
 {
     desk.take_back(set, &moves_of(change), &mut Work::new());
 }
@@ -126,6 +128,8 @@ fn back(desk: &mut Desk, version: Version, set: &ParamSet, row: &Row, change: &C
     requires change { IsChange set.now change.now }
     requires moved { Rests set.now version (moved_nets change.now (nets_in row.now)) desk.old.marked }
     ensures rests { Rests set.now version (nets_in row.now) desk.new.marked }
+    ensures of_version { is_of version desk.old.marked ≡ true → is_of version desk.new.marked ≡ true }
+    ensures others { is_of version desk.old.marked ≡ false → desk.new ≡ desk.old }
 {
     if is_of(desk, version) {
         take_back(desk, version, set, row, change);
@@ -134,7 +138,7 @@ fn back(desk: &mut Desk, version: Version, set: &ParamSet, row: &Row, change: &C
 
 impl Desks {
     ghost use Rattle.mgn_plan.specs.Plans.{KnowsAll};
-    ghost use Rattle.mgn_pricing.specs.Desks.{AreDesks, AreReady, IsReady, KeepsOthers, KeepsUnplanned, Rests, is_planned, marked_at};
+    ghost use Rattle.mgn_pricing.specs.Desks.{AreDesks, AreReady, IsReady, KeepsMarked, KeepsOthers, KeepsUnplanned, Rests, is_of, is_planned, marked_at};
 
     /// No desks. Takes no memory.
     pub fn new(alloc: Global) -> Desks
@@ -205,6 +209,8 @@ impl Desks {
             (marked_at self.old change.now.unit) }
         ensures rests { Rests set.now version (nets_in (row_at set.now rows.now change.now.unit))
             (marked_at self.new change.now.unit) }
+        ensures of_version { is_of version (marked_at self.old change.now.unit) ≡ true →
+            is_of version (marked_at self.new change.now.unit) ≡ true }
         ensures others { KeepsOthers change.now.unit self.old self.new }
         ensures long { length self.new ≡ length self.old }
     {
@@ -299,6 +305,7 @@ impl Desks {
         requires possible { IsPossible set.now rows.now plan.now }
         requires moved { AreDesks set.now version plan.now rows.now self.old }
         ensures rest { AreDesks set.now version Nothing rows.now self.new }
+        ensures marked { KeepsMarked version self.old self.new }
     {
         match plan {
             Plan::Nothing => {}

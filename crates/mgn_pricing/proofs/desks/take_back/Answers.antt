@@ -5,6 +5,7 @@ use Rattle.mgn_desk.specs.Portfolios.{opposite}
 use Rattle.mgn_plan.specs.Plans.{nets_in}
 use Rattle.mgn_pricing.specs.Desks.{four}
 use Rattle.mgn_pricing.proofs.Moved.{can_move_back, moved-shown, ready-shown, row-nets}
+use Rattle.mgn_pricing.proofs.Planned.{ready-of}
 use Rattle.mgn_pricing.proofs.desks.take_back.Goals as goal
 
 pub take_back-requires-clause-nets : goal.take_back-requires-clause-nets
@@ -17,4 +18,5 @@ returns c =
     let old = c.args.desk.now in
     let before : Shown = marked_with old.unit c.args.version (four (nets_in c.args.row.now)) in
     let moved = moved-shown c.args.set.now c.args.version c.args.row.now c.args.change.now old c.requires.ready ∙ ap (λ (m : Moves). moved_desk m before) (sym c.moves_of.ensures) in
-    record { ready = ready-shown c.args.set.now c.args.version old.unit (nets_in c.args.row.now) c.take_back.new.self c.take_back.ensures.of_set (c.take_back.ensures.before before moved) }
+    let ready = ready-shown c.args.set.now c.args.version old.unit (nets_in c.args.row.now) c.take_back.new.self c.take_back.ensures.of_set (c.take_back.ensures.before before moved) in
+    record { ready = ready; of_version = ready-of c.args.set.now c.args.version (nets_in c.args.row.now) c.take_back.new.self.marked ready }
