@@ -107,7 +107,7 @@ def run_day(program, work, seed, most, counts):
     session = Session(folder, set_of_file(folder, "S0"))
     kind = fuzz_days.Crowd if pick.random() < 0.15 else fuzz_days.Day
     day, lines, replies = kind(pick, session, names), [], []
-    until = time.monotonic() + 20  # (a day over large sets is short)
+    until = time.monotonic() + 8  # (a day over large sets is short)
     for _ in range(min(most, pick.choice([50, 500, 2_000, 3_000]) if kind is fuzz_days.Day else 3_000)):
         lines.append(day.line())
         replies.append(session.reply_to(lines[-1]))
@@ -131,7 +131,7 @@ def changed_sets(pick, most):
 
 
 def run_sets(program, work, seed, most, counts, checks):
-    """Compares a day of SWITCHes to at most so many changed sets, and how some of them are told by a check."""
+    """Compares a day of SWITCHes to so many changed sets, scripts that begin with a few, and how `check` tells some."""
     pick = random.Random(f"sets {seed}")
     texts = changed_sets(pick, most)
     folder = written(os.path.join(work, f"sets{seed}"), texts)
@@ -146,13 +146,16 @@ def run_sets(program, work, seed, most, counts, checks):
     if not agree(program, folder, "GOOD", lines, b"", replies):
         raise Difference(folder, "GOOD", lines)
     counts.sets += most
+    for name in pick.sample(sorted(texts), min(3, len(texts))):
+        if not agree(program, folder, name, lines[:3]):
+            raise Difference(folder, name, lines[:3])
     for name in pick.sample(sorted(texts), min(checks, len(texts))):
         run_check(program, folder, name, counts)
     shutil.rmtree(folder)
 
 
 def run_check(program, folder, name, counts):
-    """Compares how a set is told, and how a script begins that it is the first set of."""
+    """Compares how `check` tells a set."""
     try:
         told = "".join(f"{line}\n" for line in told_set(set_of_file(folder, name))), "", 0
         counts.causes["none"] += 1
@@ -161,8 +164,8 @@ def run_check(program, folder, name, counts):
         counts.causes[fault.cause] += 1
     output, errors, status = run(program, folder, name, b"", "check")
     counts.checks += 1
-    if (output.decode("utf-8", "replace"), errors, status) != told or not agree(program, folder, name, []):
-        print(f"check of {name}: {told}\nthe program: {(output, errors, status)}")
+    if (output.decode("utf-8", "replace"), errors, status) != told:
+        print(f"check of {name}: the program {(output, errors, status)}, the reference {told}")
         raise Difference(folder, name, [])
 
 

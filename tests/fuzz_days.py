@@ -1,12 +1,13 @@
 """Random days of lines for fuzz.py. Each line is chosen with the reference's book at hand, so that most commands are done."""
-from reference.book import Order, size_in
+from reference.book import Order
 from reference.room import least_portfolio
 
 NAMES_OF_ORIGINS = ["CUST", "HOUSE", "NETTED", "O3", "O4", "O5", "O6", "O7", "O8", "O9"]
 WRONG_WORDS = [
     b"", b"0", b"-0", b"00", b"01", b"-1", b"+1", b"1.0", b"1000001", b"-1000001", b"1000000", b"100000000", b"100000001",
-    b"1000000000000", b"1000000000001", b"1000000000000000", b"1000000000000001", b"9223372036854775808", b"1" * 60, b"-" + b"9" * 60,
-    b"A" * 16, b"A" * 17, b"a", b"A\r", b"\r", b"\xc3\x84", b"\xff", b"\0", b"\t", b"GROSS", b"NET", b"NETT", b"CASH", b"A_1", b"-",
+    b"1000000000000", b"1000000000001", b"1000000000000000", b"1000000000000001", b"9223372036854775808", b"1" * 60,
+    b"-" + b"9" * 60, b"A" * 16, b"A" * 17, b"a", b"A\r", b"\r", b"\xc3\x84", b"\xff", b"\0", b"\t", b"GROSS", b"NET",
+    b"NETT", b"CASH", b"A_1", b"-",
 ]
 WEIGHTS = {
     "trade": 20, "hold": 18, "fill": 14, "release": 5, "bust": 6, "move": 9, "post": 10, "draw": 10, "ask": 10, "total": 4,
@@ -204,8 +205,9 @@ class Day:
             contract, quantity = lot.contract, lot.quantity
         names = (giver.name, taker.name) if not self.rarely() else (giver.name, self.account_name())
         line = f"MOVE {self.new_number(taker.lots)} {names[0]} {names[1]} {contract} {quantity}"
-        before = [some for it in (giver, taker) if self.pick.random() < 0.7 for some in self.posts(it, self.pick.choice([10**5, 10**12]))]
-        return before + [line] if self.pick.random() < 0.5 else line
+        if self.pick.random() < 0.5:
+            return line
+        return [some for it in (giver, taker) for some in self.posts(it, self.pick.choice([0, 10**5, 10**12]))] + [line]
 
     def post(self):
         """Collateral, now and then exactly up to its limit, or one more."""
@@ -225,7 +227,8 @@ class Day:
         name = self.pick.choice(["CASH", "CASH", *account.units]) if not self.rarely() else self.class_name()
         posted = account.cash if name == "CASH" else account.units.get(name, 0)
         room = least_portfolio(self.book.parameters, self.book.unit_of(account)).room
-        units = self.pick.choice([1, posted, self.pick.randint(1, max(1, posted)), min(posted, room), room + 1 if self.rarely(5) else room])
+        some = [1, posted, self.pick.randint(1, max(1, posted)), min(posted, room), room + self.rarely(5)]
+        units = self.pick.choice(some)
         line = f"DRAW {account.name} {name} {max(1, min(10**15, units))}"
         return line if posted or self.rarely() else [*self.posts(account, self.pick.randint(1, 10**6)), line]
 
@@ -247,7 +250,8 @@ class Day:
 
     def end(self):
         """The end, and some lines after it."""
-        return ["END"] + [getattr(self, kind)() for kind in ("ask", "total", "statement", "post", "release", "open", "origin", "end_once")]
+        kinds = ["ask", "total", "statement", "post", "release", "open", "origin", "end_once"]
+        return ["END"] + [getattr(self, kind)() for kind in kinds]
 
     def end_once(self):
         """The end, a second time."""
@@ -255,7 +259,8 @@ class Day:
 
     def wrong(self):
         """A good line with one change that mostly makes it no command."""
-        kinds = ["trade", "fill", "release", "bust", "post", "ask", "total", "origin", "open", "statement", "switch", "end_once"]
+        kinds = ["trade", "fill", "release", "bust", "post", "ask", "total", "origin", "open", "statement", "switch",
+                 "end_once"]
         made = getattr(self, self.pick.choice(kinds))()
         words = (made if isinstance(made, str) else made[-1]).encode("ascii").split(b" ")
         at, how = self.pick.randrange(len(words)), self.pick.randrange(8)
@@ -268,7 +273,8 @@ class Day:
         elif how == 5:
             words[at] = words[at].lower()
         elif how == 6:
-            place, some = self.pick.randrange(len(words[at]) + 1), self.pick.choice([b"\r", b"\0", b"\x80", b"-", b"0", b".", b"\t", b"A"])
+            place = self.pick.randrange(len(words[at]) + 1)
+            some = self.pick.choice([b"\r", b"\0", b"\x80", b"-", b"0", b".", b"\t", b"A"])
             words[at] = words[at][:place] + some + words[at][place:]
         else:
             fills = max(0, 256 - len(b" ".join(words)) + self.pick.choice([-1, 0, 1, 2, 3000]))
@@ -314,8 +320,3 @@ class Crowd(Day):
     def many_sets(self):
         """More sets than may come into force."""
         self.waiting += [f"SWITCH {self.pick.choice(self.sets)}" for _ in range(120)]
-
-    def large_rest(self, contract):
-        """Returns how much of a contract the unit of the first account can still take."""
-        account = next(iter(self.book.accounts.values()))
-        return 10_000_000 - size_in(self.book.unit_of(account), contract)

@@ -1,15 +1,16 @@
-"""Random files of parameter sets for fuzz.py: good ones, families of them with the same contracts, and ones with random changes."""
+"""Random files of parameter sets for fuzz.py: families of good ones with the same contracts, and ones with random changes."""
 
 CENTS, RATIO, SHARE, TIER = (0, 10**9), (1, 10**6), (0, 10_000), (1, 8)
 LOSS, DELTA, PRICE, MONTH = (-10**8, 10**8), (-10**5, 10**5), (0, 10**8), (1, 999_999)
 MANNERS = ["plain", "small", "edge", "wild", "mixed"]
-SPECIAL_BYTES = [b",", b'"', b"\r", b"\n", b"\xef\xbb\xbf", b"\0", b"\xff", b" ", b"-", b"0", b"1", b"A", b"a", b'""', b"\r\n"]
+SPECIAL_BYTES = [b",", b'"', b"\r", b"\n", b"\xef\xbb\xbf", b"\0", b"\xff", b" ", b"-", b"0", b"1", b"A", b"a", b'""',
+                 b"\r\n"]
 SPECIAL_FIELDS = [
-    b"", b"0", b"-0", b"00", b"-", b"+1", b"1", b"-1", b"2", b"8", b"9", b"01", b" 1", b"1 ", b"1.0", b"1e3", b"10000", b"10001",
-    b"99999", b"100000", b"100001", b"-100000", b"-100001", b"999999", b"1000000", b"1000001", b"100000000", b"100000001",
+    b"", b"0", b"-0", b"00", b"-", b"+1", b"1", b"-1", b"2", b"8", b"9", b"01", b" 1", b"1 ", b"1.0", b"1e3", b"10000",
+    b"10001", b"99999", b"100000", b"100001", b"-100000", b"-100001", b"999999", b"1000000", b"1000001", b"100000000", b"100000001",
     b"-100000000", b"-100000001", b"1000000000", b"1000000001", b"9223372036854775808", b"18446744073709551617", b"1" * 40,
-    b"9" * 400, b"A" * 16, b"A" * 17, b"a" * 17, b"CASH", b"F", b"C", b"P", b"A", b"B", b"T", b"H", b"G", b"M", b"K", b"S", b"I",
-    b"V", b"X", b"f", b"FF", b"\xc3\x84", b'"', b'""', b'"A"', b'"1"0', b'"1', b"'1'", b"\r", b"\t",
+    b"9" * 400, b"A" * 16, b"A" * 17, b"a" * 17, b"CASH", b"F", b"C", b"P", b"A", b"B", b"T", b"H", b"G", b"M", b"K", b"S",
+    b"I", b"V", b"X", b"f", b"FF", b"\xc3\x84", b'"', b'""', b'"A"', b'"1"0', b'"1', b"'1'", b"\r", b"\t",
 ]
 
 
@@ -38,11 +39,16 @@ class Plan:
 
 
 SIZES = {
-    "tiny": {"commodities": (1, 2), "months": (1, 2), "contracts": (1, 3), "spreads": (0, 2), "credits": (0, 2), "classes": (0, 2)},
-    "usual": {"commodities": (2, 5), "months": (1, 5), "contracts": (1, 8), "spreads": (0, 6), "credits": (1, 8), "classes": (1, 4)},
-    "broad": {"commodities": (8, 16), "months": (1, 8), "contracts": (0, 9), "spreads": (0, 32), "credits": (30, 64), "classes": (16, 16)},
-    "deep": {"commodities": (1, 2), "months": (64, 64), "contracts": (256, 256), "spreads": (32, 32), "credits": (0, 1), "classes": (0, 16)},
-    "full": {"commodities": (256, 256), "months": (1, 1), "contracts": (16, 16), "spreads": (0, 1), "credits": (64, 64), "classes": (16, 16)},
+    "tiny": {"commodities": (1, 2), "months": (1, 2), "contracts": (1, 3),
+             "spreads": (0, 2), "credits": (0, 2), "classes": (0, 2)},
+    "usual": {"commodities": (2, 5), "months": (1, 5), "contracts": (1, 8),
+              "spreads": (0, 6), "credits": (1, 8), "classes": (1, 4)},
+    "broad": {"commodities": (8, 16), "months": (1, 8), "contracts": (0, 9),
+              "spreads": (0, 32), "credits": (30, 64), "classes": (16, 16)},
+    "deep": {"commodities": (1, 2), "months": (64, 64), "contracts": (256, 256),
+             "spreads": (32, 32), "credits": (0, 1), "classes": (0, 16)},
+    "full": {"commodities": (256, 256), "months": (1, 1), "contracts": (16, 16),
+             "spreads": (0, 1), "credits": (64, 64), "classes": (16, 16)},
 }
 
 
@@ -146,15 +152,15 @@ def text_of(pick, records):
         lines.insert(pick.randrange(len(lines) + 1), pick.choice([b"", b"\r", b"\xef\xbb\xbf", b"\xef\xbb\xbf\r"]))
     for _ in range(pick.randint(0, 6)):
         at = pick.randrange(len(lines))
-        if lines[at].strip(b"\r\xef\xbb\xbf"):
+        if lines[at].strip(b"\r\xef\xbb\xbf") and b'"' not in lines[at]:
             lines[at] = pick.choice([b"\xef\xbb\xbf", b"\r", b""]) + quoted(pick, lines[at].strip(b"\r\xef\xbb\xbf"))
     return ending.join(lines) + pick.choice([b"", ending])
 
 
 def quoted(pick, line):
     """Returns the line with some of its fields in quotes."""
-    some = [(b'"%s"' % field, b'"%s"%s' % (field[:1], field[1:]), field)[pick.choice([0, 1, 2, 2])] for field in line.split(b",")]
-    return b",".join(b'""' if field == b"" and pick.random() < 0.5 else field for field in some)
+    in_quotes = lambda field: pick.choice([b'"%s"' % field, b'"%s"%s' % (field[:1], field[1:]), field, field])
+    return b",".join(map(in_quotes, line.split(b",")))
 
 
 def family(pick, count):
