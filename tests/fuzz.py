@@ -38,7 +38,7 @@ class Counts:
 
     def __init__(self):
         self.lines, self.sets, self.checks = 0, 0, 0
-        self.asked, self.done, self.reasons, self.causes = (collections.Counter() for _ in range(4))
+        self.asked, self.done, self.reasons, self.causes, self.figures = (collections.Counter() for _ in range(5))
 
     def add(self, line, reply):
         """Counts a line of a day by its reply."""
@@ -50,13 +50,24 @@ class Counts:
         if told[-1] not in ("SYNTAX", "RANGE", "LONG"):
             self.asked[word] += 1
             self.done[word] += told[0] == "OK"
+        for row in reply.split("\n")[1:]:
+            self.add_figures(row.split(" "))
+
+    def add_figures(self, row):
+        """Counts which figures in a row of a statement are not 0, and where the minimum decides."""
+        self.figures[f"rows {row[0]}"] += row[0] != ""
+        names = {"G": ["scan", "", "intra", "spot", "credit", "minimum", "risk"], "N": ["option value"]}.get(row[0], [])
+        for name, value in zip(names, row[2 if row[0] == "G" else 1:]):
+            self.figures[name] += name != "" and int(value) != 0
+        self.figures["risk is minimum"] += row[0] == "G" and row[7] != "0" and row[7] == row[8]
 
     def told(self):
         """Returns the lines that tell what was compared."""
         shares = ", ".join(f"{word} {self.done[word]} of {asked}" for word, asked in sorted(self.asked.items()))
         listed = lambda numbers: ", ".join(f"{what} {number}" for what, number in sorted(numbers.items()))
         return [f"{self.lines} lines and {self.sets} changed sets are the same, and {self.checks} checks of sets",
-                f"done: {shares}", f"refused: {listed(self.reasons)}", f"faults of the sets checked: {listed(self.causes)}"]
+                f"done: {shares}", f"refused: {listed(self.reasons)}", f"in statements, other than 0: {listed(+self.figures)}",
+                f"faults of the sets checked: {listed(self.causes)}"]
 
     def empty_words(self):
         """Returns the words that were asked often and done too seldom."""
@@ -107,13 +118,14 @@ def run_day(program, work, seed, most, counts):
     session = Session(folder, set_of_file(folder, "S0"))
     kind = fuzz_days.Crowd if pick.random() < 0.15 else fuzz_days.Day
     day, lines, replies = kind(pick, session, names), [], []
+    number = min(most, pick.choice([50, 500, 2_000, 3_000]) if kind is fuzz_days.Day else 3_000)
     until = time.monotonic() + 8  # (a day over large sets is short)
-    for _ in range(min(most, pick.choice([50, 500, 2_000, 3_000]) if kind is fuzz_days.Day else 3_000)):
+    while len(lines) < number and time.monotonic() < until:
+        if len(lines) == number - 12 and pick.random() < 0.7:
+            day.waiting = day.end()
         lines.append(day.line())
         replies.append(session.reply_to(lines[-1]))
         counts.add(lines[-1], replies[-1])
-        if time.monotonic() > until:
-            break
     rest = b"" if pick.random() < 0.5 else pick.choice([b"ASK A0", b"\xff", b"x" * 300])
     if not agree(program, folder, "S0", lines, rest, replies):
         raise Difference(folder, "S0", lines, rest)
