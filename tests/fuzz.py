@@ -138,7 +138,8 @@ def changed_sets(pick, most):
     for number in range(most):
         if number % 25 == 0:
             good = fuzz_sets.full_set(pick) if pick.random() < 0.04 else fuzz_sets.good_small_set(pick)
-        texts[f"B{number}"] = fuzz_sets.changed(pick, good) if pick.random() < 0.95 else good
+        how = pick.random()
+        texts[f"B{number}"] = fuzz_sets.odd_line(pick) if how < 0.1 else good if how < 0.15 else fuzz_sets.changed(pick, good)
     return texts
 
 

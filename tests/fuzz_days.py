@@ -11,7 +11,7 @@ WRONG_WORDS = [
 ]
 WEIGHTS = {
     "trade": 20, "hold": 18, "fill": 14, "release": 5, "bust": 6, "move": 9, "post": 10, "draw": 10, "ask": 10, "total": 4,
-    "statement": 6, "wrong": 6, "open": 2, "origin": 0.3, "switch": 2, "end": 0.01,
+    "statement": 10, "wrong": 6, "open": 2, "origin": 0.3, "switch": 2, "end": 0.01,
 }
 
 

@@ -93,13 +93,13 @@ def records_of_plan(pick, plan, size, name, manner):
     """Returns the records of a set with the names of a plan and numbers of its own, in an order that is allowed."""
     version = pick.choice([1, 2, 2])
     of = lambda limits: number(pick, limits, manner)
-    ratio = lambda: pick.choice([10_000, 20_000, 30_000, 5_000, 1, of(RATIO)])
+    ratio = lambda: pick.choice([10_000, 20_000, 30_000, pick.randint(1, 30_000), of(RATIO)])
     rows = [("G", it, of(CENTS)) for it in plan.commodities]
     tiers = pick.choice([1, 2, 3, 8])
     rows += [("M", commodity, month, pick.randint(1, tiers)) for commodity, month in plan.months]
     for contract, commodity, month, kind, style in plan.contracts:
         value = of(PRICE) if style == "P" else 0
-        delta = pick.choice([10_000, -10_000, 5_000, of(DELTA)])
+        delta = pick.choice([10_000, -10_000, pick.randint(-10_000, 10_000), of(DELTA)])
         rows.append(("K", contract, commodity, month, kind, style, delta, value, *array_of(pick, manner)))
     for commodity in plan.commodities:
         for _ in range(within(pick, size["spreads"])):
@@ -217,6 +217,13 @@ def full_set(pick):
     for rows in pick.sample(tables, pick.randint(1, 3)):
         lines += rows
     return "\n".join(lines).encode() + b"\n"
+
+
+def odd_line(pick):
+    """Returns a file with one line of quotes, commas, CRs and the like between good records, and a wrong record after them."""
+    line = b"".join(pick.choices([b'"', b",", b"\r", b"1", b"A", b"\xef\xbb\xbf"], k=pick.randint(0, 7)))
+    before, after = pick.choice([(b"", b""), (b"V,", b""), (b"V,", b",1,1"), (b"V,A,1,", b""), (b'"V",', b""), (b"", b"V,A,1,1")])
+    return b"H,1,ODD\n" + before + line + after + b"\nV,B,1,1\nX\n"
 
 
 def changed(pick, text):
