@@ -94,8 +94,9 @@ class Day:
         contract = self.book.parameters.contracts.get(contract_name)
         if contract is None or (contract.has_premium() == self.rarely()):
             return 0
-        near = max(0, min(10**8, contract.value + self.pick.randint(-50, 50)))
-        return self.pick.choice([near, near, self.pick.randint(0, 100), 10**8, 0])
+        width = self.pick.choice([3, 50])
+        near = max(0, min(10**8, contract.value + self.pick.randint(-width, width)))
+        return self.pick.choice([near, near, near, self.pick.randint(0, 100), 10**8, 0])
 
     def held(self):
         """Returns an account with a held order, the order's number and the order, or None."""
