@@ -1,5 +1,5 @@
 """Random days of lines for fuzz.py. Each line is chosen with the reference's book at hand, so that most commands are done."""
-from reference.book import Order
+from reference.book import Order, size_in
 from reference.room import least_portfolio
 
 NAMES_OF_ORIGINS = ["CUST", "HOUSE", "NETTED", "O3", "O4", "O5", "O6", "O7", "O8", "O9"]
@@ -89,6 +89,13 @@ class Day:
         size = self.pick.choice([1, self.pick.randint(1, 5), self.pick.randint(1, self.largest), self.largest])
         return size if self.pick.random() < 0.5 else -size
 
+    def quantity_in(self, account, contract_name):
+        """Returns a quantity, now and then one that just reaches the limit of sizes of the account's unit, or is one more."""
+        rest = 10_000_000 - size_in(self.book.unit_of(account), contract_name) if account else 0
+        if not 0 < rest <= 1_000_000 or self.pick.random() < 0.3:
+            return self.quantity()
+        return self.pick.choice([-1, 1]) * min(1_000_000, rest + self.pick.choice([0, 0, 1]))
+
     def price(self, contract_name):
         """Returns a premium or limit that fits the contract, or now and then one that does not."""
         contract = self.book.parameters.contracts.get(contract_name)
@@ -123,7 +130,7 @@ class Day:
         account, contract = self.account(), self.contract_name()
         taken = account.lots if account else ()
         return f"TRADE {self.account_name() if self.rarely() or not account else account.name} {self.new_number(taken)} " \
-               f"{contract} {self.quantity()} {self.price(contract)}"
+               f"{contract} {self.quantity_in(account, contract)} {self.price(contract)}"
 
     def bust(self):
         """A bust of a live lot, of a moved or busted one, or of none."""
@@ -139,7 +146,8 @@ class Day:
         account, contract = self.account(), self.contract_name()
         if account is None:
             return f"HOLD {self.account_name()} 1 {contract} 1 0"
-        number, quantity, limit = self.new_number(account.orders), self.quantity(), self.price(contract)
+        number, quantity = self.new_number(account.orders), self.quantity_in(account, contract)
+        limit = self.price(contract)
         line = f"HOLD {account.name} {number} {contract} {quantity} {limit}"
         known = self.book.parameters.contracts.get(contract)
         if known is None or number in account.orders or (limit and not known.has_premium()):
