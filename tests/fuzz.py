@@ -22,7 +22,7 @@ from reference.session import NoSet, Session, SetFault, set_of_file
 
 HERE = os.path.dirname(os.path.abspath(__file__))
 PROGRAM = os.path.join(os.path.dirname(HERE), "crates", "spand", "out", "spand")
-LEAST_DONE = 0.25  # of the lines of each word, once there are some hundred
+LEAST_DONE = 0.2  # of the lines of each word, once there are some hundred
 
 
 class Difference(Exception):

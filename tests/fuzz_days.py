@@ -1,5 +1,5 @@
 """Random days of lines for fuzz.py. Each line is chosen with the reference's book at hand, so that most commands are done."""
-from reference.book import Order, size_in
+from reference.book import Lot, Order, size_in
 from reference.room import least_portfolio
 
 NAMES_OF_ORIGINS = ["CUST", "HOUSE", "NETTED", "O3", "O4", "O5", "O6", "O7", "O8", "O9"]
@@ -201,8 +201,9 @@ class Day:
         return f"RELEASE {found[0].name} {found[1]}"
 
     def move(self):
-        """A transfer, mostly within an origin, now and then after cash was posted for it."""
-        giver = self.account()
+        """A transfer, mostly within an origin, and often after as much cash was posted as it needs."""
+        givers = [it for it in self.book.accounts.values() if len(it.origin.accounts) > 1]
+        giver = self.pick.choice(givers) if givers and not self.rarely() else self.account()
         if giver is None:
             return f"MOVE 1 A1 A2 {self.contract_name()} 1"
         others = [it for it in giver.origin.accounts if it is not giver]
@@ -214,9 +215,21 @@ class Day:
             contract, quantity = lot.contract, lot.quantity
         names = (giver.name, taker.name) if not self.rarely() else (giver.name, self.account_name())
         line = f"MOVE {self.new_number(taker.lots)} {names[0]} {names[1]} {contract} {quantity}"
-        if self.pick.random() < 0.5:
+        if contract not in self.book.parameters.contracts or self.pick.random() < 0.1:
             return line
-        return [some for it in (giver, taker) for some in self.posts(it, self.pick.choice([0, 10**5, 10**12]))] + [line]
+        lacking = self.lacking_for_move(giver, taker, contract, quantity)
+        near = self.pick.choice([0, 0, 0, 0, 1, -1])
+        return [some for it, cents in lacking for some in self.posts(it, cents - near)] + [line]
+
+    def lacking_for_move(self, giver, taker, contract, quantity):
+        """Returns what the units of two accounts would have less than they require after a transfer."""
+        giver.lots["moved"], taker.lots["moved"] = Lot(contract, -quantity, 0, True), Lot(contract, quantity, 0, True)
+        lacking = []
+        for account in (giver, taker) if giver.origin.mode == "GROSS" else (giver,):
+            lacking.append((account, -least_portfolio(self.book.parameters, self.book.unit_of(account)).room))
+        for account in {giver, taker}:
+            del account.lots["moved"]
+        return lacking
 
     def post(self):
         """Collateral, now and then exactly up to its limit, or one more."""

@@ -7,8 +7,8 @@ SPECIAL_BYTES = [b",", b'"', b"\r", b"\n", b"\xef\xbb\xbf", b"\0", b"\xff", b" "
                  b"\r\n"]
 SPECIAL_FIELDS = [
     b"", b"0", b"-0", b"00", b"-", b"+1", b"1", b"-1", b"2", b"8", b"9", b"01", b" 1", b"1 ", b"1.0", b"1e3", b"10000",
-    b"10001", b"99999", b"100000", b"100001", b"-100000", b"-100001", b"999999", b"1000000", b"1000001", b"100000000", b"100000001",
-    b"-100000000", b"-100000001", b"1000000000", b"1000000001", b"9223372036854775808", b"18446744073709551617", b"1" * 40,
+    b"10001", b"99999", b"100000", b"100001", b"-100000", b"-100001", b"999999", b"1000000", b"1000001", b"100000000",
+    b"100000001", b"-100000000", b"-100000001", b"1000000000", b"1000000001", b"9223372036854775808", b"18446744073709551617", b"1" * 40,
     b"9" * 400, b"A" * 16, b"A" * 17, b"a" * 17, b"CASH", b"F", b"C", b"P", b"A", b"B", b"T", b"H", b"G", b"M", b"K", b"S",
     b"I", b"V", b"X", b"f", b"FF", b"\xc3\x84", b'"', b'""', b'"A"', b'"1"0', b'"1', b"'1'", b"\r", b"\t",
 ]
@@ -222,7 +222,8 @@ def full_set(pick):
 def odd_line(pick):
     """Returns a file with one line of quotes, commas, CRs and the like between good records, and a wrong record after them."""
     line = b"".join(pick.choices([b'"', b",", b"\r", b"1", b"A", b"\xef\xbb\xbf"], k=pick.randint(0, 7)))
-    before, after = pick.choice([(b"", b""), (b"V,", b""), (b"V,", b",1,1"), (b"V,A,1,", b""), (b'"V",', b""), (b"", b"V,A,1,1")])
+    around = [(b"", b""), (b"V,", b""), (b"V,", b",1,1"), (b"V,A,1,", b""), (b'"V",', b""), (b"", b"V,A,1,1")]
+    before, after = pick.choice(around)
     return b"H,1,ODD\n" + before + line + after + b"\nV,B,1,1\nX\n"
 
 
