@@ -22,7 +22,7 @@ from reference.session import NoSet, Session, SetFault, set_of_file
 
 HERE = os.path.dirname(os.path.abspath(__file__))
 PROGRAM = os.path.join(os.path.dirname(HERE), "crates", "spand", "out", "spand")
-LEAST_DONE = 0.2  # of the lines of each word, once there are some hundred
+LEAST_DONE = 0.2  # of the lines of each word, once there are a thousand
 
 
 class Difference(Exception):
@@ -71,7 +71,7 @@ class Counts:
 
     def empty_words(self):
         """Returns the words that were asked often and done too seldom."""
-        return [word for word, asked in self.asked.items() if asked >= 500 and self.done[word] < LEAST_DONE * asked]
+        return [word for word, asked in self.asked.items() if asked >= 1_000 and self.done[word] < LEAST_DONE * asked]
 
 
 def run(program, folder, name, text, command="script"):

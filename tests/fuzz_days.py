@@ -135,11 +135,10 @@ class Day:
     def bust(self):
         """A bust of a live lot, of a moved or busted one, or of none."""
         account = self.account()
-        if account is None or not account.lots or self.rarely(2):
+        if account is None or self.rarely(2):
             return f"BUST {self.account_name()} {self.new_number()}"
-        lots = [number for number, lot in account.lots.items() if lot.is_live and not lot.is_moved]
-        number = self.pick.choice(list(account.lots) if self.rarely(3) or not lots else lots)
-        return f"BUST {account.name} {number}"
+        lots = [number for number, lot in account.lots.items() if lot.is_live and not lot.is_moved or self.rarely()]
+        return f"BUST {account.name} {self.pick.choice(lots)}" if lots else self.trade()
 
     def hold(self):
         """An order, often after as much cash was posted as makes its room 0 or nearly so."""
@@ -196,8 +195,10 @@ class Day:
     def release(self):
         """A release of a held order."""
         found = self.held()
-        if found is None or self.rarely():
+        if self.rarely():
             return f"RELEASE {self.account_name()} {self.new_number()}"
+        if found is None:
+            return self.hold()
         return f"RELEASE {found[0].name} {found[1]}"
 
     def move(self):

@@ -1,7 +1,7 @@
 """Random files of parameter sets for fuzz.py: families of good ones with the same contracts, and ones with random changes."""
 
-CENTS, RATIO, SHARE, TIER = (0, 10**9), (1, 10**6), (0, 10_000), (1, 8)
-LOSS, DELTA, PRICE, MONTH = (-10**8, 10**8), (-10**5, 10**5), (0, 10**8), (1, 999_999)
+CENTS, RATIO, SHARE = (0, 10**9), (1, 10**6), (0, 10_000)
+LOSS, DELTA, PRICE = (-10**8, 10**8), (-10**5, 10**5), (0, 10**8)
 MANNERS = ["plain", "small", "edge", "wild", "mixed"]
 SPECIAL_BYTES = [b",", b'"', b"\r", b"\n", b"\xef\xbb\xbf", b"\0", b"\xff", b" ", b"-", b"0", b"1", b"A", b"a", b'""',
                  b"\r\n"]

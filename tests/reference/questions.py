@@ -30,8 +30,8 @@ def statement(book, name):
     unit, origin, parameters = book.unit_of(account), account.origin, book.parameters
     rows = [["S", account.name, origin.name, origin.mode, parameters.name, book.version]]
     rows.append(["F", *figures_of_unit(book, account), call_on(parameters, unit)])
-    rows += commodity_rows(parameters, nets_of(unit))
-    rows.append(["N", net_option_value(parameters, nets_of(unit))])
+    rows += commodity_rows(parameters, nets_of(unit, []))
+    rows.append(["N", net_option_value(parameters, nets_of(unit, []))])
     for number, lot in account.lots.items():
         if lot.is_live:
             rows.append(["L", number, lot.contract, lot.quantity, lot.premium, "M" if lot.is_moved else "T"])

@@ -24,17 +24,26 @@ def collateral_value(parameters, account):
     return account.cash + sum(class_value(parameters, name, units) for name, units in account.units.items())
 
 
-def portfolio(parameters, unit, orders):
-    """Returns the portfolio of a unit's lots with these orders, each filled completely at its limit."""
+def nets_of(unit, orders):
+    """Returns the nets of a unit's lots, with these orders filled completely."""
     nets = {}
-    value = sum(collateral_value(parameters, account) for account in unit)
     for lot in live_lots(unit):
         nets[lot.contract] = nets.get(lot.contract, 0) + lot.quantity
-        value -= lot.quantity * lot.premium
     for order in orders:
         nets[order.contract] = nets.get(order.contract, 0) + order.left
-        value -= order.left * order.limit
-    return Portfolio(requirement_of(parameters, nets), value)
+    return nets
+
+
+def value_of(parameters, unit, orders):
+    """Returns the value of a unit, with these orders filled completely at their limits."""
+    collateral = sum(collateral_value(parameters, account) for account in unit)
+    paid = sum(lot.quantity * lot.premium for lot in live_lots(unit))
+    return collateral - paid - sum(order.left * order.limit for order in orders)
+
+
+def portfolio(parameters, unit, orders):
+    """Returns the portfolio of a unit's lots with these orders."""
+    return Portfolio(requirement_of(parameters, nets_of(unit, orders)), value_of(parameters, unit, orders))
 
 
 def lots_alone(parameters, unit):
@@ -52,14 +61,6 @@ def four_portfolios(parameters, unit):
 def least_portfolio(parameters, unit):
     """Returns the portfolio with the least room of the four, the first of those if several tie."""
     return min(four_portfolios(parameters, unit), key=lambda one: one.room)
-
-
-def nets_of(unit):
-    """Returns the nets of a unit's lots."""
-    nets = {}
-    for lot in live_lots(unit):
-        nets[lot.contract] = nets.get(lot.contract, 0) + lot.quantity
-    return nets
 
 
 def call_on(parameters, unit):
