@@ -116,7 +116,7 @@ def run_day(program, work, seed, most, counts):
     texts.update(BAD=fuzz_sets.changed(pick, pick.choice(list(texts.values()))), EMPTY=b"")
     folder = written(os.path.join(work, f"day{seed}"), texts)
     session = Session(folder, set_of_file(folder, "S0"))
-    kind = fuzz_days.Crowd if pick.random() < 0.15 else fuzz_days.Day
+    kind = fuzz_days.Crowd if pick.random() < 0.2 else fuzz_days.Day
     day, lines, replies = kind(pick, session, names), [], []
     number = min(most, pick.choice([50, 500, 2_000, 3_000]) if kind is fuzz_days.Day else 3_000)
     until = time.monotonic() + 8  # (a day over large sets is short)

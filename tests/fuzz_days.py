@@ -152,9 +152,13 @@ class Day:
         if known is None or number in account.orders or (limit and not known.has_premium()):
             return line
         room = self.room_with(account, number, Order(contract, quantity, limit))
-        if room < 0:
-            return self.posts(account, -room - self.pick.choice([0, 0, 0, 0, 1, -1])) + [line]
-        return line
+        before = self.posts(account, -room - self.pick.choice([0, 0, 0, 0, 1, -1])) if room < 0 else []
+        return before + [line] + (self.mirrored(account, known, quantity, limit) if self.pick.random() < 0.1 else [])
+
+    def mirrored(self, account, contract, quantity, limit):
+        """Returns an order of the other side, as far from the market value, so that two portfolios may tie, and a question."""
+        other = max(0, min(10**8, 2 * contract.value - limit)) if contract.has_premium() else 0
+        return [f"HOLD {account.name} {self.new_number()} {contract.name} {-quantity} {other}", f"ASK {account.name}"]
 
     def room_with(self, account, number, order):
         """Returns what the room of an account's unit would be with an order."""
@@ -332,12 +336,13 @@ class Crowd(Day):
 
     def large_sizes(self):
         """Lots of the largest quantity, up to the limit of a unit and beyond."""
-        names = list(self.book.parameters.contracts) or ["NONE"]
-        contract = self.pick.choice(names)
-        for number in range(1, 13):
-            quantity = self.pick.choice([-1_000_000, 1_000_000, 999_999])
-            self.waiting.append(f"{self.pick.choice(['TRADE', 'TRADE', 'HOLD'])} A0 {number} {contract} {quantity} 0")
-            self.waiting.append(f"MOVE {number + 100} A1 A0 {contract} {quantity}")
+        contract = self.pick.choice(list(self.book.parameters.contracts) or ["NONE"])
+        rest = self.pick.randint(1, 999_999)
+        self.waiting.append("POST A0 CASH 1000000000000000")
+        for number, size in enumerate([1_000_000] * 9 + [1_000_000 - rest, rest, 1, 1], 1):
+            word = self.pick.choice(["TRADE", "HOLD"]) if number > 9 else "TRADE"
+            self.waiting.append(f"{word} A0 {number} {contract} {self.pick.choice([-size, size])} 0")
+        self.waiting += [f"MOVE 14 A1 A0 {contract} 1", "RELEASE A0 11", f"MOVE 15 A0 A1 {contract} {max(1, rest // 2)}"]
         self.largest = 1_000_000
 
     def many_sets(self):

@@ -85,7 +85,7 @@ def array_of(pick, manner):
     if manner == "mixed" and pick.random() < 0.5:
         return plain_array(pick)
     if pick.random() < 0.1:
-        return [number(pick, LOSS, manner)] * 16
+        return [pick.choice([0, 0, number(pick, LOSS, manner)])] * 16
     return [number(pick, LOSS, manner) for _ in range(16)]
 
 
