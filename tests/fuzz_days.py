@@ -43,10 +43,14 @@ class Day:
         if not self.waiting:
             words = list(self.weights)
             kind = self.pick.choices(words, [self.weights[word] for word in words])[0]
-            made = getattr(self, kind)()
-            self.waiting += [made] if isinstance(made, (str, bytes)) else made
+            self.waiting += self.lines_of(kind)
         line = self.waiting.pop(0)
         return line if isinstance(line, bytes) else line.encode("ascii")
+
+    def lines_of(self, kind):
+        """Returns the lines that one of the commands below makes."""
+        made = getattr(self, kind)()
+        return [made] if isinstance(made, (str, bytes)) else made
 
     def rarely(self, share=1.0):
         """Returns whether something that does not fit is to be made."""
@@ -278,7 +282,7 @@ class Day:
     def end(self):
         """The end, and some lines after it."""
         kinds = ["ask", "total", "statement", "post", "release", "open", "origin", "end_once"]
-        return ["END"] + [getattr(self, kind)() for kind in kinds]
+        return ["END"] + [line for kind in kinds for line in self.lines_of(kind)]
 
     def end_once(self):
         """The end, a second time."""
