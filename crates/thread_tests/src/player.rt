@@ -73,7 +73,7 @@ impl<'s, 'm, 'r, 'a, R: Wait + Clock, T: Image, J: TableName + SlotNames> Player
                 for time in 0..times {
                     self.meeting
                         .wait_for(time.saturating_mul(2).saturating_add(1));
-                    self.act(Deed::Switch);
+                    self.switch();
                     let _ = self.meeting.come();
                 }
             }
@@ -85,14 +85,16 @@ impl<'s, 'm, 'r, 'a, R: Wait + Clock, T: Image, J: TableName + SlotNames> Player
                     self.hear(answer);
                 }
             }
-            Deed::Switch => {
-                if let Ok(set) = read_set(self.alloc, two().as_bytes()) {
-                    let pass = &mut self.pass;
-                    let meeting = self.meeting;
-                    let answer = self.service.switch_alone(meeting.rt(), pass, meeting, set);
-                    self.hear(answer);
-                }
-            }
+            Deed::Switch => self.switch(),
+        }
+    }
+
+    fn switch(&mut self) {
+        if let Ok(set) = read_set(self.alloc, two().as_bytes()) {
+            let pass = &mut self.pass;
+            let meeting = self.meeting;
+            let answer = self.service.switch_alone(meeting.rt(), pass, meeting, set);
+            self.hear(answer);
         }
     }
 
