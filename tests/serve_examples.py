@@ -1,4 +1,5 @@
 """The programs of examples/ as processes."""
+import functools
 import pathlib
 import signal
 import socket
@@ -100,7 +101,9 @@ def a_desk_that_is_redrawn(program):
         accounts = pathlib.Path(folder, "accounts")
         accounts.write_text("A1\n", encoding="ascii")
         words = [sys.executable, EXAMPLES / "desk.py", str(server.port), accounts, "--rate", "20"]
-        with subprocess.Popen(words, bufsize=0, stdout=subprocess.PIPE, stderr=subprocess.PIPE) as seen:
+        # (Where the tests run in the background of a shell, the interrupt is ignored in what they start.)
+        heeds = functools.partial(signal.signal, signal.SIGINT, signal.SIG_DFL)
+        with subprocess.Popen(words, bufsize=0, stdout=subprocess.PIPE, stderr=subprocess.PIPE, preexec_fn=heeds) as seen:
             try:
                 shown = b""
                 while b"last place 5;" not in shown:
