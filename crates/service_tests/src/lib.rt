@@ -2,6 +2,4 @@
 #![tactic(auto)]
 
 #[cfg(test)]
-mod full;
-#[cfg(test)]
 mod sessions;

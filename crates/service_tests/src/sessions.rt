@@ -38,7 +38,7 @@ fn play<'a, R: Wait + Abort, T: Image, J: TableName + SlotNames, G: Gate>(
     }
 }
 
-pub(crate) fn call<'a, R: Wait + Abort, T: Image, J: TableName + SlotNames, G: Gate>(
+fn call<'a, R: Wait + Abort, T: Image, J: TableName + SlotNames, G: Gate>(
     rt: &R,
     alloc: Global,
     service: &Service<'a, T, J>,
@@ -104,7 +104,7 @@ fn a_desk_is_kept(rt: HostRuntime) -> Result<(), Fail> {
 }
 
 // A service before its first command.
-pub(crate) fn fresh<'a, R: Wait, T: Image, J: TableName + SlotNames>(
+fn fresh<'a, R: Wait, T: Image, J: TableName + SlotNames>(
     rt: &R,
     alloc: Global,
     slots: &'a Slots<T>,
@@ -187,7 +187,7 @@ fn an_audit_wants_its_own_passes(rt: HostRuntime) -> Result<(), Fail> {
 }
 
 // Switches to the set of a text, and compares the answer.
-pub(crate) fn switch<'a, R: Threads + Wait + Abort + Sync, T: Image, J: TableName + SlotNames>(
+fn switch<'a, R: Threads + Wait + Abort + Sync, T: Image, J: TableName + SlotNames>(
     rt: &R,
     alloc: Global,
     service: &Service<'a, T, J>,

@@ -1,11 +1,13 @@
-//! Sixteen sessions on threads of their own call one service as fast as they can, and a book of one thread gives each of them
-//! the same replies.
+//! Services at their limits: sixteen sessions on threads of their own call one as fast as they can, and a book of one thread gives
+//! each of them the same replies; and a history is filled to its end.
 #![tactic(auto)]
 
 #[cfg(test)]
 mod counts;
 #[cfg(test)]
 mod drawn;
+#[cfg(test)]
+mod full;
 #[cfg(test)]
 mod player;
 #[cfg(test)]

@@ -2,10 +2,10 @@
 
 ghost use Rattle.std.specs.Prelude.{◌≡◌};
 
-use crate::sessions::{call, fresh, switch};
 use mgn_ledger::{DayImage, Image, Pass};
-use mgn_machine::{Command, Refusal, Reply};
+use mgn_machine::{Answer, Command, Refusal, Reply};
 use mgn_service::{Service, Through};
+use mgn_setfile::read_set;
 use mgn_slots::{SlotNames, Slots};
 use mgn_table::{SetTable, TableName};
 use mgn_wire::{Line, read_line};
@@ -14,7 +14,6 @@ use std::marker::Brand;
 use std::process::Abort;
 use std::sync::Wait;
 use std::test::Fail;
-use std::thread::Threads;
 use worked_sets::one;
 
 // The most entries that a history has.
@@ -34,7 +33,12 @@ fn fill<'a, R: Wait + Abort, T: Image, J: TableName + SlotNames>(
     }
 }
 
-fn full<R: Threads + Wait + Abort + Sync, T: Image, J: TableName + SlotNames>(
+// Whether an answer says that there is room for no more entries.
+fn is_full(answer: &Answer) -> bool {
+    answer.place.is_none() && matches!(answer.reply, Reply::Refused(Refusal::Full))
+}
+
+fn full<R: Wait + Abort, T: Image, J: TableName + SlotNames>(
     rt: &R,
     alloc: Global,
     slots: &Slots<T>,
@@ -43,22 +47,16 @@ fn full<R: Threads + Wait + Abort + Sync, T: Image, J: TableName + SlotNames>(
     requires slots { slots.now ≡ J.slots }
     requires table { table.now ≡ J.table }
 {
-    let service = fresh::<_, T, J>(rt, alloc, slots, table)?;
+    let first = read_set(alloc, one().as_bytes())?;
+    let service = Service::<T, J>::new(rt, alloc, slots, table, first, 1)?;
     let mut pass = service.pass(rt).ok_or("a pass")?;
     let Ok(Line::Do(question)) = read_line("ASK A1".as_bytes()) else {
         return Err("a question".into());
     };
     fill(rt, &service, &mut pass, &question);
-    call(
-        rt,
-        alloc,
-        &service,
-        &mut pass,
-        &Through,
-        "ASK A1",
-        "ERR 91 FULL\n",
-    );
-    switch(rt, alloc, &service, &mut pass, one(), "ERR 91 FULL\n")?;
+    assert!(rt; is_full(&service.exec(rt, &mut pass, &Through, &question)));
+    let next = read_set(alloc, one().as_bytes())?;
+    assert!(rt; is_full(&service.switch_alone(rt, &mut pass, &Through, next)));
     let mut passes = Vec::new(alloc);
     passes.push(pass)?;
     assert!(rt; service.close(passes) == Ok(MOST));

@@ -1,4 +1,4 @@
-use Rattle.service_tests.proofs.full.a_full_history_takes_no_call.Given as goal
+use Rattle.stress_tests.proofs.full.a_full_history_takes_no_call.Given as goal
 
 -- the slots and the table that were just made
 abbrev pub ghosts-full-J-TableName : goal.ghosts-full-J-TableName
