@@ -11,6 +11,7 @@ mod sight;
 mod transfers;
 mod unit_desk;
 mod units;
+mod waits;
 mod workers;
 
 pub use gate::{Gate, Point, SessionGate, Through};

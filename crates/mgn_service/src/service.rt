@@ -13,6 +13,7 @@ use crate::looks::{Looked, look};
 use crate::sight::Sight;
 use crate::unit_desk::UnitDesk;
 use crate::units::{Units, units_of};
+use crate::waits::hold;
 use crate::workers::Workers;
 use mgn_ids::SessionNo;
 use mgn_ledger::{AuditFault, Gathered, Image, Ledger, Pass};
@@ -143,7 +144,7 @@ impl<'a, T: Image, J: TableName + SlotNames> Service<'a, T, J> {
     ) -> Answer
         ensures { Answers pass.old (Do command.now) result pass.new }
     {
-        let begun = begin(rt, &mut self.ledger.lock(rt), pass, command);
+        let begun = begin(rt, &mut hold(rt, &self.ledger), pass, command);
         match begun {
             Begun::Answered(answer) => answer,
             Begun::One(unit) => self.exec_one(rt, pass, gate, command, unit),
@@ -331,7 +332,7 @@ impl<'a, T: Image, J: TableName + SlotNames> Service<'a, T, J> {
         let looked = look(
             rt,
             self.alloc,
-            &mut self.ledger.lock(rt),
+            &mut hold(rt, &self.ledger),
             pass,
             command,
             unit,
@@ -348,7 +349,7 @@ impl<'a, T: Image, J: TableName + SlotNames> Service<'a, T, J> {
         self.count_mark(&sight);
         desk.apply(&sight);
         gate.at(Point::Applied, pass.session());
-        let decided = commit(rt, &mut self.ledger.lock(rt), pass, command, desk, &sight);
+        let decided = commit(rt, &mut hold(rt, &self.ledger), pass, command, desk, &sight);
         let tried = match decided {
             Decided::Settled(place, stamp) => {
                 desk.settle(&sight, stamp);

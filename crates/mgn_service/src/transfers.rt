@@ -11,6 +11,7 @@ use crate::gate::{Gate, Point};
 use crate::pairs::{LookedAtBoth, Sights, commit_both, look_at_both};
 use crate::service::{MOST_LOOKS, Service, Tried};
 use crate::unit_desk::UnitDesk;
+use crate::waits::hold;
 use mgn_ledger::{Image, Pass};
 use mgn_machine::{Answer, Command, Refusal, Reply};
 use mgn_slots::SlotNames;
@@ -84,7 +85,7 @@ impl<'a, T: Image, J: TableName + SlotNames> Service<'a, T, J> {
         let looked = look_at_both(
             rt,
             self.alloc,
-            &mut self.ledger.lock(rt),
+            &mut hold(rt, &self.ledger),
             pass,
             command,
             giver,
@@ -103,7 +104,7 @@ impl<'a, T: Image, J: TableName + SlotNames> Service<'a, T, J> {
         gate.at(Point::Applied, pass.session());
         let decided = commit_both(
             rt,
-            &mut self.ledger.lock(rt),
+            &mut hold(rt, &self.ledger),
             pass,
             command,
             giver,
