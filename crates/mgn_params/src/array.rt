@@ -8,7 +8,7 @@ use std::marker::Model;
 /// one for a test, is not counted.
 #[derive(Clone, Copy, PartialEq, Eq, Debug)]
 pub struct RiskArray {
-    losses: [i64; 16],
+    losses: [i32; 16],
 }
 
 impl Model for RiskArray {
@@ -23,14 +23,14 @@ impl Model for RiskArray {
 
 impl RiskArray {
     /// The array of these losses.
-    pub fn new(losses: [i64; 16]) -> RiskArray
+    pub fn new(losses: [i32; 16]) -> RiskArray
         ensures { result ≡ losses }
     {
         RiskArray { losses }
     }
 
     /// The losses, for the one reader that counts.
-    pub(crate) fn losses(&self) -> &[i64; 16]
+    pub(crate) fn losses(&self) -> &[i32; 16]
         ensures { result.now ≡ self.now }
     {
         &self.losses

@@ -277,7 +277,7 @@ impl ParamSet {
     }
 
     /// The risk array of the contract at a place, which no other call hands out. Each read is counted.
-    pub fn array(&self, i: usize, work: &mut Work) -> &[i64; 16]
+    pub fn array(&self, i: usize, work: &mut Work) -> &[i32; 16]
         requires { i < length self.now.contracts }
         ensures array { result.now ≡ (contract_at self.now.contracts i).array }
         ensures counted { work.new ≡ min (work.old + 1) (2 ^ 64 - 1) }

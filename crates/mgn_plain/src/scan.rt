@@ -21,7 +21,7 @@ fn total_at(totals: &[Total; 16], scenario: usize) -> Total
 }
 
 // Adds a net of a contract to the totals of the 16 scenarios.
-fn add_scaled(totals: &mut [Total; 16], array: &[i64; 16], net: Quantity)
+fn add_scaled(totals: &mut [Total; 16], array: &[i32; 16], net: Quantity)
     requires room { (s : ℕ) → s < 16 → unsigned_abs (value_at totals.old s) ≤ 7 * 10 ^ 18 }
     requires array { (s : ℕ) → s < 16 → unsigned_abs (value_at array.now s) ≤ 10 ^ 8 }
     requires net { IsNet net }

@@ -26,13 +26,13 @@ impl Model for Total {
 
 // A net at an array's value.
 #[tactic(auto, using(crate::proofs::ProductLemmas::product_small))]
-fn product(net: Quantity, value: &i64) -> i64
+fn product(net: Quantity, value: &i32) -> i64
     requires net { IsNet net }
     requires value { unsigned_abs value.now ≤ 10 ^ 8 }
     ensures product { result ≡ net *ℤ value.now }
     ensures small { unsigned_abs result ≤ 10 ^ 15 }
 {
-    net.contracts() * *value
+    net.contracts() * i64::from(*value)
 }
 
 impl Total {
@@ -41,7 +41,7 @@ impl Total {
     pub const ZERO: Total = Total { cents: 0 };
 
     // The total with a net at an array's value more.
-    pub fn plus_scaled(self, net: Quantity, value: &i64) -> Total
+    pub fn plus_scaled(self, net: Quantity, value: &i32) -> Total
         requires total { unsigned_abs self ≤ 7 * 10 ^ 18 }
         requires net { IsNet net }
         requires value { unsigned_abs value.now ≤ 10 ^ 8 }

@@ -15,7 +15,7 @@ fn total_at(totals: &[Total; 16], scenario: usize) -> Total
 }
 
 // Adds a quantity of a contract, by its array, to the totals of the 16 scenarios.
-pub(crate) fn add_scaled(totals: &mut [Total; 16], array: &[i64; 16], quantity: Quantity)
+pub(crate) fn add_scaled(totals: &mut [Total; 16], array: &[i32; 16], quantity: Quantity)
     requires quantity { unsigned_abs quantity ≤ 2 * 10 ^ 7 }
     requires array { (s : ℕ) → s < 16 → unsigned_abs (value_at array.now s) ≤ 10 ^ 8 }
     requires room { (s : ℕ) → s < 16 → IsTotal (value_at totals.old s +ℤ quantity *ℤ value_at array.now s) }

@@ -25,13 +25,13 @@ impl Model for Total {
 
 // A quantity of a contract at an array's value.
 #[tactic(auto, using(crate::proofs::ProductLemmas::product_small))]
-fn product(quantity: Quantity, value: &i64) -> i64
+fn product(quantity: Quantity, value: &i32) -> i64
     requires quantity { unsigned_abs quantity ≤ 2 * 10 ^ 7 }
     requires value { unsigned_abs value.now ≤ 10 ^ 8 }
     ensures product { result ≡ quantity *ℤ value.now }
     ensures small { unsigned_abs result ≤ 2 * 10 ^ 15 }
 {
-    quantity.contracts() * *value
+    quantity.contracts() * i64::from(*value)
 }
 
 impl Total {
@@ -40,7 +40,7 @@ impl Total {
     pub const ZERO: Total = Total { cents: 0 };
 
     // The total with a quantity of a contract at an array's value more.
-    pub fn plus_scaled(self, quantity: Quantity, value: &i64) -> Total
+    pub fn plus_scaled(self, quantity: Quantity, value: &i32) -> Total
         requires quantity { unsigned_abs quantity ≤ 2 * 10 ^ 7 }
         requires value { unsigned_abs value.now ≤ 10 ^ 8 }
         requires total { IsTotal (self +ℤ quantity *ℤ value.now) }

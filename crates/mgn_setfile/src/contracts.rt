@@ -1,7 +1,7 @@
 //! The record of a contract against the tables so far.
 
 ghost use Rattle.std.specs.Prelude.{◌≡◌, ◌≤◌, ◌^◌, map, IfOk, length, All, unsigned_abs};
-ghost use Rattle.mgn_setfile.specs.Fields.{in_field, value_of_style};
+ghost use Rattle.mgn_setfile.specs.Fields.{field_signed, in_field, value_of_style};
 ghost use Rattle.mgn_params.specs.Limits.{IsContract, IsNextContract};
 ghost use Rattle.mgn_setfile.specs.Records.{contract_after_names, contract_at_month, contract_names_from, contract_of, contract_row, contract_terms_from, contract_with_values, values_from};
 
@@ -67,14 +67,23 @@ fn read_terms(
     Ok((kind, style, delta, value))
 }
 
-fn read_values(words: &[&[u8]]) -> Result<[i64; 16], RecordFault>
+// A value of a risk array, at most 100,000,000 in size.
+fn read_value(field: Field, word: &[u8]) -> Result<i32, RecordFault>
+    ensures value { result ≡ in_field field (field_signed (10 ^ 8) word.now) }
+    ensures bound { IfOk result (λ v. unsigned_abs v ≤ 10 ^ 8) }
+{
+    let value = read_number_of_size(field, word, 100_000_000)?;
+    Ok(value as i32)
+}
+
+fn read_values(words: &[&[u8]]) -> Result<[i32; 16], RecordFault>
     requires { length words.now ≡ 16 }
     ensures value { result ≡ values_from 9 (map (λ s. s.now) words.now) }
     ensures bound { IfOk result (λ array. All (λ v. unsigned_abs v ≤ 10 ^ 8) array) }
 {
-    let mut values = [0i64; 16];
+    let mut values = [0i32; 16];
     for i in 0..16 {
-        values[i] = read_number_of_size(Field::Contract(9 + i), words[i], 100_000_000)?;
+        values[i] = read_value(Field::Contract(9 + i), words[i])?;
     }
     Ok(values)
 }
@@ -98,7 +107,7 @@ fn contract_at_month(
     rows: &Rows,
     names: &(ContractName, CommodityName, u64),
     terms: &(Kind, Style, i64, u64),
-    array: &[i64; 16],
+    array: &[i32; 16],
 ) -> Result<Contract, RecordFault>
     requires terms { (unsigned_abs terms.now.2 ≤ 10 ^ 5) × (terms.now.3 ≤ 10 ^ 8) }
     requires array { All (λ v. unsigned_abs v ≤ 10 ^ 8) array.now }
