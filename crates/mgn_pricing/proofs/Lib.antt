@@ -1,5 +1,7 @@
 -- Desks that move with rows.
 pub mod Moved
+-- Desks by the numbers of their units.
+pub mod Numbered
 -- Desks that are given with a command.
 pub mod Fitting
 -- Desks that move as a plan says.

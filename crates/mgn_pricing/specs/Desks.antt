@@ -42,6 +42,14 @@ pub record CanGain (set : Tables) (nets : UnitNets) (change : Change) : Type 0 w
 abbrev pub marked_at : List DeskRows → ℕ → Option Marked
 marked_at desks u = (slice_index_or desks u record { unit = u; marked = None }).marked
 
+-- the number of the desk at a unit's place, which is the unit's own where there is no desk
+abbrev pub number_at : List DeskRows → ℕ → ℕ
+number_at desks u = (slice_index_or desks u record { unit = u; marked = None }).unit
+
+-- each desk has the number of its unit
+abbrev pub AreNumbered : List DeskRows → Type 0
+AreNumbered desks = (u : ℕ) → number_at desks u ≡ u
+
 abbrev pub is_of : ℕ → Option Marked → Bool
 is_of version None = false
 is_of version (Some m) = m.version == version

@@ -16,8 +16,8 @@ use std::alloc::{AllocError, Global};
 use std::marker::Model;
 use std::mem;
 
-/// The desks of the margin units of a book, by the units' numbers. A unit whose desk is not there, or is empty, or of an
-/// older version, is marked when it is next asked for.
+/// The desks of the margin units of a book, by the units' numbers, which they have. A unit whose desk is not there, or is
+/// empty, or of an older version, is marked when it is next asked for.
 #[derive(Drop)]
 pub struct Desks {
     desks: Vec<Desk>,
@@ -26,10 +26,13 @@ pub struct Desks {
 impl Model for Desks {
     ghost use Rattle.std.specs.Prelude.{List};
     ghost use Rattle.mgn_desk.specs.Desks.{DeskRows};
+    ghost use Rattle.mgn_pricing.specs.Desks.{AreNumbered};
 
     ghost Value = { List DeskRows };
 
     ghost view = { λ d. d.desks.items };
+
+    ghost invariant = { λ d. AreNumbered d.desks.items };
 }
 
 /// What a change of a unit's row moves in the nets of its desk.
@@ -69,6 +72,7 @@ fn ready(
     ensures ready { OnOk result (IsReady set.now version (nets_in row.now) desk.new.marked) }
     ensures refused { OnErr result (desk.new ≡ desk.old) }
     ensures of_version { is_of version desk.old.marked ≡ true → (desk.new ≡ desk.old) × IsOk result }
+    ensures number { desk.new.unit ≡ desk.old.unit }
 {
     if is_of(desk, version) {
         return Ok(());
@@ -106,6 +110,7 @@ fn foresee(desk: &mut Desk, version: Version, set: &ParamSet, row: &Row, change:
     requires ready { IsReady set.now version (nets_in row.now) desk.old.marked }
     ensures priced { Prices set.now change.now row.now result }
     ensures ready { IsReady set.now version (moved_nets change.now (nets_in row.now)) desk.new.marked }
+    ensures number { desk.new.unit ≡ desk.old.unit }
 {
     desk.apply(set, &moves_of(change), &mut Work::new());
     priced(desk)
@@ -118,6 +123,7 @@ fn take_back(desk: &mut Desk, version: Version, set: &ParamSet, row: &Row, chang
     requires ready { IsReady set.now version (moved_nets change.now (nets_in row.now)) desk.old.marked }
     ensures ready { IsReady set.now version (nets_in row.now) desk.new.marked }
     ensures of_version { is_of version desk.new.marked ≡ true }
+    ensures number { desk.new.unit ≡ desk.old.unit }
 {
     desk.take_back(set, &moves_of(change), &mut Work::new());
 }
@@ -130,6 +136,7 @@ fn back(desk: &mut Desk, version: Version, set: &ParamSet, row: &Row, change: &C
     ensures rests { Rests set.now version (nets_in row.now) desk.new.marked }
     ensures of_version { is_of version desk.old.marked ≡ true → is_of version desk.new.marked ≡ true }
     ensures others { is_of version desk.old.marked ≡ false → desk.new ≡ desk.old }
+    ensures number { desk.new.unit ≡ desk.old.unit }
 {
     if is_of(desk, version) {
         take_back(desk, version, set, row, change);

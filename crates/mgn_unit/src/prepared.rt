@@ -57,6 +57,32 @@ fn prepare(
     })
 }
 
+// The same beside a portfolio for which it was worked out already: equal nets require as much.
+fn prepare_beside(
+    alloc: Global,
+    switch: &Switch,
+    nets: &Nets,
+    other: &PreparedPortfolio,
+    work: &mut Work,
+) -> Result<PreparedPortfolio, AllocError>
+    requires nets { IsCopied switch.now.old nets.now }
+    requires other { IsPreparedPortfolio switch.now.new other.now }
+    ensures prepared { IfOk result (IsPreparedPortfolio switch.now.new) }
+    ensures nets { IfOk result (λ side. side.nets ≡ carried switch.now.old switch.now.new nets.now) }
+    ensures alike { other.now.nets ≡ carried switch.now.old switch.now.new nets.now → work.new ≡ work.old }
+{
+    let carried = switch.carry(alloc, nets)?;
+    let required = if carried.is_same(&other.nets) {
+        other.requirement
+    } else {
+        requirement(alloc, switch.new_set(), carried.as_slice(), work)?
+    };
+    Ok(PreparedPortfolio {
+        nets: carried,
+        requirement: required,
+    })
+}
+
 impl CopiedNets {
     /// Whether the new set has each contract of the old one in which a net is not 0.
     pub fn are_covered_by(&self, old: &ParamSet, new: &ParamSet) -> bool
@@ -82,11 +108,12 @@ impl CopiedNets {
         ensures prepared { IfOk result (IsPrepared switch.now.new) }
         ensures nets { IfOk result (AreCarried switch.now.old switch.now.new self.now) }
     {
+        let lots = prepare(alloc, switch, &self.lots, work)?;
         Ok(PreparedUnit {
-            lots: prepare(alloc, switch, &self.lots, work)?,
-            buys: prepare(alloc, switch, &self.buys, work)?,
-            sales: prepare(alloc, switch, &self.sales, work)?,
-            all: prepare(alloc, switch, &self.all, work)?,
+            buys: prepare_beside(alloc, switch, &self.buys, &lots, work)?,
+            sales: prepare_beside(alloc, switch, &self.sales, &lots, work)?,
+            all: prepare_beside(alloc, switch, &self.all, &lots, work)?,
+            lots,
         })
     }
 }
