@@ -239,10 +239,10 @@ fn required_after(
     alloc: Global,
     set: &ParamSet,
     row: &Row,
-    prepared: Option<&PreparedUnit>,
+    prepared: Option<PreparedUnit>,
 ) -> Result<[i128; 4], AllocError>
     requires row { IsRow set.now row.now }
-    requires prepared { IfSome prepared (λ prepared. IsPrepared set.now prepared.now) }
+    requires prepared { IfSome prepared (IsPrepared set.now) }
 {
     let switch = Switch::new(alloc, set, set)?;
     let switched = row.under(alloc, &switch, Cents::ZERO, prepared, &mut Work::new())?;
@@ -253,10 +253,10 @@ fn required_after(
 fn switched(
     alloc: Global,
     set: &ParamSet,
-    prepared: Option<&PreparedUnit>,
+    prepared: Option<PreparedUnit>,
 ) -> Result<[i128; 4], AllocError>
     requires contract { 0 < length set.now.contracts }
-    requires prepared { IfSome prepared (λ prepared. IsPrepared set.now prepared.now) }
+    requires prepared { IfSome prepared (IsPrepared set.now) }
 {
     let row = row_of_two(alloc, set)?;
     required_after(alloc, set, &row, prepared)
@@ -289,7 +289,7 @@ fn check_switches(rt: &impl Abort, alloc: Global, set: &ParamSet) -> Result<(), 
     assert_eq!(rt; switched(alloc, set, None)?, [600; 4]);
     for quantities in [[2, 2, 2, 2], [1, 2, -3, 0], [3, 3, 3, 3]] {
         let prepared = prepared_unit(alloc, set, quantities)?;
-        assert_eq!(rt; switched(alloc, set, Some(&prepared))?, [600; 4]);
+        assert_eq!(rt; switched(alloc, set, Some(prepared))?, [600; 4]);
     }
     Ok(())
 }

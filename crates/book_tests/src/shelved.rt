@@ -55,7 +55,7 @@ impl Shelved {
                     number,
                     set,
                     &mut self.shelf,
-                    &[],
+                    &mut [],
                     &mut Work::new(),
                 )
             }

@@ -271,7 +271,7 @@ impl Book {
     /// the history has 1,000,000 entries, `Memory` where memory is refused; then nothing has changed, in the book and
     /// on the shelf.
     ///
-    /// What units require under the set may have been prepared, by their numbers. It is used where a unit's nets are
+    /// What units require under the set may have been prepared, by their numbers. It is taken where a unit's nets are
     /// still the same; any other unit is worked out here. Where it is so of all units, no risk array is read.
     pub fn commit_switch<S: Shelf>(
         &mut self,
@@ -280,19 +280,19 @@ impl Book {
         number: u64,
         set: ParamSet,
         shelf: &mut S,
-        prepared: &[Option<PreparedUnit>],
+        prepared: &mut [Option<PreparedUnit>],
         work: &mut Work,
     ) -> Outcome
         requires stands { Stands (S.sets shelf.old) self.old }
         requires number { number ≡ calls session self.old.history + 1 }
-        requires prepared { ArePrepared set prepared.now }
+        requires prepared { ArePrepared set prepared.old }
         ensures place { S.place shelf.new ≡ S.place shelf.old }
         ensures stands { Stands (S.sets shelf.new) self.new }
         ensures committed { Committed (S.sets shelf.new) self.old session number (Switch set) result self.new }
         ensures sets { Shelves (S.sets shelf.old) (Switch set) result (S.sets shelf.new) }
         ensures rows { LeavesRows self.old.book.rows result self.new.book.rows }
         ensures idle { let old = set_at (S.sets shelf.old) self.old.book.state.version in
-            ArePreparedFor old set self.old.book.rows prepared.now → work.new ≡ work.old }
+            ArePreparedFor old set self.old.book.rows prepared.old → work.new ≡ work.old }
     {
         if MOST_ENTRIES <= self.history.len() {
             return Outcome::Full;

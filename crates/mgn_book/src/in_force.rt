@@ -93,14 +93,14 @@ pub(crate) fn switch_set<S: Shelf>(
     number: u64,
     set: ParamSet,
     shelf: &mut S,
-    prepared: &[Option<PreparedUnit>],
+    prepared: &mut [Option<PreparedUnit>],
     work: &mut Work,
 ) -> Result<Reply, Fault>
     requires reserved { history.old.reserved ≡ true }
     requires few_entries { length history.old.entries < 1000000 }
     requires number { number ≤ 1000000 }
     requires shown { length (S.sets shelf.old) ≡ register.old.state.version + 1 }
-    requires prepared { ArePrepared set prepared.now }
+    requires prepared { ArePrepared set prepared.old }
     requires kept { IsKept (set_at (S.sets shelf.old) register.old.state.version) register.old }
     ensures place { S.place shelf.new ≡ S.place shelf.old }
     ensures switched { IfOk result (λ reply.
@@ -113,7 +113,7 @@ pub(crate) fn switch_set<S: Shelf>(
     ensures same_history { OnErr result (history.new.entries ≡ history.old.entries) }
     ensures same_sets { OnErr result (S.sets shelf.new ≡ S.sets shelf.old) }
     ensures idle { let old = set_at (S.sets shelf.old) register.old.state.version in
-        ArePreparedFor old set register.old.rows prepared.now → work.new ≡ work.old }
+        ArePreparedFor old set register.old.rows prepared.old → work.new ≡ work.old }
 {
     let Some(old) = shelf.get(register.version()) else {
         unreachable!();

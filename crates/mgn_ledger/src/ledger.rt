@@ -309,10 +309,10 @@ impl<'a, T: Image, J: TableName + SlotNames> Ledger<'a, T, J> {
         rt: &R,
         pass: &mut Pass<'a, T, J>,
         set: ParamSet,
-        prepared: &[Option<PreparedUnit>],
+        prepared: &mut [Option<PreparedUnit>],
         entries: usize,
     ) -> Answer
-        requires { ArePrepared set prepared.now }
+        requires { ArePrepared set prepared.old }
         ensures { Answers pass.old (Switch set) result pass.new }
     {
         if self.broken {

@@ -1,7 +1,6 @@
 -- Rows and refusals where another set comes into force.
-use Rattle.std.proofs.Common.{◌≡◌, ◌+◌, ◌-◌, ◌<◌, ◌≤◌, ◌∙◌, ℕ, Bool, Bor, List, [], ◌∷◌, ◌++◌, length, get_or, sym, ap, arith, subst, filter, ⊎_elim}
+use Rattle.std.proofs.Common.{IfSome, ◌≡◌, ◌+◌, ◌-◌, ◌<◌, ◌≤◌, ◌∙◌, ℕ, Bool, List, [], ◌∷◌, ◌++◌, length, get_or, sym, ap, arith, subst, filter, ⊎_elim}
 use Rattle.std.specs.Prelude.{◌&&◌, ℤ, IsSomeAnd, None, Option, Some}
-use Rattle.std.specs.Option.{option_copied}
 use Rattle.std.specs.List.{list_all}
 use Rattle.std.proofs.lemmas.List.Sums.{length-filter}
 use Rattle.std.proofs.lemmas.Bool.{cases_lt}
@@ -13,7 +12,7 @@ use Rattle.mgn_machine.specs.NewSet.{covers, on_call}
 use Rattle.mgn_machine.specs.State.{AccountState}
 use Rattle.mgn_unit.specs.declared.row.PreparedUnit.{PreparedUnit}
 use Rattle.mgn_unit.specs.declared.row.Row.{Row}
-use Rattle.mgn_unit.specs.NewSets.{AreWorths, is_covered, row_on_call, row_under, unit_gain}
+use Rattle.mgn_unit.specs.NewSets.{ArePrepared, AreWorths, IsPrepared, is_covered, row_on_call, row_under, unit_gain}
 use Rattle.mgn_unit.specs.Prepared.{AreCarried, ArePreparedFor, copied}
 use Rattle.mgn_unit.specs.Rows.{IsRow, row_with_worth}
 use Rattle.mgn_unit.proofs.Carried.{on_call-by_rows, row-under, worths-under}
@@ -67,16 +66,16 @@ rows-pushed set' accounts rows row n long so_far last u inside d = ⊎_elim befo
 pub on_call-counted : (set' : Tables) (accounts : List AccountState) (rows : List Row) → ((u : ℕ) (d : Row) → u < length rows → IsUnitRow set' accounts u (get_or rows u d)) → length (filter row_on_call rows) ≡ on_call set' accounts (length rows)
 on_call-counted set' accounts rows are = length-filter row_on_call rows ∙ sym (on_call-by_rows set' accounts rows (λ u d inside. (are u d inside).is))
 
--- what is found behind a reference
-found-behind : (r : Option (Bor PreparedUnit)) (o : Option PreparedUnit) (P : PreparedUnit → Type 0) → option_copied r ≡ o → IsSomeAnd o P → IsSomeAnd r (λ it. P it.now)
-found-behind None o P found holds = subst (λ (x : Option PreparedUnit). IsSomeAnd x P) (sym found) holds
-found-behind (Some it) o P found holds = subst (λ (x : Option PreparedUnit). IsSomeAnd x P) (sym found) holds
+-- what was prepared of a unit, as it is found, is worked out under the set
+pub found-prepared : (t : Tables) (units : List (Option PreparedUnit)) (u : ℕ) (r : Option PreparedUnit) → r ≡ get_or units u None → ArePrepared t units → IfSome r (IsPrepared t)
+found-prepared t units u None found are = tt
+found-prepared t units u (Some one) found are = are u one (sym found)
 
 -- what was prepared of a unit, as it is found for its row under a switch, is for the nets that the row carries over
-pub found-carried : (old new s t : Tables) (rows : List Row) (units : List (Option PreparedUnit)) (u : ℕ) (row : Row) (r : Option (Bor PreparedUnit)) → s ≡ old → t ≡ new → u < length rows → row ≡ get_or rows u row
-    → option_copied r ≡ get_or units u None → ArePreparedFor old new rows units → IsSomeAnd r (λ it. AreCarried s t (copied row) it.now)
+pub found-carried : (old new s t : Tables) (rows : List Row) (units : List (Option PreparedUnit)) (u : ℕ) (row : Row) (r : Option PreparedUnit) → s ≡ old → t ≡ new → u < length rows → row ≡ get_or rows u row → r ≡ get_or units u None
+    → ArePreparedFor old new rows units → IsSomeAnd r (AreCarried s t (copied row))
 found-carried old new s t rows units u row r s_is t_is inside is found ready =
-    found-behind r (get_or units u None) (AreCarried s t (copied row)) found
+    subst (λ (x : Option PreparedUnit). IsSomeAnd x (AreCarried s t (copied row))) (sym found)
     (subst (λ (x : Tables). IsSomeAnd (get_or units u None) (AreCarried x t (copied row))) (sym s_is)
     (subst (λ (x : Tables). IsSomeAnd (get_or units u None) (AreCarried old x (copied row))) (sym t_is)
     (subst (λ (x : Row). IsSomeAnd (get_or units u None) (AreCarried old new (copied x))) (sym is) (ready u row inside))))

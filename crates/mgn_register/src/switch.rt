@@ -1,6 +1,5 @@
-ghost use Rattle.std.specs.Prelude.{◌≡◌, ◌<◌, ◌≤◌, ℕ, length, filter, slice_index_or, IfOk, IfSome, None, OnOk, true};
+ghost use Rattle.std.specs.Prelude.{◌≡◌, ◌≢◌, ◌<◌, ◌≤◌, ℕ, length, filter, slice_index_or, IfOk, IfSome, None, OnOk, true};
 ghost use Rattle.std.specs.List.{list_all};
-ghost use Rattle.std.specs.Option.{option_copied};
 ghost use Rattle.mgn_coll.specs.Posted.{is_priced_by};
 ghost use Rattle.mgn_machine.specs.NewSet.{covers, set_fits};
 ghost use Rattle.mgn_machine.specs.State.{AccountState};
@@ -23,12 +22,16 @@ use std::alloc::{AllocError, Global};
 /// How many sets may come into force after the first.
 const MOST_SWITCHES: u8 = 64;
 
-// What was prepared of a unit, if anything was.
-fn prepared_of(prepared: &[Option<PreparedUnit>], unit: usize) -> Option<&PreparedUnit>
-    ensures prepared { (set : Tables) → ArePrepared set prepared.now → IfSome result (λ one. IsPrepared set one.now) }
-    ensures found { option_copied result ≡ slice_index_or prepared.now unit None }
+// Takes what was prepared of a unit, if anything was.
+fn take_prepared(prepared: &mut [Option<PreparedUnit>], unit: usize) -> Option<PreparedUnit>
+    ensures taken { result ≡ slice_index_or prepared.old unit None }
+    ensures others { (k : ℕ) → k ≢ unit → slice_index_or prepared.new k None ≡ slice_index_or prepared.old k None }
 {
-    prepared.get(unit)?.as_ref()
+    if unit < prepared.len() {
+        prepared[unit].take()
+    } else {
+        None
+    }
 }
 
 // What the accounts of a unit gain.
@@ -90,16 +93,16 @@ impl Register {
         alloc: Global,
         old: &ParamSet,
         new: &ParamSet,
-        prepared: &[Option<PreparedUnit>],
+        prepared: &mut [Option<PreparedUnit>],
         work: &mut Work,
     ) -> Result<Vec<Row>, AllocError>
         requires kept { IsKept old.now self.now }
         requires covers { covers new.now self.now.state.accounts ≡ true }
-        requires prepared { ArePrepared new.now prepared.now }
+        requires prepared { ArePrepared new.now prepared.old }
         ensures long { IfOk result (λ rows. length rows.items ≡ length self.now.rows) }
         ensures rows { IfOk result (λ rows. (u : ℕ) (d : UnitRow) → u < length rows.items →
             IsUnitRow new.now self.now.state.accounts u (slice_index_or rows.items u d)) }
-        ensures idle { ArePreparedFor old.now new.now self.now.rows prepared.now → work.new ≡ work.old }
+        ensures idle { ArePreparedFor old.now new.now self.now.rows prepared.old → work.new ≡ work.old }
     {
         new.limits();
         let switch = Switch::new(alloc, old, new)?;
@@ -107,7 +110,7 @@ impl Register {
         let mut rows = Vec::with_capacity(alloc, self.rows.len())?;
         for unit in 0..self.rows.len() {
             let gain = gain_of(&gains, unit);
-            let ready = prepared_of(prepared, unit);
+            let ready = take_prepared(prepared, unit);
             let row = self.rows[unit].under(alloc, &switch, gain, ready, work)?;
             rows.push_reserved(row);
         }
@@ -115,25 +118,25 @@ impl Register {
     }
 
     /// The rows of all units under another set, or why it may not come into force. Nothing changes. Memory is asked for
-    /// only where it may. What was prepared of units under that set, by their numbers, is used where a
+    /// only where it may. What was prepared of units under that set, by their numbers, is taken where a
     /// unit's nets are still the same; any other unit is worked out anew. Where it is so of all units no risk array is read.
     pub fn rows_under(
         &self,
         alloc: Global,
         old: &ParamSet,
         new: &ParamSet,
-        prepared: &[Option<PreparedUnit>],
+        prepared: &mut [Option<PreparedUnit>],
         work: &mut Work,
     ) -> Result<Vec<Row>, Fault>
         requires kept { IsKept old.now self.now }
-        requires prepared { ArePrepared new.now prepared.now }
+        requires prepared { ArePrepared new.now prepared.old }
         ensures fits { Fits (set_fits new.now self.now.state) result }
         ensures covers { OnOk result (covers new.now self.now.state.accounts ≡ true) }
         ensures few { OnOk result (self.now.state.version < 64) }
         ensures long { IfOk result (λ rows. length rows.items ≡ length self.now.rows) }
         ensures rows { IfOk result (λ rows. (u : ℕ) (d : UnitRow) → u < length rows.items →
             IsUnitRow new.now self.now.state.accounts u (slice_index_or rows.items u d)) }
-        ensures idle { ArePreparedFor old.now new.now self.now.rows prepared.now → work.new ≡ work.old }
+        ensures idle { ArePreparedFor old.now new.now self.now.rows prepared.old → work.new ≡ work.old }
     {
         self.set_fits(old, new)?;
         Ok(self.rows_of(alloc, old, new, prepared, work)?)

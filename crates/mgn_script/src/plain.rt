@@ -114,7 +114,7 @@ impl Plain {
             number,
             set,
             &mut self.shelf,
-            &[],
+            &mut [],
             &mut Work::new(),
         )
     }

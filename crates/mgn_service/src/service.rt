@@ -165,10 +165,10 @@ impl<'a, T: Image, J: TableName + SlotNames> Service<'a, T, J> {
     ) -> Answer
         ensures { Answers pass.old (Switch set) result pass.new }
     {
-        let Ok(prepared) = self.prepare(rt, pass.session(), gate, &set) else {
+        let Ok(mut prepared) = self.prepare(rt, pass.session(), gate, &set) else {
             return Answer::refused(Refusal::Memory);
         };
-        self.enter_switch(rt, pass, gate, set, &prepared)
+        self.enter_switch(rt, pass, gate, set, &mut prepared)
     }
 
     /// The same, by workers that are lent.
@@ -183,10 +183,10 @@ impl<'a, T: Image, J: TableName + SlotNames> Service<'a, T, J> {
     ) -> Answer
         ensures { Answers pass.old (Switch set) result pass.new }
     {
-        let Ok(prepared) = self.prepare_by(rt, pass.session(), workers, &set) else {
+        let Ok(mut prepared) = self.prepare_by(rt, pass.session(), workers, &set) else {
             return Answer::refused(Refusal::Memory);
         };
-        self.enter_switch(rt, pass, gate, set, &prepared)
+        self.enter_switch(rt, pass, gate, set, &mut prepared)
     }
 
     /// The same, where the caller works out alone what units require, with no thread started.
@@ -200,10 +200,10 @@ impl<'a, T: Image, J: TableName + SlotNames> Service<'a, T, J> {
     ) -> Answer
         ensures { Answers pass.old (Switch set) result pass.new }
     {
-        let Ok(prepared) = self.prepare_alone(rt, pass.session(), gate, &set) else {
+        let Ok(mut prepared) = self.prepare_alone(rt, pass.session(), gate, &set) else {
             return Answer::refused(Refusal::Memory);
         };
-        self.enter_switch(rt, pass, gate, set, &prepared)
+        self.enter_switch(rt, pass, gate, set, &mut prepared)
     }
 
     // The commit of a switch.
@@ -213,13 +213,13 @@ impl<'a, T: Image, J: TableName + SlotNames> Service<'a, T, J> {
         pass: &mut Pass<'a, T, J>,
         gate: &G,
         set: ParamSet,
-        prepared: &Prepared,
+        prepared: &mut Prepared,
     ) -> Answer
-        requires { ArePrepared set prepared.now.units.items }
+        requires { ArePrepared set prepared.old.units.items }
         ensures { Answers pass.old (Switch set) result pass.new }
     {
         gate.at(Point::Prepared, pass.session());
-        let units = prepared.units.as_slice();
+        let units = prepared.units.as_mut_slice();
         self.ledger
             .lock(rt)
             .enter_switch(rt, pass, set, units, prepared.entries)

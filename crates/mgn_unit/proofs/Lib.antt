@@ -14,3 +14,5 @@ pub mod Carried
 pub mod Covered
 pub mod Gains
 pub mod InPlace
+pub mod Places
+pub mod Parts

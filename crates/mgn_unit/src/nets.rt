@@ -64,6 +64,21 @@ impl Nets {
         Ok(Nets { cells })
     }
 
+    /// Whether these are the quantities of another list at these places, in their order, and 0 where there is no place.
+    pub(crate) fn are_at_places(&self, other: &Nets, places: &[Option<usize>]) -> bool
+        ensures { IsTrue result ↔ (self.now ≡ map (number_at other.now) places.now) }
+    {
+        if self.cells.len() != places.len() {
+            return false;
+        }
+        for i in 0..places.len() {
+            if self.at(i) != other.at_place(places[i]) {
+                return false;
+            }
+        }
+        true
+    }
+
     fn at_place(&self, place: Option<usize>) -> Quantity
         ensures { result ≡ number_at self.now place }
     {

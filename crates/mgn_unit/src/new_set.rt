@@ -1,19 +1,20 @@
 ghost use Rattle.std.specs.Prelude.{◌≡◌, ◌<◌, ◌≤◌, ◌*◌, ◌^◌, ◌+ℤ◌, ◌↔◌, ℕ, All, IfOk, IfSome, IsSome, IsSomeAnd, IsTrue, Ok, Some, length, pos, replicate, slice_set, unsigned_abs};
+ghost use Rattle.std.specs.Option.{option_map};
 ghost use Rattle.mgn_params.specs.Tables.{Tables};
 ghost use Rattle.mgn_span.specs.Positions.{IsNet};
 ghost use Rattle.mgn_span.specs.Requirement.{requirement};
 ghost use Rattle.mgn_span.specs.Scan.{value_at};
 ghost use Rattle.mgn_machine.specs.State.{AccountState};
 ghost use Rattle.mgn_unit.specs.Rows.{IsRow, IsPortfolioRow, row_with_worth};
-ghost use Rattle.mgn_unit.specs.Prepared.{AreCarried, copied};
-ghost use Rattle.mgn_unit.specs.NewSets.{AreWorths, IsPrepared, IsPreparedPortfolio, IsRequired, SetPair, carried, is_covered, is_covered_at, own_places, portfolio_under, row_on_call, row_under, unit_gain, value_gain};
+ghost use Rattle.mgn_unit.specs.Prepared.{AreCarried, IsCopied, copied};
+ghost use Rattle.mgn_unit.specs.NewSets.{AreWorths, IsPrepared, IsPreparedPortfolio, SetPair, carried, is_covered, is_covered_at, own_places, portfolio_under, row_on_call, row_under, unit_gain, value_gain};
 
 use crate::account::Account;
 use crate::nets::Nets;
+use crate::prepared::{prepare, prepare_beside};
 use crate::row::{PortfolioRow, PreparedPortfolio, PreparedUnit, Row};
 use mgn_num::{Cents, Quantity};
 use mgn_params::{ParamSet, Work};
-use mgn_plain::requirement;
 use std::alloc::{AllocError, Global};
 use std::marker::Model;
 
@@ -141,6 +142,17 @@ impl<'a> Switch<'a> {
         gains[unit] = gain_at(gains, unit).plus(account.value_gain(self.old, self.new));
     }
 
+    // Whether these are the numbers of a row, by the contracts' names, for the contracts of the new set.
+    fn carries(&self, row: &Nets, numbers: &Nets) -> bool
+        requires { length row.now ≡ length self.now.old.contracts }
+        ensures { IsTrue result ↔ (numbers.now ≡ carried self.now.old self.now.new row.now) }
+    {
+        if !self.keeps_places {
+            return numbers.are_at_places(row, self.places.as_slice());
+        }
+        numbers.is_same(row)
+    }
+
     // The numbers of a row, by the contracts' names, for the contracts of the new set.
     pub(crate) fn carry(&self, alloc: Global, row: &Nets) -> Result<Nets, AllocError>
         requires one_each { length row.now ≡ length self.now.old.contracts }
@@ -191,57 +203,67 @@ impl Nets {
     }
 }
 
-impl PreparedPortfolio {
-    // What nets require, where they are those that it was worked out for.
-    fn requirement_of(&self, nets: &Nets) -> Option<Cents>
-        ensures required { (set : Tables) → IsPreparedPortfolio set self.now → IfSome result (IsRequired set nets.now) }
-        ensures used { self.now.nets ≡ nets.now → result ≡ Some self.now.requirement }
-    {
-        if self.nets.is_same(nets) {
-            Some(self.requirement)
-        } else {
-            None
-        }
-    }
-}
-
-// What nets require, where it was worked out before.
-fn prepared_requirement(prepared: Option<&PreparedPortfolio>, nets: &Nets) -> Option<Cents>
-    ensures required { (set : Tables) → IfSome prepared.entry (λ prepared. IsPreparedPortfolio set prepared.now)
-        → IfSome result (IsRequired set nets.now) }
-    ensures used { IsSomeAnd prepared.entry (λ it. it.now.nets ≡ nets.now) → IsSome result }
+// What was prepared of a portfolio, where that was for the nets that it carries over.
+fn still_prepared(
+    switch: &Switch,
+    nets: &Nets,
+    prepared: Option<PreparedPortfolio>,
+) -> Option<PreparedPortfolio>
+    requires nets { IsCopied switch.now.old nets.now }
+    requires prepared { IfSome prepared (IsPreparedPortfolio switch.now.new) }
+    ensures prepared { IfSome result (IsPreparedPortfolio switch.now.new) }
+    ensures limits { IfSome result (λ it. IsCopied switch.now.new it.nets) }
+    ensures nets { IfSome result (λ it. it.nets ≡ carried switch.now.old switch.now.new nets.now) }
+    ensures used { IsSomeAnd prepared (λ it. it.nets ≡ carried switch.now.old switch.now.new nets.now) → IsSome result }
 {
-    match prepared {
-        Some(prepared) => prepared.requirement_of(nets),
-        None => None,
+    let prepared = prepared?;
+    if switch.carries(nets, &prepared.nets) {
+        Some(prepared)
+    } else {
+        None
     }
 }
 
 impl PortfolioRow {
-    // The portfolio under the new set, with an amount more in worth.
+    // The portfolio with an amount more in worth, and with nets under the new set and what these require.
+    fn with(&self, gain: Cents, prepared: PreparedPortfolio) -> PortfolioRow
+        requires { unsigned_abs (self.now.worth +ℤ gain) ≤ 10 ^ 24 }
+        ensures side { result ≡ record {
+          nets = prepared.nets;
+          worth = self.now.worth +ℤ gain;
+          requirement = prepared.requirement;
+        } }
+        ensures limits { (set : Tables) → IsCopied set prepared.nets → IsPreparedPortfolio set prepared →
+            IsPortfolioRow set result }
+    {
+        PortfolioRow {
+            nets: prepared.nets,
+            worth: self.worth.plus(gain),
+            requirement: prepared.requirement,
+        }
+    }
+
+    // The portfolio under the new set, with an amount more in worth. What was prepared for its nets becomes its own.
     fn under(
         &self,
         alloc: Global,
         switch: &Switch,
         gain: Cents,
-        prepared: Option<&PreparedPortfolio>,
+        prepared: Option<PreparedPortfolio>,
         work: &mut Work,
     ) -> Result<PortfolioRow, AllocError>
         requires side { IsPortfolioRow switch.now.old self.now }
         requires worth { unsigned_abs (self.now.worth +ℤ gain) ≤ 10 ^ 24 }
-        requires prepared { IfSome prepared (λ prepared. IsPreparedPortfolio switch.now.new prepared.now) }
+        requires prepared { IfSome prepared (IsPreparedPortfolio switch.now.new) }
         ensures side { IfOk result (λ side. side ≡ portfolio_under switch.now.old switch.now.new gain self.now) }
         ensures limits { IfOk result (λ side. IsPortfolioRow switch.now.new side) }
-        ensures idle { IsSomeAnd prepared.entry (λ it. it.now.nets ≡ carried switch.now.old switch.now.new self.now.nets)
+        ensures idle { IsSomeAnd prepared (λ it. it.nets ≡ carried switch.now.old switch.now.new self.now.nets)
             → work.new ≡ work.old }
     {
-        let nets = switch.carry(alloc, &self.nets)?;
-        let required = own_requirement(alloc, switch.new, &nets, prepared, work)?;
-        Ok(PortfolioRow {
-            nets,
-            worth: self.worth.plus(gain),
-            requirement: required,
-        })
+        match still_prepared(switch, &self.nets, prepared) {
+            Some(prepared) => Ok(self.with(gain, prepared)),
+            None => Ok(self.with(gain, prepare(alloc, switch, &self.nets, work)?)),
+        }
     }
 
     // The same beside another portfolio under the new set.
@@ -250,123 +272,103 @@ impl PortfolioRow {
         alloc: Global,
         switch: &Switch,
         gain: Cents,
-        prepared: Option<&PreparedPortfolio>,
+        prepared: Option<PreparedPortfolio>,
         other: &PortfolioRow,
         work: &mut Work,
     ) -> Result<PortfolioRow, AllocError>
         requires side { IsPortfolioRow switch.now.old self.now }
         requires worth { unsigned_abs (self.now.worth +ℤ gain) ≤ 10 ^ 24 }
-        requires prepared { IfSome prepared (λ prepared. IsPreparedPortfolio switch.now.new prepared.now) }
+        requires prepared { IfSome prepared (IsPreparedPortfolio switch.now.new) }
         requires other { IsPortfolioRow switch.now.new other.now }
         requires priced { other.now.requirement ≡ requirement switch.now.new other.now.nets }
         ensures side { IfOk result (λ side. side ≡ portfolio_under switch.now.old switch.now.new gain self.now) }
         ensures limits { IfOk result (λ side. IsPortfolioRow switch.now.new side) }
-        ensures idle { IsSomeAnd prepared.entry (λ it. it.now.nets ≡ carried switch.now.old switch.now.new self.now.nets)
+        ensures idle { IsSomeAnd prepared (λ it. it.nets ≡ carried switch.now.old switch.now.new self.now.nets)
             → work.new ≡ work.old }
+        ensures alike { other.now.nets ≡ carried switch.now.old switch.now.new self.now.nets → work.new ≡ work.old }
     {
-        let nets = switch.carry(alloc, &self.nets)?;
-        let required = requirement_beside(alloc, switch.new, &nets, prepared, other, work)?;
-        Ok(PortfolioRow {
-            nets,
-            worth: self.worth.plus(gain),
-            requirement: required,
-        })
+        match still_prepared(switch, &self.nets, prepared) {
+            Some(prepared) => Ok(self.with(gain, prepared)),
+            None => Ok(self.with(
+                gain,
+                prepare_beside(
+                    alloc,
+                    switch,
+                    &self.nets,
+                    &other.nets,
+                    other.requirement,
+                    work,
+                )?,
+            )),
+        }
     }
 }
 
-// What nets require, as it was prepared where that was for the same nets.
-fn own_requirement(
-    alloc: Global,
-    set: &ParamSet,
-    nets: &Nets,
-    prepared: Option<&PreparedPortfolio>,
-    work: &mut Work,
-) -> Result<Cents, AllocError>
-    requires one_each { length nets.now ≡ length set.now.contracts }
-    requires nets { All IsNet nets.now }
-    requires prepared { IfSome prepared (λ prepared. IsPreparedPortfolio set.now prepared.now) }
-    ensures required { IfOk result (IsRequired set.now nets.now) }
-    ensures idle { IsSomeAnd prepared.entry (λ it. it.now.nets ≡ nets.now) → work.new ≡ work.old }
-{
-    match prepared_requirement(prepared, nets) {
-        Some(required) => Ok(required),
-        None => requirement(alloc, set, nets.as_slice(), work),
-    }
+// What was prepared of the portfolios of a unit, if anything was.
+#[derive(Drop)]
+struct Parts {
+    lots: Option<PreparedPortfolio>,
+    buys: Option<PreparedPortfolio>,
+    sales: Option<PreparedPortfolio>,
+    all: Option<PreparedPortfolio>,
 }
 
-// The same, taken over from another portfolio where that has these nets.
-fn requirement_beside(
-    alloc: Global,
-    set: &ParamSet,
-    nets: &Nets,
-    prepared: Option<&PreparedPortfolio>,
-    other: &PortfolioRow,
-    work: &mut Work,
-) -> Result<Cents, AllocError>
-    requires one_each { length nets.now ≡ length set.now.contracts }
-    requires nets { All IsNet nets.now }
-    requires prepared { IfSome prepared (λ prepared. IsPreparedPortfolio set.now prepared.now) }
-    requires other { IsPortfolioRow set.now other.now }
-    requires priced { other.now.requirement ≡ requirement set.now other.now.nets }
-    ensures required { IfOk result (IsRequired set.now nets.now) }
-    ensures taken { nets.now ≡ other.now.nets → result ≡ Ok other.now.requirement }
-    ensures alike { nets.now ≡ other.now.nets → work.new ≡ work.old }
-    ensures idle { IsSomeAnd prepared.entry (λ it. it.now.nets ≡ nets.now) → work.new ≡ work.old }
+fn parts_of(prepared: Option<PreparedUnit>) -> Parts
+    ensures { result ≡ record {
+      lots = option_map (λ (it : PreparedUnit). it.lots) prepared;
+      buys = option_map (λ (it : PreparedUnit). it.buys) prepared;
+      sales = option_map (λ (it : PreparedUnit). it.sales) prepared;
+      all = option_map (λ (it : PreparedUnit). it.all) prepared;
+    } }
 {
-    if nets.is_same(&other.nets) {
-        return Ok(other.requirement);
+    match prepared {
+        Some(it) => Parts {
+            lots: Some(it.lots),
+            buys: Some(it.buys),
+            sales: Some(it.sales),
+            all: Some(it.all),
+        },
+        None => Parts {
+            lots: None,
+            buys: None,
+            sales: None,
+            all: None,
+        },
     }
-    own_requirement(alloc, set, nets, prepared, work)
 }
 
 impl Row {
     /// The row under the new set of a switch, `gain` being how much more the unit's collateral is worth there: nets and
-    /// sizes by the contracts' names. A requirement that was prepared is used where the nets are still the same, any other
-    /// is worked out anew. An error says that memory was refused.
+    /// sizes by the contracts' names. Nets and requirement that were prepared become its own where its nets are still the
+    /// same, any other is worked out anew. An error says that memory was refused.
     pub fn under(
         &self,
         alloc: Global,
         switch: &Switch,
         gain: Cents,
-        prepared: Option<&PreparedUnit>,
+        prepared: Option<PreparedUnit>,
         work: &mut Work,
     ) -> Result<Row, AllocError>
         requires row { IsRow switch.now.old self.now }
-        requires prepared { IfSome prepared (λ prepared. IsPrepared switch.now.new prepared.now) }
+        requires prepared { IfSome prepared (IsPrepared switch.now.new) }
         requires worths { AreWorths (row_with_worth gain self.now) }
         ensures row { IfOk result (λ row. row ≡ row_under switch.now.old switch.now.new gain self.now) }
         ensures limits { IfOk result (λ row. IsRow switch.now.new row) }
-        ensures idle { IsSomeAnd prepared.entry (λ it. AreCarried switch.now.old switch.now.new (copied self.now) it.now)
+        ensures idle { IsSomeAnd prepared (AreCarried switch.now.old switch.now.new (copied self.now))
             → work.new ≡ work.old }
     {
         let sizes = switch.carry(alloc, &self.sizes)?;
-        let lots = self
-            .lots
-            .under(alloc, switch, gain, prepared.map(|it| &it.lots), work)?;
-        let buys = self.buys.under_beside(
-            alloc,
-            switch,
-            gain,
-            prepared.map(|it| &it.buys),
-            &lots,
-            work,
-        )?;
-        let sales = self.sales.under_beside(
-            alloc,
-            switch,
-            gain,
-            prepared.map(|it| &it.sales),
-            &lots,
-            work,
-        )?;
-        let all = self.all.under_beside(
-            alloc,
-            switch,
-            gain,
-            prepared.map(|it| &it.all),
-            &lots,
-            work,
-        )?;
+        let ready = parts_of(prepared);
+        let lots = self.lots.under(alloc, switch, gain, ready.lots, work)?;
+        let buys = self
+            .buys
+            .under_beside(alloc, switch, gain, ready.buys, &lots, work)?;
+        let sales = self
+            .sales
+            .under_beside(alloc, switch, gain, ready.sales, &lots, work)?;
+        let all = self
+            .all
+            .under_beside(alloc, switch, gain, ready.all, &lots, work)?;
         Ok(Row {
             sizes,
             lots,

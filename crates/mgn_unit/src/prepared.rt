@@ -1,12 +1,13 @@
 //! What units require under a set, worked out before that set comes into force.
 
 ghost use Rattle.std.specs.Prelude.{◌≡◌, ◌&&◌, IfOk};
-ghost use Rattle.mgn_unit.specs.NewSets.{IsPrepared, IsPreparedPortfolio, carried, is_covered};
+ghost use Rattle.mgn_unit.specs.NewSets.{IsPrepared, IsPreparedPortfolio, IsRequired, carried, is_covered};
 ghost use Rattle.mgn_unit.specs.Prepared.{AreCarried, AreCopied, IsCopied, copied};
 
 use crate::nets::Nets;
 use crate::new_set::Switch;
 use crate::row::{PreparedPortfolio, PreparedUnit, Row};
+use mgn_num::Cents;
 use mgn_params::{ParamSet, Work};
 use mgn_plain::requirement;
 use std::alloc::{AllocError, Global};
@@ -39,7 +40,7 @@ impl Row {
 }
 
 // What nets under the old set of a switch require under the new one. An error says that memory was refused.
-fn prepare(
+pub(crate) fn prepare(
     alloc: Global,
     switch: &Switch,
     nets: &Nets,
@@ -48,6 +49,7 @@ fn prepare(
     requires nets { IsCopied switch.now.old nets.now }
     ensures prepared { IfOk result (IsPreparedPortfolio switch.now.new) }
     ensures nets { IfOk result (λ side. side.nets ≡ carried switch.now.old switch.now.new nets.now) }
+    ensures limits { IfOk result (λ side. IsCopied switch.now.new side.nets) }
 {
     let carried = switch.carry(alloc, nets)?;
     let required = requirement(alloc, switch.new_set(), carried.as_slice(), work)?;
@@ -57,23 +59,25 @@ fn prepare(
     })
 }
 
-// The same beside a portfolio for which it was worked out already: equal nets require as much.
-fn prepare_beside(
+// The same beside nets under the new set for which it was worked out already: equal nets require as much.
+pub(crate) fn prepare_beside(
     alloc: Global,
     switch: &Switch,
     nets: &Nets,
-    other: &PreparedPortfolio,
+    other: &Nets,
+    required: Cents,
     work: &mut Work,
 ) -> Result<PreparedPortfolio, AllocError>
     requires nets { IsCopied switch.now.old nets.now }
-    requires other { IsPreparedPortfolio switch.now.new other.now }
+    requires other { IsRequired switch.now.new other.now required }
     ensures prepared { IfOk result (IsPreparedPortfolio switch.now.new) }
     ensures nets { IfOk result (λ side. side.nets ≡ carried switch.now.old switch.now.new nets.now) }
-    ensures alike { other.now.nets ≡ carried switch.now.old switch.now.new nets.now → work.new ≡ work.old }
+    ensures limits { IfOk result (λ side. IsCopied switch.now.new side.nets) }
+    ensures alike { other.now ≡ carried switch.now.old switch.now.new nets.now → work.new ≡ work.old }
 {
     let carried = switch.carry(alloc, nets)?;
-    let required = if carried.is_same(&other.nets) {
-        other.requirement
+    let required = if carried.is_same(other) {
+        required
     } else {
         requirement(alloc, switch.new_set(), carried.as_slice(), work)?
     };
@@ -110,9 +114,23 @@ impl CopiedNets {
     {
         let lots = prepare(alloc, switch, &self.lots, work)?;
         Ok(PreparedUnit {
-            buys: prepare_beside(alloc, switch, &self.buys, &lots, work)?,
-            sales: prepare_beside(alloc, switch, &self.sales, &lots, work)?,
-            all: prepare_beside(alloc, switch, &self.all, &lots, work)?,
+            buys: prepare_beside(
+                alloc,
+                switch,
+                &self.buys,
+                &lots.nets,
+                lots.requirement,
+                work,
+            )?,
+            sales: prepare_beside(
+                alloc,
+                switch,
+                &self.sales,
+                &lots.nets,
+                lots.requirement,
+                work,
+            )?,
+            all: prepare_beside(alloc, switch, &self.all, &lots.nets, lots.requirement, work)?,
             lots,
         })
     }

@@ -73,7 +73,7 @@ impl Kept {
         let Some(gathering) = take_gathering(&mut self.stages, place) else {
             return Ok(());
         };
-        let (set, prepared) = gathering.into_parts();
+        let (set, mut prepared) = gathering.into_parts();
         let session = session_at(place);
         let number = self.book.calls(session) + 1;
         match self.book.commit_switch(
@@ -82,7 +82,7 @@ impl Kept {
             number,
             set,
             &mut self.shelf,
-            prepared.as_slice(),
+            prepared.as_mut_slice(),
             &mut Work::new(),
         ) {
             Outcome::Done(..) => {}

@@ -74,7 +74,7 @@ impl OneThread {
             number,
             set,
             &mut self.shelf,
-            &[],
+            &mut [],
             &mut Work::new(),
         )
     }

@@ -19,4 +19,4 @@ returns c =
     let before : Shown = marked_with old.unit c.args.version (four (nets_in c.args.row.now)) in
     let moved = moved-shown c.args.set.now c.args.version c.args.row.now c.args.change.now old c.requires.ready ∙ ap (λ (m : Moves). moved_desk m before) (sym c.moves_of.ensures) in
     let ready = ready-shown c.args.set.now c.args.version old.unit (nets_in c.args.row.now) c.take_back.new.self c.take_back.ensures.of_set (c.take_back.ensures.before before moved) in
-    record { ready = ready; of_version = ready-of c.args.set.now c.args.version (nets_in c.args.row.now) c.take_back.new.self.marked ready }
+    record { ready = ready; number = ap (λ (s : Shown). s.unit) c.take_back.ensures.moved; of_version = ready-of c.args.set.now c.args.version (nets_in c.args.row.now) c.take_back.new.self.marked ready }

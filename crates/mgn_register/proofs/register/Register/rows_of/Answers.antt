@@ -1,11 +1,11 @@
-use Rattle.std.proofs.Common.{◌≡◌, ◌<◌, ◌∙◌, IfSome, List, get_or, length, ap, rules, subst, sym}
+use Rattle.std.proofs.Common.{◌≡◌, ◌<◌, ◌∙◌, IfSome, List, get_or, length, ap, arith, rules, subst, sym}
 use Rattle.std.specs.Prelude.{ℤ}
 use Rattle.mgn_params.specs.Tables.{Tables}
 use Rattle.mgn_span.specs.Scan.{value_at}
 use Rattle.mgn_machine.specs.State.{AccountState}
 use Rattle.mgn_unit.specs.NewSets.{IsPrepared, row_under, unit_gain}
 use Rattle.mgn_register.specs.BookStates.{BookState}
-use Rattle.mgn_register.proofs.Switches.{found-carried, row-kept, rows-pushed, worths-kept}
+use Rattle.mgn_register.proofs.Switches.{found-carried, found-prepared, row-kept, rows-pushed, worths-kept}
 use Rattle.mgn_register.proofs.register.Register.rows_of.Goals as goal
 
 pub under-requires-clause-worths : goal.under-requires-clause-worths
@@ -19,7 +19,9 @@ under-requires-clause-worths c =
 
 pub under-requires-clause-prepared : goal.under-requires-clause-prepared
 under-requires-clause-prepared c =
-    subst (λ (t : Tables). IfSome c.prepared_of-ready.result (λ one. IsPrepared t one.now)) (sym c.in_ok-switch.ensures.new) (c.prepared_of-ready.ensures.prepared c.args.new.now c.requires.prepared)
+    let found = c.take_prepared-ready.ensures.taken ∙ c.loop-unit.invariant.rest c.loop-unit.unit (omega arith) in
+    subst (λ (t : Tables). IfSome c.take_prepared-ready.result (IsPrepared t)) (sym c.in_ok-switch.ensures.new)
+    (found-prepared c.args.new.now c.args.prepared.now c.loop-unit.unit c.take_prepared-ready.result found c.requires.prepared)
 
 pub loop-unit-preserved : goal.loop-unit-preserved
 loop-unit-preserved c =
@@ -42,7 +44,8 @@ loop-unit-preserved c =
       len = search rules;
       room = search rules;
       so_far = λ k h d. rw c.push_reserved.ensures.items (rows-pushed c.args.new.now f.state.accounts c.loop-unit.rows.items c.in_ok-row.row u long c.loop-unit.invariant.so_far last k h d);
-      idle = λ ready. c.under.ensures.idle (found-carried c.args.old.now c.args.new.now c.in_ok-switch.switch.old c.in_ok-switch.switch.new f.rows c.args.prepared.now u c.index.result.now c.prepared_of-ready.result c.in_ok-switch.ensures.old c.in_ok-switch.ensures.new inside is c.prepared_of-ready.ensures.found ready) ∙ c.loop-unit.invariant.idle ready;
+      rest = λ k h. c.take_prepared-ready.ensures.others k (λ same. absurd (omega (arith, h, same))) ∙ c.loop-unit.invariant.rest k (omega (arith, h));
+      idle = λ ready. c.under.ensures.idle (found-carried c.args.old.now c.args.new.now c.in_ok-switch.switch.old c.in_ok-switch.switch.new f.rows c.args.prepared.now u c.index.result.now c.take_prepared-ready.result c.in_ok-switch.ensures.old c.in_ok-switch.ensures.new inside is (c.take_prepared-ready.ensures.taken ∙ c.loop-unit.invariant.rest u (omega arith)) ready) ∙ c.loop-unit.invariant.idle ready;
     }
 
 pub returns-in_err-row-clause-idle : goal.returns-in_err-row-clause-idle
@@ -51,4 +54,4 @@ returns-in_err-row-clause-idle c = λ ready.
     let u = c.loop-unit.unit in
     let inside : u < length f.rows = search rules in
     let is : c.index.result.now ≡ get_or f.rows u c.index.result.now = search rules in
-    c.under.ensures.idle (found-carried c.args.old.now c.args.new.now c.in_ok-switch.switch.old c.in_ok-switch.switch.new f.rows c.args.prepared.now u c.index.result.now c.prepared_of-ready.result c.in_ok-switch.ensures.old c.in_ok-switch.ensures.new inside is c.prepared_of-ready.ensures.found ready) ∙ c.loop-unit.invariant.idle ready
+    c.under.ensures.idle (found-carried c.args.old.now c.args.new.now c.in_ok-switch.switch.old c.in_ok-switch.switch.new f.rows c.args.prepared.now u c.index.result.now c.take_prepared-ready.result c.in_ok-switch.ensures.old c.in_ok-switch.ensures.new inside is (c.take_prepared-ready.ensures.taken ∙ c.loop-unit.invariant.rest u (omega arith)) ready) ∙ c.loop-unit.invariant.idle ready

@@ -1,4 +1,5 @@
 use Rattle.std.proofs.Common.{◌≡◌, ◌<◌, ◌≤◌, ℕ, get_or, length, vec_len}
+use Rattle.std.specs.Prelude.{None}
 use Rattle.std.specs.Vec.{vec_capacity}
 use Rattle.mgn_unit.specs.Prepared.{ArePreparedFor}
 use Rattle.mgn_unit.specs.declared.row.Row.{Row as UnitRow}
@@ -10,5 +11,6 @@ invariant-loop-unit l = record {
   len : vec_len l.rows ≡ l.unit;
   room : length l.self.rows ≤ vec_capacity l.rows;
   so_far : (u : ℕ) → u < l.unit → (d : UnitRow) → IsUnitRow l.new l.self.state.accounts u (get_or l.rows.items u d);
-  idle : ArePreparedFor l.old l.new l.self.rows l.prepared → l.work ≡ l.initial.work;
+  rest : (k : ℕ) → l.unit ≤ k → get_or l.prepared k None ≡ get_or l.initial.prepared k None;
+  idle : ArePreparedFor l.old l.new l.self.rows l.initial.prepared → l.work ≡ l.initial.work;
 }
