@@ -1,8 +1,9 @@
-//! The lots of an account: a list in order of entry, in which a lot is found by one hash of its number.
+//! The lots of an account: a list in order of entry, in which a lot is found by its number without a walk.
 #![tactic(auto)]
 
 pub mod lot;
 pub mod lots;
+mod numbers;
 pub mod transfer;
 
 pub use lot::{Lot, Mark};

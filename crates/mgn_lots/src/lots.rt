@@ -2,6 +2,7 @@ ghost use Rattle.std.specs.Prelude.{◌≡◌, ◌<◌, ◌++◌, ◌∷◌, [],
 ghost use Rattle.mgn_lots.specs.Lots.{IsLot, lot_at, busted, has_number, is_full, place_of_lot, net, gross, is_live};
 
 use crate::lot::{Lot, Mark};
+use crate::numbers::{is_above, place_in_rising};
 use indexmap::IndexSet;
 use mgn_ids::{ContractName, LotId};
 use std::alloc::{AllocError, Global};
@@ -10,12 +11,17 @@ use std::marker::Model;
 /// How many lots an account may have, busted ones included.
 pub const MOST_LOTS: usize = 65_536;
 
-/// The lots of an account, in order of entry. A lot is found by one hash of its number, however many lots there are;
-/// the net and the gross of a contract take a walk over all of them. Contracts see the list of the lots, and whether
-/// memory for the next one is reserved.
+/// The lots of an account, in order of entry. The first of them, as long as each number is above the one before it,
+/// need no table: one comparison tells that a number above theirs is new, and a binary search finds any other. Lots
+/// behind these are found by one hash of their number. So an account whose numbers only rise keeps nothing but its
+/// lots. The net and the gross of a contract take a walk over all of them. Contracts see the list of the lots, and
+/// whether memory for the next one is reserved.
 #[derive(Drop)]
 pub struct Lots {
     lots: Vec<Lot>,
+    // How many lots, from the first on, have numbers that rise.
+    rising: usize,
+    // The numbers of the lots behind those, in order.
     numbers: IndexSet<LotId>,
     // Both have room for one more, and neither has used it since.
     reserved: bool,
@@ -31,7 +37,7 @@ impl Model for Lots {
 
     ghost view = { λ l. record { lots = l.lots.items; reserved = l.reserved } };
 
-    ghost invariant = { λ l. IsLots l.lots.items l.numbers.keys l.reserved
+    ghost invariant = { λ l. IsLots l.lots.items l.rising l.numbers.keys l.reserved
         (HasRoom (vec_len l.lots) (vec_capacity l.lots) (spare l.numbers)) };
 }
 
@@ -43,6 +49,7 @@ impl Lots {
     {
         Lots {
             lots: Vec::new(alloc),
+            rising: 0,
             numbers: IndexSet::new(alloc),
             reserved: false,
         }
@@ -73,7 +80,7 @@ impl Lots {
     pub fn has(&self, number: LotId) -> bool
         ensures { result ≡ has_number self.now.lots number }
     {
-        self.numbers.contains(&number)
+        self.place(number).is_some()
     }
 
     /// Where the lot of a number stands.
@@ -81,7 +88,14 @@ impl Lots {
         ensures place { result ≡ place_of_lot self.now.lots number }
         ensures within { IfSome result (λ i. i < length self.now.lots) }
     {
-        self.numbers.get_index_of(&number)
+        if let Some(place) = place_in_rising(&self.lots[..self.rising], number) {
+            return Some(place);
+        }
+        if self.rising == self.lots.len() {
+            return None;
+        }
+        let behind = self.numbers.get_index_of(&number)?;
+        Some(self.rising + behind)
     }
 
     /// The lot at a place.
@@ -173,8 +187,12 @@ impl Lots {
         ensures spent { self.new.reserved ≡ false }
     {
         self.reserved = false;
+        if self.rising == self.lots.len() && is_above(&self.lots, lot.number) {
+            self.rising += 1;
+        } else {
+            let _ = self.numbers.insert(lot.number);
+        }
         self.lots.push_reserved(*lot);
-        let _ = self.numbers.insert(lot.number);
     }
 
     /// Marks the live lot at a place busted: it counts for nothing from now on, and its number stays taken. Takes no
