@@ -11,11 +11,11 @@ use std::marker::Model;
 /// How many lots an account may have, busted ones included.
 pub const MOST_LOTS: usize = 65_536;
 
-/// The lots of an account, in order of entry. The first of them, as long as each number is above the one before it,
-/// need no table: one comparison tells that a number above theirs is new, and a binary search finds any other. Lots
-/// behind these are found by one hash of their number. So an account whose numbers only rise keeps nothing but its
-/// lots. The net and the gross of a contract take a walk over all of them. Contracts see the list of the lots, and
-/// whether memory for the next one is reserved.
+/// The lots of an account, in order of entry. From the first on, as long as each number is above the one before it, a
+/// lot is found by a binary search, and one comparison tells that a number is above all of these. Lots behind them are
+/// found by one hash of the number, in a table that has their numbers alone; where there are none it is not asked, and
+/// stays as small as it begins. The net and the gross of a contract take a walk over all lots. Contracts see the list
+/// of the lots, and whether memory for the next one is reserved.
 #[derive(Drop)]
 pub struct Lots {
     lots: Vec<Lot>,
@@ -23,7 +23,7 @@ pub struct Lots {
     rising: usize,
     // The numbers of the lots behind those, in order.
     numbers: IndexSet<LotId>,
-    // Both have room for one more, and neither has used it since.
+    // The lots and these numbers have room for one more, and neither has used it since.
     reserved: bool,
 }
 
@@ -76,14 +76,16 @@ impl Lots {
         self.lots.as_slice()
     }
 
-    /// Whether there is a lot of a number, busted or not.
+    /// Whether there is a lot of a number, busted or not. Where all numbers have risen, one above them takes one
+    /// comparison.
     pub fn has(&self, number: LotId) -> bool
         ensures { result ≡ has_number self.now.lots number }
     {
         self.place(number).is_some()
     }
 
-    /// Where the lot of a number stands.
+    /// Where the lot of a number stands. Takes a binary search among the first lots, as long as their numbers rise; for
+    /// a lot behind them, one hash more.
     pub fn place(&self, number: LotId) -> Option<usize>
         ensures place { result ≡ place_of_lot self.now.lots number }
         ensures within { IfSome result (λ i. i < length self.now.lots) }
@@ -132,7 +134,8 @@ impl Lots {
     }
 
     /// Reserves memory for one more lot: the next one is then added without any. Where memory is refused nothing has
-    /// changed; where it is reserved already none is taken.
+    /// changed; where it is reserved already none is taken. The number of that lot is not known yet, so there is room for
+    /// it in the table too.
     pub fn reserve(&mut self) -> Result<(), AllocError>
         ensures lots { self.new.lots ≡ self.old.lots }
         ensures ok { OnOk result (self.new.reserved ≡ true) }

@@ -5,7 +5,7 @@ ghost use Rattle.mgn_lots.specs.Lots.{numbers_of, place_of_lot};
 use crate::lot::Lot;
 use mgn_ids::LotId;
 
-// Whether a number is above those of all lots, which rise: one look at the last of them.
+// Whether a number is above those of all lots, which rise. Looks at the last one alone.
 pub(crate) fn is_above(lots: &[Lot], number: LotId) -> bool
     requires { IsStrictlyIncreasing (numbers_of lots.now) }
     ensures { IsTrue result ↔ All (λ x. x < number) (numbers_of lots.now) }
@@ -16,8 +16,8 @@ pub(crate) fn is_above(lots: &[Lot], number: LotId) -> bool
     }
 }
 
-// Where the lot of a number stands among lots whose numbers rise. A number above all of them, as a new one mostly is,
-// is told by the last lot alone.
+// Where the lot of a number stands among lots whose numbers rise. New numbers are mostly above all of them, so that is
+// tested first.
 pub(crate) fn place_in_rising(lots: &[Lot], number: LotId) -> Option<usize>
     requires { IsStrictlyIncreasing (numbers_of lots.now) }
     ensures { result ≡ place_of_lot lots.now number }

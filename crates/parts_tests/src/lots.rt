@@ -4,6 +4,7 @@ ghost use Rattle.mgn_lots.specs.Lots.{IsLot};
 use mgn_ids::{ContractName, LotId};
 use mgn_lots::{Lot, Lots, Mark, add_both};
 use mgn_num::Quantity;
+use std::alloc::Global;
 use std::process::Abort;
 use std::test::Fail;
 
@@ -122,5 +123,57 @@ fn a_transfer_adds_to_both_lists(rt: HostRuntime) -> Result<(), Fail> {
     let mut giver = Lots::new(rt.alloc());
     let mut taker = Lots::new(rt.alloc());
     check_transfer(&rt, &mut giver, &mut taker, &given, &taken);
+    Ok(())
+}
+
+// The numbers that a text spells, with a space between two.
+fn numbers(alloc: Global, text: &[u8]) -> Result<Vec<LotId>, Fail> {
+    let mut numbers = Vec::new(alloc);
+    for word in text.split(|byte| *byte == b' ') {
+        numbers.push(LotId::read(word)?)?;
+    }
+    Ok(numbers)
+}
+
+// Each of some numbers is found where a plain list of those that were added has it, or nowhere.
+fn check_places(rt: &impl Abort, lots: &Lots, added: &[LotId], asked: &[LotId]) {
+    for number in asked {
+        let place = added.iter().position(|other| other == number);
+        assert_eq!(rt; lots.place(*number), place);
+        assert_eq!(rt; lots.has(*number), place.is_some());
+    }
+}
+
+// Adds lots of even numbers, which come in a certain order, and busts them again. After each change all of these and
+// the odd ones between them are asked for.
+fn check_order(rt: &impl Abort, alloc: Global, order: &[u8]) -> Result<(), Fail> {
+    let contract = ContractName::read(b"AAA1")?;
+    let asked = numbers(
+        alloc,
+        b"1 2 3 4 5 6 7 8 9 10 11 12 13 14 15 16 17 18 19 20 21 22 23 24 25",
+    )?;
+    let mut lots = Lots::new(alloc);
+    let mut added = Vec::new(alloc);
+    for number in &numbers(alloc, order)? {
+        assert!(rt; add(&mut lots, &bought(*number, contract)));
+        added.push(*number)?;
+        check_places(rt, &lots, &added, &asked);
+    }
+    for number in &added {
+        assert!(rt; bust(&mut lots, *number));
+        check_places(rt, &lots, &added, &asked);
+    }
+    Ok(())
+}
+
+#[test]
+fn a_lot_is_found_in_whatever_order_numbers_came(rt: HostRuntime) -> Result<(), Fail> {
+    for order in [
+        b"2 4 6 8 10 12 14 16 18 20 22 24".as_slice(),
+        b"24 22 20 18 16 14 12 10 8 6 4 2".as_slice(),
+        b"4 8 12 6 2 24 10 14 22 16 20 18".as_slice(),
+    ] {
+        check_order(&rt, rt.alloc(), order)?;
+    }
     Ok(())
 }
