@@ -2,6 +2,7 @@ ghost use Rattle.std.specs.Prelude.{◌≡◌, ◌≢◌, ◌<◌, ◌++◌, ◌
 ghost use Rattle.mgn_holds.specs.Holds.{IsHeld, hold_at, place_of_order, has_order, is_full, covers, filled_at, lessened};
 
 use crate::held::Held;
+use crate::places::{is_above, place_in_rising};
 use mgn_ids::OrderId;
 use mgn_num::Quantity;
 use std::alloc::{AllocError, Global};
@@ -10,10 +11,14 @@ use std::marker::Model;
 /// How many holds an account may have.
 pub const MOST_HOLDS: usize = 256;
 
-/// The holds of an account, in order of entry, one of an order at a time. Contracts see the list of the holds.
+/// The holds of an account, in order of entry, one of an order at a time. As long as each order that comes is above the
+/// one before it, a hold is found by a binary search, and one comparison tells that an order is above all others. Once
+/// a lower one has come, a walk over the holds finds it, until none is left. Contracts see the list of the holds.
 #[derive(Drop)]
 pub struct Holds {
     holds: Vec<Held>,
+    // Only where it is true, each order is known to be above the one before it.
+    rise: bool,
 }
 
 impl Model for Holds {
@@ -22,11 +27,11 @@ impl Model for Holds {
 
     ghost Value = { List Held };
 
-    ghost use Rattle.mgn_holds.specs.Holds.{IsHolds};
+    ghost use Rattle.mgn_holds.specs.Kept.{IsKept};
 
     ghost view = { λ h. h.holds.items };
 
-    ghost invariant = { λ h. IsHolds h.holds.items };
+    ghost invariant = { λ h. IsKept h.holds.items h.rise };
 }
 
 impl Holds {
@@ -36,6 +41,7 @@ impl Holds {
     {
         Holds {
             holds: Vec::new(alloc),
+            rise: true,
         }
     }
 
@@ -60,15 +66,20 @@ impl Holds {
         self.holds.as_slice()
     }
 
-    /// Where the hold of an order stands.
+    /// Where the hold of an order stands. Takes one comparison for an order above all others and a binary search for any
+    /// other, as long as the orders rise; else a walk over the holds.
     pub fn place(&self, order: OrderId) -> Option<usize>
         ensures place { result ≡ place_of_order self.now order }
         ensures within { IfSome result (λ i. i < length self.now) }
     {
-        self.holds.iter().position(|held| held.order == order)
+        if self.rise {
+            place_in_rising(&self.holds, order)
+        } else {
+            self.holds.iter().position(|held| held.order == order)
+        }
     }
 
-    /// Whether there is a hold of an order.
+    /// Whether there is a hold of an order. Takes as long as finding its place.
     pub fn has(&self, order: OrderId) -> bool
         ensures { result ≡ has_order self.now order }
     {
@@ -94,7 +105,9 @@ impl Holds {
         ensures ok { OnOk result (self.new ≡ self.old ++ held.now ∷ []) }
         ensures err { OnErr result (self.new ≡ self.old) }
     {
+        let rise = self.rise && is_above(&self.holds, held.order);
         self.holds.push(*held)?;
+        self.rise = rise;
         Ok(())
     }
 
@@ -129,5 +142,7 @@ impl Holds {
         ensures { self.new ≡ remove self.old place }
     {
         let _ = self.holds.remove(place);
+        // Where none is left, whatever comes next rises.
+        self.rise = self.rise || self.holds.is_empty();
     }
 }

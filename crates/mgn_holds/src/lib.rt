@@ -3,6 +3,7 @@
 
 pub mod held;
 pub mod holds;
+mod places;
 pub mod side;
 
 pub use held::Held;

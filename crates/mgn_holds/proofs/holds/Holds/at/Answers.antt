@@ -11,6 +11,6 @@ returns-clause-found c =
     let inside : c.args.place < length holds = search rules in
     let at : x ≡ get_or holds c.args.place x = search rules in
     let own : place_of_order holds x.order ≡ Some c.args.place =
-    ap (λ (y : Held). place_of_order holds y.order) at ∙ place_of_order-own holds c.args.place x c.self.invariant.distinct inside
+    ap (λ (y : Held). place_of_order holds y.order) at ∙ place_of_order-own holds c.args.place x c.self.invariant.legal.distinct inside
     in
     subst (λ (all : List Held). place_of_order all x.order ≡ Some c.args.place) c.self.view_is own
