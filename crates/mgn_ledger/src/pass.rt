@@ -2,7 +2,8 @@ ghost use Rattle.std.specs.Prelude.{◌≡◌, length};
 ghost use Rattle.mgn_ledger.specs.Passes.{fresh, transcript};
 
 use crate::image::Image;
-use mgn_ids::SessionNo;
+use crate::known_units::KnownUnits;
+use mgn_ids::{AccountName, SessionNo};
 use mgn_slots::{SlotNames, Stamp};
 use std::marker::Model;
 
@@ -14,6 +15,7 @@ pub struct Pass<'a, T: Image, J: SlotNames> {
     pub(crate) session: SessionNo,
     pub(crate) count: u64,
     pub(crate) last: Option<Stamp<'a, T, J>>,
+    units: KnownUnits,
 }
 
 impl<'a, T: Image, J: SlotNames> Model for Pass<'a, T, J> {
@@ -35,6 +37,7 @@ impl<'a, T: Image, J: SlotNames> Pass<'a, T, J> {
             session,
             count: 0,
             last: None,
+            units: KnownUnits::new(),
         }
     }
 
@@ -50,5 +53,17 @@ impl<'a, T: Image, J: SlotNames> Pass<'a, T, J> {
         ensures { result ≡ length (transcript self.now) }
     {
         self.count
+    }
+
+    /// The unit of an account that a call of the session named lately. An account's unit never changes.
+    pub fn known_unit(&self, account: &AccountName) -> Option<usize> {
+        self.units.get(account)
+    }
+
+    /// Keeps the unit of an account for later calls of the session, which then need not look it up.
+    pub fn keep_unit(&mut self, account: AccountName, unit: usize)
+        ensures { self.new ≡ self.old }
+    {
+        self.units.keep(account, unit);
     }
 }

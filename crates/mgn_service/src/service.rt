@@ -12,7 +12,7 @@ use crate::gate::{Gate, Point, SessionGate};
 use crate::looks::{Looked, look};
 use crate::sight::Sight;
 use crate::unit_desk::UnitDesk;
-use crate::units::{Units, units_of};
+use crate::units::{Units, keep_unit, known_unit, units_of};
 use crate::waits::hold;
 use crate::workers::Workers;
 use mgn_ids::SessionNo;
@@ -144,10 +144,16 @@ impl<'a, T: Image, J: TableName + SlotNames> Service<'a, T, J> {
     ) -> Answer
         ensures { Answers pass.old (Do command.now) result pass.new }
     {
+        if let Some(unit) = known_unit(pass, command) {
+            return self.exec_one(rt, pass, gate, command, unit);
+        }
         let begun = begin(rt, &mut hold(rt, &self.ledger), pass, command);
         match begun {
             Begun::Answered(answer) => answer,
-            Begun::One(unit) => self.exec_one(rt, pass, gate, command, unit),
+            Begun::One(unit) => {
+                keep_unit(pass, command, unit);
+                self.exec_one(rt, pass, gate, command, unit)
+            }
             Begun::Two(giver, taker) => self.exec_two(rt, pass, gate, command, giver, taker),
         }
     }

@@ -1,12 +1,15 @@
 //! The margin units that a command names.
 
+ghost use Rattle.std.specs.Prelude.{◌≡◌};
+
 use mgn_ids::AccountName;
-use mgn_ledger::{Image, Ledger};
+use mgn_ledger::{Image, Ledger, Pass};
 use mgn_machine::Command;
 use mgn_slots::SlotNames;
 use mgn_table::TableName;
 
 /// Whose units a command changes: none, or those of one or two accounts.
+#[derive(Clone, Copy)]
 enum Named {
     Nobody,
     One(AccountName),
@@ -38,6 +41,30 @@ fn named_by(command: &Command) -> Named {
         | Command::Total(_)
         | Command::Statement(_)
         | Command::EndDay => Named::Nobody,
+    }
+}
+
+/// The unit of the one account that a command names, as an earlier call of the pass found it.
+pub(crate) fn known_unit<T: Image, J: SlotNames>(
+    pass: &Pass<'_, T, J>,
+    command: &Command,
+) -> Option<usize> {
+    match named_by(command) {
+        Named::One(account) => pass.known_unit(&account),
+        Named::Nobody | Named::Two(_, _) => None,
+    }
+}
+
+/// Keeps the unit of the one account that a command names for later calls of the pass.
+pub(crate) fn keep_unit<T: Image, J: SlotNames>(
+    pass: &mut Pass<'_, T, J>,
+    command: &Command,
+    unit: usize,
+)
+    ensures { pass.new ≡ pass.old }
+{
+    if let Named::One(account) = named_by(command) {
+        pass.keep_unit(account, unit);
     }
 }
 

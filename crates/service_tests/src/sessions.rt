@@ -74,33 +74,55 @@ const ORDERS: [Answered; 14] = [
     ("HOLD A1 5 AAA1 1 0", "ERR 14 50 CLOSED\n"),
 ];
 
-// The desk of a unit is kept from call to call, also over a refused order, and nothing is worked out in the book.
-fn keeps_its_desk<T: Image, J: TableName + SlotNames, R: Wait + Abort>(
+// Two accounts, each a unit of its own, whose names a session keeps at one place when it keeps their units.
+const TURNS: [Answered; 11] = [
+    ("ORIGIN CUST GROSS", "OK 1\n"),
+    ("OPEN A1 CUST", "OK 2\n"),
+    ("OPEN C3 CUST", "OK 3\n"),
+    ("TRADE A1 1 AAA1 2 0", "OK 4\n"),
+    ("TRADE C3 1 AAA1 1 0", "OK 5\n"),
+    ("TRADE A1 2 AAA1 -1 0", "OK 6\n"),
+    ("TRADE A1 3 AAA1 -1 0", "OK 7\n"),
+    ("TRADE C3 2 AAA1 1 0", "OK 8\n"),
+    ("BUST A1 3", "OK 9\n"),
+    ("ASK A1", "OK 10 300 300 0 0 -300\n"),
+    ("ASK C3", "OK 11 600 600 0 0 -600\n"),
+];
+
+// The desks of so many units are kept from call to call, also over a refused order, and nothing is worked out in the book.
+fn keeps_desks<T: Image, J: TableName + SlotNames, R: Wait + Abort>(
     rt: &R,
     alloc: Global,
     slots: &Slots<T>,
     table: &SetTable,
-    first: ParamSet,
+    lines: &[Answered],
+    units: u64,
 ) -> Result<(), Fail>
     requires slots { slots.now ≡ J.slots }
     requires table { table.now ≡ J.table }
 {
-    let service = Service::<T, J>::new(rt, alloc, slots, table, first, WORKERS)?;
+    let service = fresh::<_, T, J>(rt, alloc, slots, table)?;
     let mut pass = service.pass(rt).ok_or("a pass")?;
-    play(rt, alloc, &service, &mut pass, &Through, &ORDERS);
-    assert!(rt; service.plain_count(rt) == 0 && service.mark_count() == 1);
+    play(rt, alloc, &service, &mut pass, &Through, lines);
+    assert!(rt; service.plain_count(rt) == 0 && service.mark_count() == units);
     let mut passes = Vec::new(alloc);
     passes.push(pass)?;
-    assert!(rt; service.close(passes) == Ok(14));
+    assert!(rt; service.close(passes) == Ok(lines.len() as u64));
     Ok(())
 }
 
 #[test]
 fn a_desk_is_kept(rt: HostRuntime) -> Result<(), Fail> {
-    let set = read_set(rt.alloc(), one().as_bytes())?;
     let slots = Slots::<DayImage>::new(rt.alloc(), 20)?;
     let table = SetTable::new(rt.alloc())?;
-    keeps_its_desk::<_, Brand, _>(&rt, rt.alloc(), &slots, &table, set)
+    keeps_desks::<_, Brand, _>(&rt, rt.alloc(), &slots, &table, &ORDERS, 1)
+}
+
+#[test]
+fn accounts_take_turns(rt: HostRuntime) -> Result<(), Fail> {
+    let slots = Slots::<DayImage>::new(rt.alloc(), 20)?;
+    let table = SetTable::new(rt.alloc())?;
+    keeps_desks::<_, Brand, _>(&rt, rt.alloc(), &slots, &table, &TURNS, 2)
 }
 
 // A service before its first command.
@@ -262,28 +284,9 @@ const MOVED: [Answered; 11] = [
     ("TRADE A2 4 AAA1 -1 0", "OK 11\n"),
 ];
 
-fn two_units<R: Wait + Abort, T: Image, J: TableName + SlotNames>(
-    rt: &R,
-    alloc: Global,
-    slots: &Slots<T>,
-    table: &SetTable,
-) -> Result<(), Fail>
-    requires slots { slots.now ≡ J.slots }
-    requires table { table.now ≡ J.table }
-{
-    let service = fresh::<_, T, J>(rt, alloc, slots, table)?;
-    let mut pass = service.pass(rt).ok_or("a pass")?;
-    play(rt, alloc, &service, &mut pass, &Through, &MOVED);
-    assert!(rt; service.plain_count(rt) == 0 && service.mark_count() == 2);
-    let mut passes = Vec::new(alloc);
-    passes.push(pass)?;
-    assert!(rt; service.close(passes) == Ok(11));
-    Ok(())
-}
-
 #[test]
 fn a_lot_moves_between_units(rt: HostRuntime) -> Result<(), Fail> {
     let slots = Slots::<DayImage>::new(rt.alloc(), 20)?;
     let table = SetTable::new(rt.alloc())?;
-    two_units::<_, _, Brand>(&rt, rt.alloc(), &slots, &table)
+    keeps_desks::<_, Brand, _>(&rt, rt.alloc(), &slots, &table, &MOVED, 2)
 }
