@@ -4,6 +4,8 @@
 #[cfg(test)]
 mod crossing;
 #[cfg(test)]
+mod lent;
+#[cfg(test)]
 mod meeting;
 #[cfg(test)]
 mod player;

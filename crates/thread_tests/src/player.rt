@@ -3,6 +3,7 @@
 use crate::meeting::Meeting;
 use mgn_ledger::{Image, Pass};
 use mgn_machine::Answer;
+use mgn_seat::Switches;
 use mgn_service::Service;
 use mgn_setfile::read_set;
 use mgn_slots::SlotNames;
@@ -44,23 +45,36 @@ pub(crate) fn play_all<R: Threads + Sync, P: Play + Send>(rt: &R, players: &mut 
 
 /// A session of a service, what it does, and the text of all that it was answered.
 #[derive(Drop)]
-pub(crate) struct Player<'s, 'm, 'r, 'a, R: Wait, T: Image, J: TableName + SlotNames> {
+pub(crate) struct Player<
+    's,
+    'm,
+    'r,
+    'w,
+    'a,
+    R: Wait,
+    T: Image,
+    J: TableName + SlotNames,
+    W: Switches,
+> {
     pub(crate) alloc: Global,
     pub(crate) service: &'s Service<'a, T, J>,
     pub(crate) meeting: &'m Meeting<'r, R>,
+    pub(crate) workers: &'w W,
     pub(crate) pass: Pass<'a, T, J>,
     pub(crate) deeds: &'static [Deed],
     pub(crate) told: Vec<u8>,
 }
 
-impl<'s, 'm, 'r, 'a, R: Wait + Clock, T: Image, J: TableName + SlotNames> Player<
-    'r,
+impl<'s, 'm, 'r, 'w, 'a, R: Wait + Clock, T: Image, J: TableName + SlotNames, W: Switches> Player<
     's,
     'm,
+    'r,
+    'w,
     'a,
     R,
     T,
     J,
+    W,
 > {
     // A line that is no command, and want of memory, leave no text, which the tests compare.
     fn act(&mut self, deed: Deed) {
@@ -93,7 +107,9 @@ impl<'s, 'm, 'r, 'a, R: Wait + Clock, T: Image, J: TableName + SlotNames> Player
         if let Ok(set) = read_set(self.alloc, two().as_bytes()) {
             let pass = &mut self.pass;
             let meeting = self.meeting;
-            let answer = self.service.switch_alone(meeting.rt(), pass, meeting, set);
+            let answer = self
+                .workers
+                .switch(meeting.rt(), self.service, pass, meeting, set);
             self.hear(answer);
         }
     }
@@ -103,8 +119,8 @@ impl<'s, 'm, 'r, 'a, R: Wait + Clock, T: Image, J: TableName + SlotNames> Player
     }
 }
 
-impl<'s, 'm, 'r, 'a, R: Wait + Clock, T: Image, J: TableName + SlotNames> Play
-    for Player<'s, 'm, 'r, 'a, R, T, J> {
+impl<'s, 'm, 'r, 'w, 'a, R: Wait + Clock, T: Image, J: TableName + SlotNames, W: Switches> Play
+    for Player<'s, 'm, 'r, 'w, 'a, R, T, J, W> {
     fn play(&mut self) {
         for deed in self.deeds {
             self.act(*deed);

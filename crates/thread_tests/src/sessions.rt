@@ -6,6 +6,7 @@ ghost use Rattle.std.specs.Prelude.{◌≡◌};
 use crate::meeting::{Meeting, Until};
 use crate::player::{Deed, Player, play_all};
 use mgn_ledger::{DayImage, Image, Pass};
+use mgn_seat::{Alone, Switches};
 use mgn_service::{Point, Service};
 use mgn_setfile::read_set;
 use mgn_slots::{SlotNames, Slots};
@@ -24,7 +25,7 @@ use worked_sets::{one, two};
 const WORKERS: usize = 2;
 
 /// What two sessions do at the same time; calls of the first that come to a point are kept there for a time.
-struct Scene {
+pub(crate) struct Scene {
     first: &'static [Deed],
     second: &'static [Deed],
     point: Point,
@@ -34,25 +35,27 @@ struct Scene {
 /// What came of it: what both were told, how many units were worked out in the book for a command and for a switch, and how
 /// many entries the history has.
 #[derive(Drop)]
-struct Played {
-    first: Vec<u8>,
-    second: Vec<u8>,
-    plain: u64,
-    late: u64,
-    entries: u64,
+pub(crate) struct Played {
+    pub(crate) first: Vec<u8>,
+    pub(crate) second: Vec<u8>,
+    pub(crate) plain: u64,
+    pub(crate) late: u64,
+    pub(crate) entries: u64,
 }
 
-fn player<'s, 'm, 'r, 'a, R: Wait + Clock, T: Image, J: TableName + SlotNames>(
+fn player<'s, 'm, 'r, 'w, 'a, R: Wait + Clock, T: Image, J: TableName + SlotNames, W: Switches>(
     alloc: Global,
     service: &'s Service<'a, T, J>,
     meeting: &'m Meeting<'r, R>,
+    workers: &'w W,
     deeds: &'static [Deed],
-) -> Result<Player<'s, 'm, 'r, 'a, R, T, J>, Fail> {
+) -> Result<Player<'s, 'm, 'r, 'w, 'a, R, T, J, W>, Fail> {
     let pass = service.pass(meeting.rt()).ok_or("a pass")?;
     Ok(Player {
         alloc,
         service,
         meeting,
+        workers,
         pass,
         deeds,
         told: Vec::new(alloc),
@@ -72,16 +75,18 @@ fn play<
     R: Threads + Wait + Clock + Abort + Sync,
     T: Image + Send + Sync,
     J: TableName + SlotNames + Send + Sync,
+    W: Switches + Sync,
 >(
     rt: &R,
     alloc: Global,
     service: &Service<'a, T, J>,
     meeting: &Meeting<'_, R>,
+    workers: &W,
     scene: &Scene,
 ) -> Result<Vec<Ended<'a, T, J>>, Fail> {
     let mut players = Vec::with_capacity(alloc, 2)?;
-    players.push(player(alloc, service, meeting, scene.first)?)?;
-    players.push(player(alloc, service, meeting, scene.second)?)?;
+    players.push(player(alloc, service, meeting, workers, scene.first)?)?;
+    players.push(player(alloc, service, meeting, workers, scene.second)?)?;
     play_all(rt, players.as_mut_slice());
     assert!(rt; !meeting.is_missed());
     let mut ended = Vec::with_capacity(alloc, 2)?;
@@ -98,14 +103,22 @@ fn stage<
     R: Threads + Wait + Clock + Abort + Sync,
     T: Image + Send + Sync,
     J: TableName + SlotNames + Send + Sync,
->(rt: &R, alloc: Global, slots: &Slots<T>, table: &SetTable, scene: &Scene) -> Result<Played, Fail>
+    W: Switches + Sync,
+>(
+    rt: &R,
+    alloc: Global,
+    slots: &Slots<T>,
+    table: &SetTable,
+    workers: &W,
+    scene: &Scene,
+) -> Result<Played, Fail>
     requires slots { slots.now ≡ J.slots }
     requires table { table.now ≡ J.table }
 {
     let set = read_set(alloc, one().as_bytes())?;
     let service = Service::<T, J>::new(rt, alloc, slots, table, set, WORKERS)?;
     let meeting = Meeting::new(rt, 1, scene.point, scene.until);
-    let players = play(rt, alloc, &service, &meeting, scene)?;
+    let players = play(rt, alloc, &service, &meeting, workers, scene)?;
     end(rt, alloc, service, players)
 }
 
@@ -136,15 +149,16 @@ fn end<'a, R: Wait, T: Image, J: TableName + SlotNames>(
     })
 }
 
-// Plays a scene over 80 slots.
-fn staged<R: Threads + Wait + Clock + Abort + Sync>(
+/// Plays a scene over 80 slots, in which these work out the switches.
+pub(crate) fn staged<R: Threads + Wait + Clock + Abort + Sync, W: Switches + Sync>(
     rt: &R,
     alloc: Global,
+    workers: &W,
     scene: &Scene,
 ) -> Result<Played, Fail> {
     let slots = Slots::<DayImage>::new(alloc, 80)?;
     let table = SetTable::new(alloc)?;
-    stage::<_, _, Brand>(rt, alloc, &slots, &table, scene)
+    stage::<_, _, Brand, _>(rt, alloc, &slots, &table, workers, scene)
 }
 
 // Each of two orders requires 600 of 1,000, so there is room for one of them.
@@ -163,7 +177,7 @@ const ROOM_FOR_ONE: Scene = Scene {
 
 #[test]
 fn of_two_orders_at_once_one_has_room(rt: HostRuntime) -> Result<(), Fail> {
-    let played = staged(&rt, rt.alloc(), &ROOM_FOR_ONE)?;
+    let played = staged(&rt, rt.alloc(), &Alone, &ROOM_FOR_ONE)?;
     let first = played.first.as_slice();
     let second = played.second.as_slice();
     let first_wins = first == "OK 1\nOK 2\nOK 3\nOK 4\n".as_bytes()
@@ -175,8 +189,8 @@ fn of_two_orders_at_once_one_has_room(rt: HostRuntime) -> Result<(), Fail> {
     Ok(())
 }
 
-// An order is looked at under one set, and committed under the next, where there is no room for it.
-const SWITCH_BETWEEN: Scene = Scene {
+/// An order is looked at under one set, and committed under the next, where there is no room for it.
+pub(crate) const SWITCH_BETWEEN: Scene = Scene {
     first: &[
         Deed::Call("ORIGIN CUST GROSS"),
         Deed::Call("OPEN A1 CUST"),
@@ -188,12 +202,17 @@ const SWITCH_BETWEEN: Scene = Scene {
     until: Until::Come(2),
 };
 
+/// The set came into force with what was worked out before, and the order went by it.
+pub(crate) fn check_switch_between(rt: &impl Abort, played: &Played) {
+    assert!(rt; played.first.as_slice() == "OK 1\nOK 2\nOK 3\nERR 5 30 NOROOM\n".as_bytes());
+    assert!(rt; played.second.as_slice() == "OK 4 1 0\n".as_bytes());
+    assert!(rt; played.plain == 0 && played.late == 0 && played.entries == 5);
+}
+
 #[test]
 fn a_set_comes_into_force_beside_an_order(rt: HostRuntime) -> Result<(), Fail> {
-    let played = staged(&rt, rt.alloc(), &SWITCH_BETWEEN)?;
-    assert!(&rt; played.first.as_slice() == "OK 1\nOK 2\nOK 3\nERR 5 30 NOROOM\n".as_bytes());
-    assert!(&rt; played.second.as_slice() == "OK 4 1 0\n".as_bytes());
-    assert!(&rt; played.plain == 0 && played.late == 0 && played.entries == 5);
+    let played = staged(&rt, rt.alloc(), &Alone, &SWITCH_BETWEEN)?;
+    check_switch_between(&rt, &played);
     Ok(())
 }
 
@@ -225,7 +244,7 @@ const MOVE_BESIDE_A_SWITCH: Scene = Scene {
 
 #[test]
 fn a_move_goes_on_under_the_next_set(rt: HostRuntime) -> Result<(), Fail> {
-    let played = staged(&rt, rt.alloc(), &MOVE_BESIDE_A_SWITCH)?;
+    let played = staged(&rt, rt.alloc(), &Alone, &MOVE_BESIDE_A_SWITCH)?;
     assert!(&rt;
         played.first.as_slice()
             == "OK 10\nOK 11 0 0 1200 1200 1200\nOK 12 1200 1200 1200 1200 0\n".as_bytes()
@@ -254,7 +273,7 @@ const LOOKS: Scene = Scene {
 
 #[test]
 fn an_order_is_looked_at_under_each_set(rt: HostRuntime) -> Result<(), Fail> {
-    let played = staged(&rt, rt.alloc(), &LOOKS)?;
+    let played = staged(&rt, rt.alloc(), &Alone, &LOOKS)?;
     assert!(&rt;
         played.first.as_slice() == "OK 1\nOK 2\nOK 3\nOK 68\nOK 69 0 1200 1200 1200 0\n".as_bytes()
     );
@@ -293,15 +312,15 @@ const TWO_UNITS: Scene = Scene {
 
 #[test]
 fn commands_of_two_units_overlap(rt: HostRuntime) -> Result<(), Fail> {
-    let played = staged(&rt, rt.alloc(), &TWO_UNITS)?;
+    let played = staged(&rt, rt.alloc(), &Alone, &TWO_UNITS)?;
     assert!(&rt; played.first.as_slice() == "OK 1\nOK 2\nOK 3\nOK 5\n".as_bytes());
     assert!(&rt; played.second.as_slice() == "OK 4\n".as_bytes());
     assert!(&rt; played.plain == 0 && played.entries == 5);
     Ok(())
 }
 
-// A unit gets a lot after its nets were gathered for a switch.
-const LATE_LOT: Scene = Scene {
+/// A unit gets a lot after its nets were gathered for a switch.
+pub(crate) const LATE_LOT: Scene = Scene {
     first: &[
         Deed::Call("ORIGIN CUST GROSS"),
         Deed::Call("OPEN A1 CUST"),
@@ -319,15 +338,20 @@ const LATE_LOT: Scene = Scene {
     until: Until::Come(2),
 };
 
-#[test]
-fn a_late_lot_is_worked_out_at_the_switch(rt: HostRuntime) -> Result<(), Fail> {
-    let played = staged(&rt, rt.alloc(), &LATE_LOT)?;
-    assert!(&rt;
+/// The lot counted for the requirement under the new set.
+pub(crate) fn check_late_lot(rt: &impl Abort, played: &Played) {
+    assert!(rt;
         played.first.as_slice()
             == "OK 1\nOK 2\nOK 3\nOK 4\nOK 6 1 1\nOK 7 1800 1800 1000 1000 -800\n".as_bytes()
     );
-    assert!(&rt; played.second.as_slice() == "OK 5\n".as_bytes());
-    assert!(&rt; played.plain == 0 && played.late == 1 && played.entries == 7);
+    assert!(rt; played.second.as_slice() == "OK 5\n".as_bytes());
+    assert!(rt; played.plain == 0 && played.late == 1 && played.entries == 7);
+}
+
+#[test]
+fn a_late_lot_is_worked_out_at_the_switch(rt: HostRuntime) -> Result<(), Fail> {
+    let played = staged(&rt, rt.alloc(), &Alone, &LATE_LOT)?;
+    check_late_lot(&rt, &played);
     Ok(())
 }
 
@@ -351,7 +375,7 @@ const LOT_COMES_AND_GOES: Scene = Scene {
 
 #[test]
 fn nets_that_are_the_same_again_are_not_late(rt: HostRuntime) -> Result<(), Fail> {
-    let played = staged(&rt, rt.alloc(), &LOT_COMES_AND_GOES)?;
+    let played = staged(&rt, rt.alloc(), &Alone, &LOT_COMES_AND_GOES)?;
     assert!(&rt; played.first.as_slice() == "OK 1\nOK 2\nOK 3\nOK 6 1 1\n".as_bytes());
     assert!(&rt; played.second.as_slice() == "OK 4\nOK 5\n".as_bytes());
     assert!(&rt; played.plain == 0 && played.late == 0 && played.entries == 6);
