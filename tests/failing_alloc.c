@@ -1,5 +1,7 @@
-// Stands before the C library's allocator, and lets the Nth request fail, for N of the environment's FAIL_ALLOC.
+// Stands before the C library's allocator, and lets the Nth request fail, for N of the environment's FAIL_ALLOC. The requests of all
+// threads are counted together, and one of them fails.
 #include <errno.h>
+#include <stdatomic.h>
 #include <stddef.h>
 #include <stdlib.h>
 
@@ -8,14 +10,22 @@ extern void *__libc_calloc(size_t count, size_t size);
 extern void *__libc_realloc(void *old, size_t size);
 extern void *__libc_memalign(size_t align, size_t size);
 
-static long left = -1;
+// How many requests there are up to the one that fails; -1 before the first, which comes before any second thread.
+static atomic_long left = -1;
 
 static int fails(void) {
-    if (left < 0) {
+    long now = atomic_load(&left);
+    if (now < 0) {
         const char *number = getenv("FAIL_ALLOC");
-        left = number ? atol(number) : 0;
+        now = number ? atol(number) : 0;
+        atomic_store(&left, now);
     }
-    return left > 0 && --left == 0;
+    while (now > 0) {
+        if (atomic_compare_exchange_weak(&left, &now, now - 1)) {
+            return now == 1;
+        }
+    }
+    return 0;
 }
 
 static void *refused(void) {
