@@ -6,6 +6,7 @@ use crate::client::{ask_last, connect, expect, send};
 use crate::server::{is_turned_away, listen};
 use mgn_ids::SessionNo;
 use mgn_ledger::{DayImage, Image};
+use mgn_machine::Command;
 use mgn_seat::Alone;
 use mgn_service::{Gate, Point, Service, Through};
 use mgn_session::NoFiles;
@@ -83,6 +84,8 @@ impl<'r, R: Clock> Gate for Latch<'r, R> {
 struct Scene<'g, G> {
     /// How many of the service's passes somebody else has taken.
     taken: u8,
+    /// Whether somebody else's history has given the first of the slots a value.
+    is_spoiled: bool,
     sessions: usize,
     gate: &'g G,
     listener: TcpListener,
@@ -105,6 +108,25 @@ fn service_of<'a, R: Wait, T: Image, J: TableName + SlotNames>(
         drop(service.pass(rt));
     }
     Ok(service)
+}
+
+// Another service over the same slots makes a call.
+fn spoil<R: Wait, T: Image, J: TableName + SlotNames>(
+    rt: &R,
+    alloc: Global,
+    slots: &Slots<T>,
+    table: &SetTable,
+) -> Result<(), Fail>
+    requires slots { slots.now ≡ J.slots }
+    requires table { table.now ≡ J.table }
+{
+    let other = service_of::<_, T, J>(rt, alloc, slots, table, 0)?;
+    let mut pass = other.pass(rt).ok_or("a pass")?;
+    other
+        .exec(rt, &mut pass, &Through, &Command::EndDay)
+        .place
+        .ok_or("a place")?;
+    Ok(())
 }
 
 // Nobody's files, so many times.
@@ -137,11 +159,15 @@ fn play<
 {
     let Scene {
         taken,
+        is_spoiled,
         sessions,
         gate,
         listener,
     } = scene;
     let address = listener.local_addr()?;
+    if is_spoiled {
+        spoil::<_, T, J>(rt, alloc, slots, table)?;
+    }
     let serving = Serving {
         service: service_of::<_, T, J>(rt, alloc, slots, table, taken)?,
         gate,
@@ -225,6 +251,7 @@ fn sessions_share_a_book(rt: HostRuntime) -> Result<(), Fail> {
     let port = listener.local_addr()?.port();
     let scene = Scene {
         taken: 0,
+        is_spoiled: false,
         sessions: 2,
         gate: &Through,
         listener,
@@ -261,6 +288,7 @@ fn of_two_orders_at_once_one_has_room(rt: HostRuntime) -> Result<(), Fail> {
     let rt = &rt;
     let scene = Scene {
         taken: 0,
+        is_spoiled: false,
         sessions: 2,
         gate: &Through,
         listener: listen(rt),
@@ -298,6 +326,7 @@ fn commands_of_two_units_overlap(rt: HostRuntime) -> Result<(), Fail> {
     let latch = Latch::new(rt);
     let scene = Scene {
         taken: 0,
+        is_spoiled: false,
         sessions: 2,
         gate: &latch,
         listener: listen(rt),
@@ -326,6 +355,7 @@ fn a_connection_without_a_pass_is_closed(rt: HostRuntime) -> Result<(), Fail> {
     let port = listener.local_addr()?.port();
     let scene = Scene {
         taken: 15,
+        is_spoiled: false,
         sessions: 3,
         gate: &Through,
         listener,
@@ -340,5 +370,47 @@ fn a_connection_without_a_pass_is_closed(rt: HostRuntime) -> Result<(), Fail> {
     assert!(rt; ended.errors.as_slice() == lines.as_bytes());
     // The audit misses the passes that are gone.
     assert!(rt; said(rt.alloc(), &ended, port, "")? && matches!(ended.entries, Err(Fault::Passes)));
+    Ok(())
+}
+
+// The first command finds its history unfit, and each command after it, of whichever session. All else is answered as ever.
+fn all_is_broken<R: Net<Stream = TcpStream> + Alloc + Abort>(rt: &R, address: SocketAddr) {
+    let first = connect(rt, address);
+    let second = connect(rt, address);
+    talk(
+        rt,
+        &first,
+        &[
+            ("ORIGIN CUST GROSS\n", "ERR 92 BROKEN\n"),
+            ("ORIGIN\n", "ERR 10 SYNTAX\n"),
+        ],
+    );
+    talk(
+        rt,
+        &second,
+        &[
+            ("ASK A1\n", "ERR 92 BROKEN\n"),
+            ("SWITCH ONE\n", "ERR 40 NOSET\n"),
+        ],
+    );
+    let replies = ask_last(rt, first, "TOTAL CUST\nEND\n");
+    assert!(rt; replies.as_str() == "ERR 92 BROKEN\nERR 92 BROKEN\n");
+}
+
+#[test]
+fn a_broken_history_takes_no_command(rt: HostRuntime) -> Result<(), Fail> {
+    let rt = &rt;
+    let listener = listen(rt);
+    let port = listener.local_addr()?.port();
+    let scene = Scene {
+        taken: 0,
+        is_spoiled: true,
+        sessions: 2,
+        gate: &Through,
+        listener,
+    };
+    let ended = staged(rt, rt.alloc(), scene, |address| all_is_broken(rt, address))?;
+    assert!(rt; said(rt.alloc(), &ended, port, "")? && ended.errors.is_empty());
+    assert!(rt; matches!(ended.entries, Err(Fault::Unmatched(1))));
     Ok(())
 }

@@ -21,11 +21,11 @@ use worked_sets::{one, two};
 // How many workers share the units of a switch.
 const WORKERS: usize = 2;
 
-// A line, and the text that it is answered.
-type Answered = (&'static str, &'static str);
+/// A line, and the text that it is answered.
+pub(crate) type Answered = (&'static str, &'static str);
 
-// Makes the calls of some lines, and compares each answer.
-fn play<'a, R: Wait + Abort, T: Image, J: TableName + SlotNames, G: Gate>(
+/// Makes the calls of some lines, and compares each answer.
+pub(crate) fn play<'a, R: Wait + Abort, T: Image, J: TableName + SlotNames, G: Gate>(
     rt: &R,
     alloc: Global,
     service: &Service<'a, T, J>,
@@ -125,8 +125,8 @@ fn accounts_take_turns(rt: HostRuntime) -> Result<(), Fail> {
     keeps_desks::<_, Brand, _>(&rt, rt.alloc(), &slots, &table, &TURNS, 2)
 }
 
-// A service before its first command.
-fn fresh<'a, R: Wait, T: Image, J: TableName + SlotNames>(
+/// A service before its first command.
+pub(crate) fn fresh<'a, R: Wait, T: Image, J: TableName + SlotNames>(
     rt: &R,
     alloc: Global,
     slots: &'a Slots<T>,
@@ -165,8 +165,8 @@ fn there_are_sixteen_passes(rt: HostRuntime) -> Result<(), Fail> {
     sixteen::<_, _, Brand>(&rt, rt.alloc(), &slots, &table)
 }
 
-// The first pass of another service, whose audit misses it.
-fn another_pass<'a, R: Wait + Abort, T: Image, J: TableName + SlotNames>(
+/// The first pass of another service, whose audit misses it.
+pub(crate) fn another_pass<'a, R: Wait + Abort, T: Image, J: TableName + SlotNames>(
     rt: &R,
     alloc: Global,
     slots: &'a Slots<T>,
@@ -208,8 +208,8 @@ fn an_audit_wants_its_own_passes(rt: HostRuntime) -> Result<(), Fail> {
     unmatched::<_, _, Brand>(&rt, rt.alloc(), &slots, &table)
 }
 
-// Switches to the set of a text, and compares the answer.
-fn switch<'a, R: Threads + Wait + Abort + Sync, T: Image, J: TableName + SlotNames>(
+/// Switches to the set of a text, and compares the answer.
+pub(crate) fn switch<'a, R: Threads + Wait + Abort + Sync, T: Image, J: TableName + SlotNames>(
     rt: &R,
     alloc: Global,
     service: &Service<'a, T, J>,
