@@ -85,7 +85,7 @@ class Definitions:
                             self.read_antt(crate, f"{at}/{name}")
                 if re.search(rf"/crates/{crate}/src(/|$)", at):
                     for name in sorted(names):
-                        if name.endswith(".rt") and not re.search(r"/tests/|[/_]tests\.rt$", f"{at}/{name}"):
+                        if name.endswith(".rt") and not source.is_of_tests(os.path.relpath(f"{at}/{name}", top)):
                             self.rows[f"{at}/{name}"] = crate
         self.tokens = source.tokens(self.rows)
         for file, crate in self.rows.items():

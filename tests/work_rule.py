@@ -58,7 +58,9 @@ def main():
         f"{at}/{it}"
         for at, _, names in os.walk(f"{source.TOP}/crates")
         for it in sorted(names)
-        if it.endswith(".rt") and re.search(r"/crates/(?!bench_|\w*_tests/)\w+/src(/|$)", at) and not re.search(r"/tests/|[/_]tests\.rt$", f"{at}/{it}")
+        if it.endswith(".rt")
+        and re.search(r"/crates/(?!bench_|\w*_tests/)\w+/src(/|$)", at)
+        and not source.is_of_tests(os.path.relpath(f"{at}/{it}", source.TOP))
     ]
     made = {(os.path.relpath(file, source.TOP), function): line for file, line, function in places(sorted(files))}
     wrong = [f"{file}:{made[file, function]}: {function or 'a constant'} makes a count of work" for file, function in sorted({*made} - ALLOWED)]
