@@ -1,0 +1,101 @@
+#!/usr/bin/env python3
+"""Counts the instructions of a command, and how many of them run while it has the book's lock.
+
+Usage: bench/held.py [PROGRAM], by default the seat_script that `rt run` or `rt ci` leaves. It needs valgrind.
+
+The program answers a script once without and once with a number of commands of one kind, under callgrind; what is told is the
+difference, for each command. A service calls the book, its ledger or its register under the lock alone, so its calls of these are
+counted, with all that they call. What is compiled into the service's own functions, as the lock's own steps, is not.
+
+A customer has a position in each of 20 futures in four commodities. A switch is to a set with the same contracts, with 100 such
+customers, and is worked out on the thread of the session.
+"""
+import pathlib
+import re
+import subprocess
+import sys
+import tempfile
+
+import script
+
+TOP = pathlib.Path(__file__).resolve().parent.parent
+# Whose calls count: the service, and what it may be compiled into. What the book calls may call the book again.
+ABOVE = ("mgn_service::", "mgn_seat::", "mgn_session::", "seat_script::")
+UNDER = ("mgn_ledger::", "mgn_book::", "mgn_register::")
+# What an owner calls before the lock is there, or lets go of without it.
+OUTSIDE = re.compile(r"Destruct|::Ledger::new\b")
+COUNT = 200
+SWITCHES = 10
+CUSTOMERS = 100
+
+
+def customer(name):
+    """A customer with a position in each future."""
+    lots = [f"TRADE {name} {n + 1} F{n} {1 + n % 3} 0" for n in range(script.FUTURES)]
+    return [f"OPEN {name} CUST", f"POST {name} CASH 100000000", *lots]
+
+
+def kinds():
+    """Returns the name of each kind of command, what comes before, and its commands."""
+    one = ["ORIGIN CUST GROSS", *customer("A1")]
+    many = ["ORIGIN CUST GROSS", *(line for n in range(CUSTOMERS) for line in customer(f"A{n}"))]
+    numbers = range(1000, 1000 + COUNT)
+    holds = [f"HOLD A1 {n} F{n % script.FUTURES} {1 if n % 2 else -1} 0" for n in numbers]
+    return [
+        ("TRADE", one, [f"TRADE A1 {n} F{n % script.FUTURES} {1 if n % 2 else -1} 0" for n in numbers]),
+        ("HOLD", one, holds),
+        ("RELEASE", [*one, *holds], [f"RELEASE A1 {n}" for n in numbers]),
+        ("ASK", one, ["ASK A1"] * COUNT),
+        ("SWITCH", many, ["SWITCH BENCH"] * SWITCHES),
+    ]
+
+
+def held_in(lines):
+    """Returns the instructions of a run as callgrind tells them: all, and those of calls under the lock."""
+    everything = held = 0
+    caller = callee = ""
+    is_call = False
+    for line in lines:
+        if line.startswith("fn="):
+            caller = line[3:].strip()
+        elif line.startswith("cfn="):
+            callee = line[4:].strip()
+        elif line.startswith("calls="):
+            is_call = True
+        elif line.startswith(("totals:", "summary:")):
+            everything = int(line.split()[1])
+        elif is_call:
+            is_call = False
+            if caller.startswith(ABOVE) and callee.startswith(UNDER) and not OUTSIDE.search(callee):
+                held += int(line.split()[1])
+    return everything, held
+
+
+def counted(program, room, lines):
+    """Runs a script under callgrind."""
+    out = f"{room}/callgrind.out"
+    words = ["valgrind", "--tool=callgrind", f"--callgrind-out-file={out}", "--compress-strings=no", "--compress-pos=no", "--demangle=no"]
+    words += [program, "script", "--dir", room, "--set", "BENCH"]
+    ran = subprocess.run(words, input="".join(f"{it}\n" for it in lines), capture_output=True, text=True, check=False)
+    wrong = [it for it in ran.stdout.splitlines() if not it.startswith("OK ")]
+    if ran.returncode or wrong or ran.stdout.count("\n") != len(lines):
+        sys.exit(f"{program}: status {ran.returncode}: {(wrong or ran.stderr.splitlines()[-1:])[:1]}")
+    with open(out, encoding="utf-8") as it:
+        return held_in(it)
+
+
+def main(words):
+    program = words[0] if words else str(TOP / "crates/seat_script/out/seat_script")
+    print("| Command | Instructions | of these under the book's lock |\n|---|---|---|")
+    with tempfile.TemporaryDirectory() as room:
+        pathlib.Path(room, "BENCH.csv").write_text(script.set_file(), encoding="utf-8")
+        for name, before, asked in kinds():
+            without, held_without = counted(program, room, before)
+            everything, held = counted(program, room, before + asked)
+            if held == held_without:
+                sys.exit(f"{name}: no call under the lock was found: the program has no such names")
+            print(f"| {name} | {(everything - without) // len(asked):,} | {(held - held_without) // len(asked):,} |", flush=True)
+
+
+if __name__ == "__main__":
+    main(sys.argv[1:])
