@@ -5,7 +5,8 @@ replies. Else some lines are answered `ERR 90 MEMORY`, and all others as by the 
 with `spand: memory` and a front of what it tells, or tells all.
 
 The sessions are the stored run and some of tests/examples.txt, which between them have every command. How many allocations were
-refused is told for each, and must not fall below a floor, so that none of this becomes empty.
+refused is told for each, and must not fall below a floor, so that none of this becomes empty. A program of one seat of a service
+answers those that come to switch once more by one worker, and by three, who allocate in any order.
 It needs a C compiler, `cc`, and an allocator of the C library that can be stood before.
 Usage: tests/memory.py [PROGRAM], by default the program that `rt run` or `rt ci` leaves; it has no command `check` where it is a
 program of one seat of a service."""
@@ -20,6 +21,9 @@ STORED = f"{HERE}/../crates/spand"
 # A desk that cannot be made changes no reply, and two of them take fewer than 300 allocations in a row. Once so many runs in a row
 # are whole, no allocation is left to fail.
 IN_A_ROW = 300
+# By how many workers a seat's switches are worked out, beside on its own thread, and of which sessions: those that switch.
+WORKERS = (1, 3)
+SWITCHING = ("a set without a lot's contract is refused, and one without an order's", "the session of two sets in docs/PROTOCOL.md")
 MEMORY = b"ERR 90 MEMORY\n"
 # The title of a session, and the floor of how many allocations were refused in it.
 SESSIONS = {
@@ -75,11 +79,13 @@ class Refusing:
 
     def __init__(self, program, room):
         self.program, self.before, self.failed, self.tried = program, prepared(room, "failing_alloc"), 0, 0
+        self.options = []
 
     def run(self, command, folder, name, given, nth):
         """Runs a command over a set, with its nth allocation failing, or none."""
         env = {**os.environ, "FAIL_ALLOC": str(nth), "LD_PRELOAD": self.before} if nth else os.environ
-        return subprocess.run([self.program, command, "--dir", folder, "--set", name], input=given, env=env, capture_output=True)
+        words = [self.program, command, "--dir", folder, "--set", name, *self.options]
+        return subprocess.run(words, input=given, env=env, capture_output=True)
 
     def is_right(self, folder, name, lines, whole, ran):
         """Returns whether a session ended as it may."""
@@ -118,6 +124,13 @@ class Refusing:
                   lambda ran: self.is_right(folder, name, lines, whole, ran),
                   lambda nth: self.run("script", folder, name, given, nth))
 
+    def by_workers(self, count, sessions):
+        """Lets each allocation of sessions fail whose switches so many workers work out."""
+        self.options = ["--workers", str(count)]
+        for title, floor, folder, name, lines in sessions:
+            self.session(f"by {count} workers: {title}", floor, folder, name, lines)
+        self.options = []
+
     def check(self, floor, folder, name):
         whole = self.run("check", folder, name, b"", 0).stdout
         self.each("a check of a set", floor, lambda ran: ran.returncode == 0 and not ran.stderr and ran.stdout == whole,
@@ -135,6 +148,9 @@ def main(words):
             refusing.session(title, floor, room, *known[title])
         if os.path.basename(program) == "spand":
             refusing.check(67, room, "FUT")
+        else:
+            for count in WORKERS:
+                refusing.by_workers(count, [(it, SESSIONS[it], room, *known[it]) for it in SWITCHING])
     print(f"{refusing.tried} allocations, {refusing.failed} failed")
     return 1 if refusing.failed else 0
 

@@ -1,0 +1,36 @@
+ghost use Rattle.std.specs.Prelude.{All};
+ghost use Rattle.std.specs.Result.{ForOk};
+ghost use Rattle.mgn_unit.specs.NewSets.{ArePrepared};
+ghost use Rattle.mgn_unit.specs.Prepared.{AreCopied};
+
+use mgn_ids::SessionNo;
+use mgn_params::ParamSet;
+use mgn_prepare::mark_all;
+use mgn_service::{SessionGate, Through};
+use mgn_unit::{CopiedNets, PreparedUnit};
+use std::alloc::AllocError;
+use std::thread::Threads;
+
+/// How many workers share the units of a switch at most.
+const MOST_WORKERS: usize = 64;
+
+/// What units with these nets under the set in force require under a new one, by so many workers, 1 to 64, or by the nearest of
+/// these numbers. An error says that memory was refused.
+pub(crate) fn mark<R: Threads + AllocGlobal + Sync>(
+    rt: &R,
+    session: SessionNo,
+    old: &ParamSet,
+    new: &ParamSet,
+    nets: Vec<CopiedNets>,
+    workers: u8,
+) -> Result<Vec<Option<PreparedUnit>>, AllocError>
+    requires { All (AreCopied old.now) nets.items }
+    ensures { ForOk result (λ units. ArePrepared new.now units.items) }
+{
+    let gate = SessionGate {
+        gate: &Through,
+        session,
+    };
+    let workers = usize::from(workers).clamp(1, MOST_WORKERS);
+    mark_all(rt, rt.alloc(), old, new, nets, workers, &gate)
+}
