@@ -11,7 +11,7 @@ use Rattle.mgn_world.proofs.kept.Kept.commit_set.Goals as goal
 
 pub commit_switch-requires-clause-prepared : goal.commit_switch-requires-clause-prepared
 commit_switch-requires-clause-prepared c =
-    subst (λ (xs : List (Option PreparedUnit)). ArePrepared c.into_parts-set.result.0 xs) (sym c.as_slice.ensures.value) c.into_parts-set.ensures.prepared
+    subst (λ (xs : List (Option PreparedUnit)). ArePrepared c.into_parts-set.result.0 xs) (sym c.as_mut_slice.ensures.value) c.into_parts-set.ensures.prepared
 
 pub returns-in-Full-clause-sound : goal.returns-in-Full-clause-sound
 returns-in-Full-clause-sound c =
