@@ -1,13 +1,13 @@
 -- The records of a plain text: one reader of the whole finds what readers of its lines find.
-use Rattle.std.proofs.Common.{◌≡◌, ◌+◌, ◌<◌, ℕ, zero, suc, List, [], ◌∷◌, ◌++◌, length, map, Bool, true, false, Option, Some, None, Result, Ok, Err, Bor, refl, sym, ap, ◌∙◌, arith, length-append}
+use Rattle.std.proofs.Common.{◌≡◌, ◌+◌, ◌-◌, ◌<◌, ℕ, zero, suc, List, [], ◌∷◌, ◌++◌, length, map, Bool, true, false, Option, Some, None, Result, Ok, Err, Bor, refl, sym, ap, subst, take, get_or, ◌∙◌, arith, length-append, append_assoc}
 use Rattle.std.specs.Prelude.{◌==◌, ◌&&◌, if◌then◌else◌, not, IfOk, IfSome}
 use Rattle.std.specs.Result.{result_ok}
-use Rattle.std.specs.List.{All, flat_map, slice_split}
-use Rattle.std.proofs.lemmas.Bool.{eqb-true}
+use Rattle.std.specs.List.{All, list_all}
+use Rattle.std.specs.Str.Lines.{strip_carriage_return}
+use Rattle.std.proofs.lemmas.Bool.{and_parts, eqb-true}
 use Rattle.std.proofs.lemmas.List.{append-nil}
 use Rattle.std.proofs.lemmas.List.Elements.{All-cons, All-head, All-nil, All-tail}
 use Rattle.std.proofs.lemmas.List.Splits.{slice_split_at, slice_split_none}
-use Rattle.std.proofs.lemmas.List.Sums.{AllPass-from_list_all}
 use Rattle.csv.specs.declared.parser.Action.{Action}
 use Rattle.csv.specs.declared.parser.Action.TheVariants as act
 use Rattle.csv.specs.declared.parser.State.{State}
@@ -23,7 +23,7 @@ use Rattle.mgn_setfile.specs.declared.fault.SetFault.{SetFault}
 use Rattle.mgn_params.specs.Tables.{Tables}
 use Rattle.mgn_setfile.specs.Fields.{Fault, Fields}
 use Rattle.mgn_setfile.specs.File.{Record, TellsFile, goes_on, judged, outcome, record_of_line, records_of, told}
-use Rattle.mgn_setfile.specs.Plain.{Gives, HasRead, given, is_plain, is_plain_byte}
+use Rattle.mgn_setfile.specs.Plain.{Gives, HasRead, given, is_plain, is_plain_byte, is_plain_line}
 use Rattle.mgn_setfile.proofs.FileLemmas.{no_more, version_of_one}
 use Rattle.mgn_setfile.proofs.LineLemmas.{IsFresh, none_left, reached_first}
 
@@ -47,38 +47,75 @@ is_inside b plain end =
 
 -- A text is its first line and, after an end of line, the rest.
 
-abbrev joined : List ℕ → Option (List ℕ) → List ℕ
-joined line None = line
-joined line (Some rest) = line ++ 10 ∷ rest
+abbrev end_and : Option (List ℕ) → List ℕ
+end_and None = []
+end_and (Some rest) = 10 ∷ rest
 
 abbrev after : Option (List ℕ) → List ℕ
 after None = []
 after (Some rest) = rest
 
-abbrev IsPlain : List ℕ → Type 0
-IsPlain text = All (λ b. is_plain_byte b ≡ true) text
+abbrev NoEnd : List ℕ → Type 0
+NoEnd line = All (λ b. (b == 10) ≡ false) line
 
 record IsCut (text line : List ℕ) (rest : Option (List ℕ)) : Type 0 where
-  parts : text ≡ joined line rest
-  within : All IsInside line
-  later : IfSome rest IsPlain
+  parts : text ≡ line ++ end_and rest
+  within : NoEnd line
 
 abbrev Cut : List ℕ → Type 0
 Cut text = (line : List ℕ) × (rest : Option (List ℕ)) × IsCut text line rest
 
-joined_more : (b : ℕ) (line : List ℕ) (rest : Option (List ℕ)) → b ∷ joined line rest ≡ joined (b ∷ line) rest
-joined_more b line None = refl
-joined_more b line (Some rest) = refl
-
-cut : (text : List ℕ) → IsPlain text → Cut text
-cut [] plain = ([], None, record { parts = refl; within = All-nil IsInside; later = tt })
-cut (b ∷ text) plain = by (b == 10) refl (cut text (All-tail (λ x. is_plain_byte x ≡ true) b text plain))
+cut : (text : List ℕ) → Cut text
+cut [] = ([], None, record { parts = refl; within = All-nil (λ b. (b == 10) ≡ false) })
+cut (b ∷ text) = by (b == 10) refl (cut text)
   where
     by : (end : Bool) → (b == 10) ≡ end → Cut text → Cut (b ∷ text)
-    by true e more = ([], Some text, record { parts = ap (λ (x : ℕ). x ∷ text) (eqb-true b 10 e); within = All-nil IsInside; later = All-tail (λ x. is_plain_byte x ≡ true) b text plain })
-    by false e more =
-        let here = is_inside b (All-head (λ x. is_plain_byte x ≡ true) b text plain) e in
-        (b ∷ more.0, more.1, record { parts = ap (λ (xs : List ℕ). b ∷ xs) more.2.parts ∙ joined_more b more.0 more.1; within = All-cons IsInside b more.0 here more.2.within; later = more.2.later })
+    by true e more = ([], Some text, record { parts = ap (λ (x : ℕ). x ∷ text) (eqb-true b 10 e); within = All-nil (λ x. (x == 10) ≡ false) })
+    by false e more = (b ∷ more.0, more.1, record { parts = ap (λ (xs : List ℕ). b ∷ xs) more.2.parts; within = All-cons (λ x. (x == 10) ≡ false) b more.0 e more.2.within })
+
+-- A line is what is inside it and, maybe, a carriage return.
+
+abbrev return_if : Bool → List ℕ → List ℕ
+return_if true tail = 13 ∷ tail
+return_if false tail = tail
+
+record IsOpened (line inner : List ℕ) (returned : Bool) : Type 0 where
+  parts : (tail : List ℕ) → line ++ tail ≡ inner ++ return_if returned tail
+  inside : All IsInside inner
+
+abbrev Opened : List ℕ → Type 0
+Opened line = (inner : List ℕ) × (returned : Bool) × IsOpened line inner returned
+
+within_inner : (inner tail : List ℕ) → NoEnd (inner ++ tail) → list_all is_plain_byte inner ≡ true → All IsInside inner
+within_inner [] tail end plain = All-nil IsInside
+within_inner (b ∷ inner) tail end plain =
+    let both = and_parts (is_plain_byte b) (list_all is_plain_byte inner) plain in
+    All-cons IsInside b inner (is_inside b both.0 (All-head (λ x. (x == 10) ≡ false) b (inner ++ tail) end)) (within_inner inner tail (All-tail (λ x. (x == 10) ≡ false) b (inner ++ tail) end) both.1)
+
+-- the last byte of a line
+last_of : (b : ℕ) (line : List ℕ) → b ∷ line ≡ take (length line) (b ∷ line) ++ get_or (b ∷ line) (length line) 0 ∷ []
+last_of b [] = refl
+last_of b (c ∷ line) = ap (λ (xs : List ℕ). b ∷ xs) (last_of c line)
+
+stripped : (b : ℕ) (line : List ℕ) (returned : Bool) → (get_or (b ∷ line) (length line) 0 == 13) ≡ returned → strip_carriage_return (b ∷ line) ≡ (if returned then take (length line) (b ∷ line) else b ∷ line)
+stripped b line returned e =
+    let last : length (b ∷ line) - 1 ≡ length line = omega arith in
+    ap (λ (n : ℕ). if get_or (b ∷ line) n 0 == 13 then take n (b ∷ line) else b ∷ line) last ∙ ap (λ (r : Bool). if r then take (length line) (b ∷ line) else b ∷ line) e
+
+plain_inner : (b : ℕ) (line : List ℕ) (returned : Bool) → (get_or (b ∷ line) (length line) 0 == 13) ≡ returned → is_plain_line (b ∷ line) ≡ true
+    → list_all is_plain_byte (if returned then take (length line) (b ∷ line) else b ∷ line) ≡ true
+plain_inner b line returned e plain = ap (λ (xs : List ℕ). list_all is_plain_byte xs) (sym (stripped b line returned e)) ∙ plain
+
+opened : (line : List ℕ) → NoEnd line → is_plain_line line ≡ true → Opened line
+opened [] end plain = ([], false, record { parts = λ tail. refl; inside = All-nil IsInside })
+opened (b ∷ line) end plain = by (get_or (b ∷ line) (length line) 0 == 13) refl
+  where
+    by : (returned : Bool) → (get_or (b ∷ line) (length line) 0 == 13) ≡ returned → Opened (b ∷ line)
+    by false e = (b ∷ line, false, record { parts = λ tail. refl; inside = within_inner (b ∷ line) [] (subst NoEnd (sym (append-nil (b ∷ line))) end) (plain_inner b line false e plain) })
+    by true e =
+        let inner = take (length line) (b ∷ line) in
+        let whole : b ∷ line ≡ inner ++ 13 ∷ [] = last_of b line ∙ ap (λ (x : ℕ). inner ++ x ∷ []) (eqb-true (get_or (b ∷ line) (length line) 0) 13 e) in
+        (inner, true, record { parts = λ tail. ap (λ (xs : List ℕ). xs ++ tail) whole ∙ append_assoc inner (13 ∷ []) tail; inside = within_inner inner (13 ∷ []) (subst NoEnd whole end) (plain_inner b line true e plain) })
 
 -- Within a line each byte ends a field or joins one.
 
@@ -104,9 +141,19 @@ step_within false c inside = rw (inside.return, inside.end) (picked (c == 44))
 step_first : (c : ℕ) → IsInside c → step default_config st.StartRecord c ≡ does_all (c == 44)
 step_first c inside = rw (inside.return, inside.end, inside.quote) (picked (c == 44))
 
--- the rest of a line ends a record, the same one whether an end of line follows or the text ends
+-- the state after a line
+abbrev state_after : Bool → State
+state_after true = st.AfterCr
+state_after false = st.StartRecord
+
+-- what follows a carriage return, or an end of line
+abbrev left_after : Bool → Option (List ℕ) → List ℕ
+left_after true rest = end_and rest
+left_after false rest = after rest
+
+-- the rest of a line ends a record, the same one whether a carriage return follows, an end of line does or the text ends
 abbrev Ends : State → Fields → List ℕ → List ℕ → Type 0
-Ends s fields field line = (g : Fields) × ((rest : Option (List ℕ)) → next_record default_config s fields field (joined line rest) ≡ Some (g, st.StartRecord, after rest))
+Ends s fields field line = (g : Fields) × ((r : Bool) (rest : Option (List ℕ)) → next_record default_config s fields field (line ++ return_if r (end_and rest)) ≡ Some (g, state_after r, left_after r rest))
 
 not_at_end : (b : Bool) → is_end (does b) ≡ false
 not_at_end true = refl
@@ -115,17 +162,19 @@ not_at_end false = refl
 ends_more : (s : State) (c : ℕ) (fields : Fields) (field line : List ℕ) → step default_config s c ≡ does_all (c == 44)
     → Ends (between (c == 44)) (fields_after (does (c == 44)) fields field) (field_after (does (c == 44)) c field) line → Ends s fields field (c ∷ line)
 unfolding next_record
-ends_more s c fields field line e more = (more.0, λ rest. rw (← joined_more c line rest, e, not_at_end (c == 44)) (more.1 rest))
+ends_more s c fields field line e more = (more.0, λ r rest. rw (e, not_at_end (c == 44)) (more.1 r rest))
 
 ends : (b : Bool) (fields : Fields) (field line : List ℕ) → All IsInside line → Ends (between b) fields field line
 unfolding next_record
 ends b fields field [] inside = (fields ++ field ∷ [], by b)
   where
-    by : (b : Bool) (rest : Option (List ℕ)) → next_record default_config (between b) fields field (joined [] rest) ≡ Some (fields ++ field ∷ [], st.StartRecord, after rest)
-    by true None = refl
-    by true (Some rest) = refl
-    by false None = refl
-    by false (Some rest) = refl
+    by : (b r : Bool) (rest : Option (List ℕ)) → next_record default_config (between b) fields field (return_if r (end_and rest)) ≡ Some (fields ++ field ∷ [], state_after r, left_after r rest)
+    by true true rest = refl
+    by true false None = refl
+    by true false (Some rest) = refl
+    by false true rest = refl
+    by false false None = refl
+    by false false (Some rest) = refl
 ends b fields field (c ∷ line) inside =
     ends_more (between b) c fields field line (step_within b c (All-head IsInside c line inside)) (ends (c == 44) (fields_after (does (c == 44)) fields field) (field_after (does (c == 44)) c field) line (All-tail IsInside c line inside))
 
@@ -140,73 +189,122 @@ unmarked b [] e = refl
 unmarked b (c ∷ []) e = refl
 unmarked b (c ∷ d ∷ bs) e = rw e refl
 
-unmarked_text : (text : List ℕ) → is_plain text ≡ true → strip_bom text ≡ text
+unmarked_inner : (inner tail : List ℕ) → All IsInside inner → (r : Bool) (rest : Option (List ℕ)) → tail ≡ return_if r (end_and rest) → strip_bom (inner ++ tail) ≡ inner ++ tail
 unfolding strip_bom
-unmarked_text [] plain = refl
-unmarked_text (b ∷ bs) plain =
-    let here = All-head (λ x. is_plain_byte x ≡ true) b bs (AllPass-from_list_all is_plain_byte (b ∷ bs) plain) in
-    unmarked b bs (none_of (b == 34) (b == 13) (b == 239) here).2
+unmarked_inner [] tail inside true rest e = rw e (unmarked 13 (end_and rest) refl)
+unmarked_inner [] tail inside false None e = rw e refl
+unmarked_inner [] tail inside false (Some rest) e = rw e (unmarked 10 rest refl)
+unmarked_inner (b ∷ inner) tail inside r rest e = unmarked b (inner ++ tail) (All-head IsInside b inner inside).mark
 
 nothing_left : (n : ℕ) → records_from default_config n st.StartRecord [] ≡ []
 unfolding next_record
 nothing_left n = none_left n st.StartRecord [] refl
 
 -- what comes first of a text, and then the records of the rest
-records_first : (n : ℕ) (text rest : List ℕ) (f : Fields) → next_record default_config st.StartRecord [] [] text ≡ Some (f, st.StartRecord, rest)
-    → records_from default_config (suc n) st.StartRecord text ≡ f ∷ records_from default_config n st.StartRecord rest
+records_first : (n : ℕ) (text rest : List ℕ) (f : Fields) (s : State) → next_record default_config st.StartRecord [] [] text ≡ Some (f, s, rest)
+    → records_from default_config (suc n) st.StartRecord text ≡ f ∷ records_from default_config n s rest
 unfolding records_from
-records_first n text rest f e = rw e refl
+records_first n text rest f s e = rw e refl
+
+-- an end of line before a record, a carriage return there, and an end of line after a carriage return
+skipped : (n : ℕ) (rest : Option (List ℕ)) → records_from default_config n st.StartRecord (end_and rest) ≡ records_from default_config n st.StartRecord (after rest)
+unfolding records_from next_record
+skipped n None = refl
+skipped zero (Some rest) = refl
+skipped (suc n) (Some rest) = refl
+
+returned_first : (n : ℕ) (r : Bool) (tail : List ℕ) → records_from default_config n st.StartRecord (return_if r tail) ≡ records_from default_config n st.StartRecord tail
+unfolding records_from next_record
+returned_first n false tail = refl
+returned_first zero true tail = refl
+returned_first (suc n) true tail = refl
+
+gone_on : (n : ℕ) (r : Bool) (rest : Option (List ℕ)) → records_from default_config n (state_after r) (left_after r rest) ≡ records_from default_config n st.StartRecord (after rest)
+unfolding records_from next_record
+gone_on n false rest = refl
+gone_on zero true rest = refl
+gone_on (suc n) true None = refl
+gone_on (suc n) true (Some rest) = refl
 
 -- a line gives its record
-line_record : (c : ℕ) (line : List ℕ) (inside : All IsInside (c ∷ line)) → record_of_line (c ∷ line) ≡ Some (line_ends c line inside).0 ∷ []
+line_record : (c : ℕ) (inner : List ℕ) (r : Bool) (inside : All IsInside (c ∷ inner)) → record_of_line (c ∷ inner ++ return_if r []) ≡ Some (line_ends c inner inside).0 ∷ []
 unfolding record_of_line
-line_record c line inside =
-    let first = line_ends c line inside in
-    let more : length (c ∷ line) + 1 ≡ suc (length line + 1) = omega arith in
-    rw (unmarked c line (All-head IsInside c line inside).mark, more, records_first (length line + 1) (c ∷ line) [] first.0 (first.1 None), nothing_left (length line + 1)) refl
+line_record c inner r inside =
+    let first = line_ends c inner inside in
+    let line = c ∷ inner ++ return_if r [] in
+    let more : length line + 1 ≡ suc (length (inner ++ return_if r []) + 1) = omega arith in
+    rw (unmarked c (inner ++ return_if r []) (All-head IsInside c inner inside).mark, more, records_first (length (inner ++ return_if r []) + 1) line (left_after r None) first.0 (state_after r) (first.1 r None), gone_on (length (inner ++ return_if r []) + 1) r None, nothing_left (length (inner ++ return_if r []) + 1)) refl
 
-no_record : record_of_line [] ≡ []
+no_record : (r : Bool) → record_of_line (return_if r []) ≡ []
 unfolding record_of_line strip_bom records_from next_record
-no_record = refl
+no_record true = refl
+no_record false = refl
 
-skipped : (n : ℕ) (rest : List ℕ) → records_from default_config (suc n) st.StartRecord (10 ∷ rest) ≡ records_from default_config (suc n) st.StartRecord rest
-unfolding records_from next_record
-skipped n rest = refl
+-- what a line gives, and then what the rest of the text does
+abbrev first_of : List (Option Fields) → Option (List ℕ) → List (Option Fields)
+first_of before None = before
+first_of before (Some rest) = before ++ records_of rest
 
--- what the lines of a text give
-abbrev by_lines : List ℕ → List (Option Fields)
-by_lines text = flat_map record_of_line (slice_split (λ b. b == 10) text)
+by_line : (line : List ℕ) (rest : Option (List ℕ)) → NoEnd line → records_of (line ++ end_and rest) ≡ first_of (record_of_line line) rest
+by_line line None end = rw (append-nil line, slice_split_none (λ b. b == 10) line end) (append-nil (record_of_line line))
+by_line line (Some rest) end = rw (slice_split_at (λ b. b == 10) line 10 rest end refl) refl
 
-all_within : (line : List ℕ) → All IsInside line → All (λ b. (b == 10) ≡ false) line
-all_within line inside k d here = (inside k d here).end
+plain_parts : (line : List ℕ) (rest : Option (List ℕ)) → NoEnd line → is_plain (line ++ end_and rest) ≡ true → (is_plain_line line ≡ true) × IfSome rest (λ ys. is_plain ys ≡ true)
+plain_parts line None end plain =
+    let whole = rw (append-nil line, slice_split_none (λ b. b == 10) line end) at plain in
+    ((and_parts (is_plain_line line) true whole).0, tt)
+plain_parts line (Some rest) end plain =
+    let whole = rw (slice_split_at (λ b. b == 10) line 10 rest end refl) at plain in
+    and_parts (is_plain_line line) (is_plain rest) whole
+
+unmarked_text : (text : List ℕ) → is_plain text ≡ true → strip_bom text ≡ text
+unmarked_text text plain =
+    let first = cut text in
+    let line = first.0 in
+    let rest = first.1 in
+    let parts = plain_parts line rest first.2.within (rw first.2.parts at plain) in
+    let split = opened line first.2.within parts.0 in
+    let whole = first.2.parts ∙ split.2.parts (end_and rest) in
+    rw whole (unmarked_inner split.0 (return_if split.1 (end_and rest)) split.2.inside split.1 rest refl)
 
 abbrev SameUpTo : ℕ → Type 0
-SameUpTo k = (n : ℕ) (text : List ℕ) → IsPlain text → length text < k → length text < n → by_lines text ≡ map Some (records_from default_config n st.StartRecord text)
+SameUpTo k = (n : ℕ) (text : List ℕ) → is_plain text ≡ true → length text < k → length text < n → records_of text ≡ map Some (records_from default_config n st.StartRecord text)
 
-in_turn : (k n : ℕ) (line : List ℕ) (rest : Option (List ℕ)) → All IsInside line → IfSome rest IsPlain → SameUpTo k → length (joined line rest) < suc k → length (joined line rest) < suc n
-    → by_lines (joined line rest) ≡ map Some (records_from default_config (suc n) st.StartRecord (joined line rest))
-in_turn k n [] None inside later same short enough = rw (no_record, nothing_left (suc n)) refl
-in_turn k n [] (Some rest) inside later same short enough = rw (no_record, skipped n rest) (same (suc n) rest later (omega arith) (omega arith))
-in_turn k n (c ∷ line) None inside later same short enough =
-    let first = line_ends c line inside in
-    rw (slice_split_none (λ b. b == 10) (c ∷ line) (all_within (c ∷ line) inside), line_record c line inside, records_first n (c ∷ line) [] first.0 (first.1 None), nothing_left n) refl
-in_turn k n (c ∷ line) (Some rest) inside later same short enough =
-    let first = line_ends c line inside in
-    let fits = length-append (c ∷ line) (10 ∷ rest) in
-    rw (slice_split_at (λ b. b == 10) (c ∷ line) 10 rest (all_within (c ∷ line) inside) refl, line_record c line inside, records_first n ((c ∷ line) ++ 10 ∷ rest) rest first.0 (first.1 (Some rest)))
-    (ap (λ (rs : List (Option Fields)). Some first.0 ∷ rs) (same n rest later (omega arith) (omega arith)))
+abbrev SameRest : ℕ → Option (List ℕ) → Type 0
+SameRest n rest = (before : List (Option Fields)) → first_of before rest ≡ before ++ map Some (records_from default_config n st.StartRecord (after rest))
+
+same_rest : (k n : ℕ) (rest : Option (List ℕ)) → IfSome rest (λ ys. is_plain ys ≡ true) → SameUpTo k → length (end_and rest) < suc k → length (end_and rest) < suc n → SameRest n rest
+same_rest k n None later same short enough before = rw (nothing_left n) (sym (append-nil before))
+same_rest k n (Some rest) later same short enough before = ap (λ (rs : List (Option Fields)). before ++ rs) (same n rest later (omega arith) (omega arith))
+
+in_turn : (n : ℕ) (inner : List ℕ) (r : Bool) (rest : Option (List ℕ)) → All IsInside inner → SameRest n rest → SameRest (suc n) rest
+    → first_of (record_of_line (inner ++ return_if r [])) rest ≡ map Some (records_from default_config (suc n) st.StartRecord (inner ++ return_if r (end_and rest)))
+in_turn n [] r rest inside same whole = rw (no_record r, returned_first (suc n) r (end_and rest), skipped (suc n) rest) (whole [])
+in_turn n (c ∷ inner) r rest inside same whole =
+    let first = line_ends c inner inside in
+    rw (line_record c inner r inside, records_first n (c ∷ inner ++ return_if r (end_and rest)) (left_after r rest) first.0 (state_after r) (first.1 r rest), gone_on n r rest) (same (Some first.0 ∷ []))
 
 same_up_to : (k : ℕ) → SameUpTo k
 same_up_to zero n text plain short enough = absurd (omega arith)
 same_up_to (suc k) zero text plain short enough = absurd (omega arith)
 same_up_to (suc k) (suc n) text plain short enough =
-    let first = cut text plain in
+    let first = cut text in
+    let line = first.0 in
+    let rest = first.1 in
     let parts = first.2.parts in
-    rw parts (in_turn k n first.0 first.1 first.2.within first.2.later (same_up_to k) (rw parts at short) (rw parts at enough))
+    let size : length text ≡ length line + length (end_and rest) = ap length parts ∙ length-append line (end_and rest) in
+    let halves = plain_parts line rest first.2.within (rw parts at plain) in
+    let split = opened line first.2.within halves.0 in
+    let same = same_rest k n rest halves.1 (same_up_to k) (omega arith) (omega arith) in
+    let whole = same_rest k (suc n) rest halves.1 (same_up_to k) (omega arith) (omega arith) in
+    let alone = sym (append-nil line) ∙ split.2.parts [] in
+    ap (λ (ys : List ℕ). records_of ys) parts ∙ by_line line rest first.2.within
+    ∙ ap (λ (ys : List ℕ). first_of (record_of_line ys) rest) alone ∙ in_turn n split.0 split.1 rest split.2.inside same whole
+    ∙ ap (λ (ys : List ℕ). map Some (records_from default_config (suc n) st.StartRecord ys)) (sym (parts ∙ split.2.parts (end_and rest)))
 
 -- the records of a plain text are those that a reader of the whole finds
 pub records_of_plain : (n : ℕ) (text : List ℕ) → is_plain text ≡ true → length text < n → records_of text ≡ map Some (records_from default_config n st.StartRecord text)
-records_of_plain n text plain enough = same_up_to (length text + 1) n text (AllPass-from_list_all is_plain_byte text plain) (omega arith) enough
+records_of_plain n text plain enough = same_up_to (length text + 1) n text plain (omega arith) enough
 
 pub starts : (text : List ℕ) (reader : Reader (Bor (List ℕ))) → is_plain text ≡ true → IsFresh given reader (strip_bom text) → reader.trim ≡ trim.None → Ready reader → HasRead text reader None []
 unfolding Reached

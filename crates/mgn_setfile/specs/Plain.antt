@@ -1,7 +1,8 @@
 -- Files that one reader reads, and what it has read of one.
 use Rattle.std.specs.Borrow.{Bor}
 use Rattle.std.specs.Prelude.{◌≡◌, ℕ, ◌==◌, ◌&&◌, Bool, List, [], ◌++◌, Option, None, Some, not, length, map}
-use Rattle.std.specs.List.{list_all}
+use Rattle.std.specs.List.{list_all, slice_split}
+use Rattle.std.specs.Str.Lines.{strip_carriage_return}
 use Rattle.csv.specs.declared.parser.State.TheVariants as st
 use Rattle.csv.specs.declared.reader.Reader.{Reader}
 use Rattle.csv.specs.declared.reader.Trim.TheVariants as trim
@@ -10,12 +11,16 @@ use Rattle.mgn_setfile.specs.declared.draft.Draft.{Draft}
 use Rattle.mgn_setfile.specs.Fields.{Fields}
 use Rattle.mgn_setfile.specs.File.{Record, outcome, records_of, told, version_left, version_told}
 
--- No quote, no carriage return, no first byte of a byte order mark: one reader finds in such a text what readers of its lines find.
+-- No quote and no first byte of a byte order mark, and a carriage return only as the last byte of a line: one reader finds in such
+-- a text what readers of its lines find.
 abbrev pub is_plain_byte : ℕ → Bool
 is_plain_byte b = not (b == 34) && not (b == 13) && not (b == 239)
 
+abbrev pub is_plain_line : List ℕ → Bool
+is_plain_line line = list_all is_plain_byte (strip_carriage_return line)
+
 abbrev pub is_plain : List ℕ → Bool
-is_plain text = list_all is_plain_byte text
+is_plain text = list_all is_plain_line (slice_split (λ b. b == 10) text)
 
 -- the bytes that a slice gives
 abbrev pub given : Bor (List ℕ) → Option (List ℕ)

@@ -1,11 +1,12 @@
-//! A file without quotes, carriage returns and byte order marks, read by one reader: making one takes longer than most
-//! lines do.
+//! A file without quotes and byte order marks, whose lines end in LF or CR LF, read by one reader: making one takes longer
+//! than most lines do.
 
 ghost use Rattle.std.specs.Prelude.{◌≡◌, [], true, Ok, None, Some, IfSome, List};
-ghost use Rattle.std.specs.List.{list_all};
+ghost use Rattle.std.specs.List.{list_all, slice_split};
+ghost use Rattle.std.specs.Str.Lines.{strip_carriage_return};
 ghost use Rattle.mgn_setfile.specs.File.{outcome, records_of, version_told};
 ghost use Rattle.mgn_setfile.specs.Fields.{Fields};
-ghost use Rattle.mgn_setfile.specs.Plain.{Gives, HasRead, is_plain, is_plain_byte};
+ghost use Rattle.mgn_setfile.specs.Plain.{Gives, HasRead, is_plain, is_plain_byte, is_plain_line};
 
 use crate::draft::{Draft, SetFile};
 use crate::file::{add_first, add_next, file_of};
@@ -20,10 +21,29 @@ fn is_plain_byte(byte: u8) -> bool
     byte != b'"' && byte != b'\r' && byte != 0xEF
 }
 
+// A line without the carriage return at its end.
+fn without_return(line: &[u8]) -> &[u8]
+    ensures { result.now ≡ strip_carriage_return line.now }
+{
+    match line {
+        [inside @ .., b'\r'] => inside,
+        _ => line,
+    }
+}
+
+// Whether a line has plain bytes alone before the carriage return at its end. One that stands earlier may begin another
+// record of the line.
+fn is_plain_line(line: &[u8]) -> bool
+    ensures { result ≡ is_plain_line line.now }
+{
+    without_return(line).iter().all(|byte| is_plain_byte(*byte))
+}
+
+// Whether one reader finds in a text what readers of its lines find.
 pub(crate) fn is_plain(text: &[u8]) -> bool
     ensures { result ≡ is_plain text.now }
 {
-    text.iter().all(|byte| is_plain_byte(*byte))
+    text.split(|byte| *byte == b'\n').all(is_plain_line)
 }
 
 // The rest of the records of a plain text, after those that gave this much, and whether all of them passed and the text
