@@ -55,25 +55,24 @@ fn seated<'s, 't, 'r, 'a, R: Wait, T: Image, J: TableName + SlotNames>(
     alloc: Global,
     service: &'s Service<'a, T, J>,
     lines: &'t [String],
-) -> Result<Players<'s, 't, 'r, 'a, R, T, J>> {
-    let mut players = Vec::with_capacity(alloc, lines.len())?;
+) -> Option<Players<'s, 't, 'r, 'a, R, T, J>> {
+    let mut players = Vec::with_capacity(alloc, lines.len()).ok()?;
     for text in lines {
-        let Some(pass) = service.pass(rt) else {
-            bail!("there is no pass");
-        };
-        players.push(Player {
+        let player = Player {
             rt,
             service,
-            pass,
+            pass: service.pass(rt)?,
             lines: text.as_bytes(),
             reply: Vec::new(alloc),
             refused: 0,
-        })?;
+        };
+        players.push(player).ok()?;
     }
-    Ok(players)
+    Some(players)
 }
 
-// The nanoseconds that the sessions take for their rounds, with the day opened before.
+// The nanoseconds that the sessions take for their rounds, with the day opened before. None where a line is refused, memory is,
+// or there is no time.
 fn played<
     R: Threads + Wait + Clock + Sync,
     T: Image + Send + Sync,
@@ -85,25 +84,37 @@ fn played<
     table: &SetTable,
     opening: &str,
     lines: &[String],
-) -> Result<u128>
+) -> Option<u128>
     requires slots { slots.now ≡ J.slots }
     requires table { table.now ≡ J.table }
 {
-    let set = read_set(alloc, one().as_bytes())?;
-    let service = Service::<T, J>::new(rt, alloc, slots, table, set, 1)?;
+    let set = read_set(alloc, one().as_bytes()).ok()?;
+    let service = Service::<T, J>::new(rt, alloc, slots, table, set, 1).ok()?;
     let mut players = seated(rt, alloc, &service, lines)?;
     if let Some(first) = players.first_mut() {
         for line in opening.lines() {
             first.ask(line.as_bytes());
         }
     }
-    let start = Instant::now(rt)?;
+    let start = Instant::now(rt).ok()?;
     play_all(rt, players.as_mut_slice());
-    let elapsed = start.elapsed(rt)?.as_nanos();
+    let elapsed = start.elapsed(rt).ok()?.as_nanos();
     if players.iter().any(|player| player.refused != 0) {
-        bail!("a line was refused");
+        return None;
     }
-    Ok(elapsed)
+    Some(elapsed)
+}
+
+// The same over slots and a table of their own.
+fn timed<R: Threads + Wait + Clock + Sync>(
+    rt: &R,
+    alloc: Global,
+    opening: &str,
+    lines: &[String],
+) -> Option<u128> {
+    let slots = Slots::<DayImage>::new(alloc, SLOTS).ok()?;
+    let table = SetTable::new(alloc).ok()?;
+    played::<_, _, Brand>(rt, alloc, &slots, &table, opening, lines)
 }
 
 /// How many commands a second so many sessions get done.
@@ -117,9 +128,9 @@ pub(crate) fn measure<R: Threads + Wait + Clock + Sync>(
     for session in 0..sessions {
         lines.push(rounds(alloc, session)?)?;
     }
-    let slots = Slots::<DayImage>::new(alloc, SLOTS)?;
-    let table = SetTable::new(alloc)?;
-    let elapsed = played::<_, _, Brand>(rt, alloc, &slots, &table, opening.as_str(), &lines)?;
+    let Some(elapsed) = timed(rt, alloc, opening.as_str(), &lines) else {
+        bail!("a line was refused, or there was no memory or no time");
+    };
     let commands = u128::from(sessions) * u128::from(ROUNDS) * 4;
     Ok(commands * 1_000_000_000 / elapsed.max(1))
 }

@@ -1,4 +1,4 @@
-use Rattle.bench_seats.proofs.seats.measure.Given as goal
+use Rattle.bench_seats.proofs.seats.timed.Given as goal
 
 -- the slots and the table that were just made
 abbrev pub ghosts-played-J-TableName : goal.ghosts-played-J-TableName
