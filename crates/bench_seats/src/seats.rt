@@ -71,6 +71,17 @@ fn seated<'s, 't, 'r, 'a, R: Wait, T: Image, J: TableName + SlotNames>(
     Some(players)
 }
 
+fn has_refused<R: Wait, T: Image, J: TableName + SlotNames>(
+    players: &[Player<'_, '_, '_, '_, R, T, J>],
+) -> bool {
+    for player in players {
+        if player.refused != 0 {
+            return true;
+        }
+    }
+    false
+}
+
 // The nanoseconds that the sessions take for their rounds, with the day opened before. None where a line is refused, memory is,
 // or there is no time.
 fn played<
@@ -99,7 +110,7 @@ fn played<
     let start = Instant::now(rt).ok()?;
     play_all(rt, players.as_mut_slice());
     let elapsed = start.elapsed(rt).ok()?.as_nanos();
-    if players.iter().any(|player| player.refused != 0) {
+    if has_refused(&players) {
         return None;
     }
     Some(elapsed)
