@@ -50,7 +50,7 @@ fn check(rt: &impl Abort, alloc: Global, answer: Answer, reply: &str) {
 }
 
 // Makes the calls of some lines.
-fn play<R: Abort, E: Exec>(rt: &R, alloc: Global, seat: &mut E, lines: &[Answered]) {
+fn play<R: Abort, E: Exec>(rt: &R, alloc: Global, seat: &mut E, lines: &[(&str, &str)]) {
     for (line, reply) in lines {
         let Ok(Line::Do(command)) = read_line(line.as_bytes()) else {
             panic!(rt; "{line} is no command")
