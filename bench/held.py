@@ -10,6 +10,7 @@ counted, with all that they call. What is compiled into the service's own functi
 A customer has a position in each of 20 futures in four commodities. A switch is to a set with the same contracts, with 100 such
 customers, and is worked out on the thread of the session.
 """
+import collections
 import pathlib
 import re
 import subprocess
@@ -24,6 +25,8 @@ ABOVE = ("mgn_service::", "mgn_seat::", "mgn_session::", "seat_script::")
 UNDER = ("mgn_ledger::", "mgn_book::", "mgn_register::")
 # What an owner calls before the lock is there, or lets go of without it.
 OUTSIDE = re.compile(r"Destruct|::Ledger::new\b")
+# What a switch calls under the lock: a copy of all nets, and its commit.
+SWITCH_PARTS = ("gather", "enter_switch")
 COUNT = 200
 SWITCHES = 10
 CUSTOMERS = 100
@@ -51,8 +54,8 @@ def kinds():
 
 
 def held_in(lines):
-    """Returns the instructions of a run as callgrind tells them: all, and those of calls under the lock."""
-    everything = held = 0
+    """Returns the instructions of a run as callgrind tells them: all, and those of calls under the lock, by what is called."""
+    everything, held = 0, collections.Counter()
     caller = callee = ""
     is_call = False
     for line in lines:
@@ -67,7 +70,7 @@ def held_in(lines):
         elif is_call:
             is_call = False
             if caller.startswith(ABOVE) and callee.startswith(UNDER) and not OUTSIDE.search(callee):
-                held += int(line.split()[1])
+                held[re.sub(r"::<.*", "", callee).rpartition("::")[2]] += int(line.split()[1])
     return everything, held
 
 
@@ -94,7 +97,11 @@ def main(words):
             everything, held = counted(program, room, before + asked)
             if held == held_without:
                 sys.exit(f"{name}: no call under the lock was found: the program has no such names")
-            print(f"| {name} | {(everything - without) // len(asked):,} | {(held - held_without) // len(asked):,} |", flush=True)
+            each = {what: (held[what] - held_without[what]) // len(asked) for what in held}
+            print(f"| {name} | {(everything - without) // len(asked):,} | {sum(each.values()):,} |", flush=True)
+            parts = [(what, each[what]) for what in SWITCH_PARTS if each.get(what)] if name == "SWITCH" else []
+            for what, count in parts:
+                print(f"| .. in `{what}` | | {count:,} |", flush=True)
 
 
 if __name__ == "__main__":

@@ -1,21 +1,28 @@
 #!/usr/bin/env python3
 """Times the server with several sessions beside a script of the same lines.
 
-Usage: bench/serve.py [PROGRAM] [--lines N] [--runs R]
+Usage: bench/serve.py [PROGRAM] [--contracts N] [--lines N] [--runs R]
 
-Each session trades, holds, releases and asks in an account of its own, sends all its lines ahead, and reads the replies. The
-lines are the same for every number of sessions, dealt out to them. Times are the least of the runs, in turn. The last column is
-how many commands a second there are for one of the one session.
+Each session trades, holds, releases and asks in accounts of its own, in contracts at random of a set of 50 commodities. It sends
+all its lines ahead, and reads the replies, in a process of its own. The lines are the same for every number of sessions, dealt
+out to them. Times are the least of the runs, in turn. The last column is how many commands a second there are for one of the one
+session.
 """
 import argparse
+import multiprocessing
 import pathlib
+import random
 import socket
 import subprocess
+import tempfile
 import threading
 import time
 
+import desks
+
 TOP = pathlib.Path(__file__).resolve().parent.parent
 ACCOUNTS = 16
+COMMODITIES = 50
 
 
 def opening():
@@ -25,12 +32,13 @@ def opening():
     return lines
 
 
-def lines_of(account, count):
+def lines_of(account, count, contracts):
     """Returns so many lines in an account: a trade, an order, its release and a question in turn."""
-    name, lines = f"A{account}", []
+    name, lines, pick = f"A{account}", [], random.Random(account)
     for turn in range(1, count // 4 + 1):
-        contract, quantity = ("AAA1", "AAA2", "BBB1")[turn % 3], 1 if turn % 2 else -1
-        lines += [f"TRADE {name} {turn} {contract} {quantity} 0", f"HOLD {name} {turn} {contract} {quantity} 0",
+        traded, held = pick.randrange(contracts), pick.randrange(contracts)
+        quantity = 1 if turn % 2 else -1
+        lines += [f"TRADE {name} {turn} F{traded} {quantity} 0", f"HOLD {name} {turn} F{held} {quantity} 0",
                   f"RELEASE {name} {turn}", f"ASK {name}"]
     return lines
 
@@ -39,9 +47,9 @@ def text(lines):
     return "".join(f"{line}\n" for line in lines).encode()
 
 
-def time_of_script(program, parts):
+def time_of_script(program, folder, parts):
     """Returns the seconds that a script of all lines takes, less those of the opening alone."""
-    words = [program, "script", "--dir", TOP / "sets", "--set", "ONE"]
+    words = [program, "script", "--dir", folder, "--set", "BENCH"]
     seconds = []
     for lines in (text(opening()), text(opening()) + b"".join(parts)):
         began = time.monotonic()
@@ -60,21 +68,21 @@ def exchange(connection, lines):
     sender.join()
 
 
-def time_of_server(program, parts, sessions):
+def time_of_server(program, folder, parts, sessions):
     """Returns the seconds from the first line after the opening to the last reply, of so many sessions."""
     with socket.create_server(("127.0.0.1", 0)) as it:
         port = it.getsockname()[1]
-    words = [program, "serve", "--dir", TOP / "sets", "--set", "ONE", "--port", str(port), "--sessions", str(sessions)]
+    words = [program, "serve", "--dir", folder, "--set", "BENCH", "--port", str(port), "--sessions", str(sessions)]
     with subprocess.Popen(words, stdout=subprocess.PIPE) as server:
         server.stdout.readline()
         connections = [socket.create_connection(("127.0.0.1", port)) for _ in range(sessions)]
         exchange(connections[0], text(opening()))
         dealt = [b"".join(parts[at::sessions]) for at in range(sessions)]
-        threads = [threading.Thread(target=exchange, args=it) for it in zip(connections, dealt)]
+        clients = [multiprocessing.Process(target=exchange, args=it) for it in zip(connections, dealt)]
         began = time.monotonic()
-        for it in threads:
+        for it in clients:
             it.start()
-        for it in threads:
+        for it in clients:
             it.join()
         seconds = time.monotonic() - began
         for it in connections:
@@ -86,16 +94,19 @@ def time_of_server(program, parts, sessions):
 def main():
     parser = argparse.ArgumentParser(description="Times spand serve beside spand script.")
     parser.add_argument("program", nargs="?", default=TOP / "crates/spand/out/spand")
+    parser.add_argument("--contracts", type=int, default=2000)
     parser.add_argument("--lines", type=int, default=640_000)
     parser.add_argument("--runs", type=int, default=3)
     words = parser.parse_args()
-    parts = [text(lines_of(account, words.lines // ACCOUNTS)) for account in range(ACCOUNTS)]
-    ways = {"script": lambda: time_of_script(words.program, parts)}
-    ways |= {f"{it} sessions": lambda it=it: time_of_server(words.program, parts, it) for it in (1, 2, 4, 16)}
-    least = {name: float("inf") for name in ways}
-    for _ in range(words.runs):
-        for name, way in ways.items():
-            least[name] = min(least[name], way())
+    parts = [text(lines_of(account, words.lines // ACCOUNTS, words.contracts)) for account in range(ACCOUNTS)]
+    with tempfile.TemporaryDirectory() as folder:
+        (pathlib.Path(folder) / "BENCH.csv").write_text(desks.set_file(COMMODITIES, words.contracts))
+        ways = {"script": lambda: time_of_script(words.program, folder, parts)}
+        ways |= {f"{it} sessions": lambda it=it: time_of_server(words.program, folder, parts, it) for it in (1, 2, 4, 16)}
+        least = {name: float("inf") for name in ways}
+        for _ in range(words.runs):
+            for name, way in ways.items():
+                least[name] = min(least[name], way())
     for name, seconds in least.items():
         print(f"{name:12} {seconds:7.3f} s {words.lines / seconds:12,.0f} a second {least['1 sessions'] / seconds:6.2f}")
 

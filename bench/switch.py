@@ -5,7 +5,9 @@ Usage: bench/switch.py [PROGRAM] [--units N] [--contracts N] [--switches N]
 
 One session has so many units of 40 contracts each, under a set of 2,000 contracts in 50 commodities, and switches to and fro
 between two such sets. Another one trades and asks in a unit of its own, one line at a time. Told are, in milliseconds: how long
-the switches took, and the longest wait of the other session for a reply, in each switch and in as long a time without one.
+the switches took, and the longest wait of the other session for a reply, in each switch and in as long a time without one. A
+switch holds the book twice, to copy all nets and for its commit: of the two longest waits beside it the earlier one and the
+later one are told, too.
 """
 import argparse
 import pathlib
@@ -60,9 +62,19 @@ class Trader(threading.Thread):
                     raise SystemExit(f"{line}: {reply}")
                 self.waits.append((time.perf_counter(), seconds))
 
+    def waits_in(self, since, until):
+        """Returns the waits that were under way in a time, in milliseconds, in their order."""
+        return [1000 * took for end, took in list(self.waits) if end >= since and end - took <= until] or [0.0]
+
     def longest(self, since, until):
-        """Returns the longest wait of those that were under way in a time, in milliseconds."""
-        return 1000 * max((took for end, took in self.waits if end >= since and end - took <= until), default=0.0)
+        """Returns the longest of them."""
+        return max(self.waits_in(since, until))
+
+    def two_longest(self, since, until):
+        """Returns the two longest of them, the earlier one first."""
+        waits = [*self.waits_in(since, until), 0.0]
+        places = sorted(sorted(range(len(waits)), key=lambda place: -waits[place])[:2])
+        return [waits[place] for place in places]
 
 
 def opening(units, contracts):
@@ -98,7 +110,7 @@ def main():
         serve.exchange(first.socket, serve.text(opening(words.units, words.contracts)))
         trader = Trader(second)
         trader.start()
-        took, beside, alone = [], [], []
+        took, beside, alone, twice = [], [], [], []
         for turn in range(words.switches):
             time.sleep(0.2)
             since = time.perf_counter()
@@ -108,13 +120,16 @@ def main():
             time.sleep(0.05)
             took.append(1000 * seconds)
             beside.append(trader.longest(since, since + seconds))
+            twice.append(trader.two_longest(since, since + seconds))
             alone.append(trader.longest(since - seconds, since))
         trader.is_over = True
         trader.join()
         first.socket.close()
         second.socket.close()
         server.wait()
-    for name, row in (("switches", took), ("longest wait beside one", beside), ("longest wait without one", alone)):
+    first, second = zip(*twice)
+    rows = [("switches", took), ("longest wait beside one", beside), ("longest wait without one", alone)]
+    for name, row in [*rows, ("earlier of the two longest", first), ("later of the two longest", second)]:
         print(f"{name:26} median {statistics.median(row):8.2f}  most {max(row):8.2f} ms")
 
 

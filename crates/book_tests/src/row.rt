@@ -27,6 +27,7 @@ fn side(
 ) -> Result<PortfolioRow, AllocError>
     ensures { IfOk result (IsPortfolioRow set.now) }
 {
+    set.limits();
     Ok(PortfolioRow {
         nets: Nets::flat(alloc, set.contract_count())?,
         worth: Cents::new(i128::from(worth)),
@@ -38,6 +39,7 @@ fn side(
 fn row(alloc: Global, set: &ParamSet) -> Result<Row, AllocError>
     ensures { IfOk result (IsRow set.now) }
 {
+    set.limits();
     let sizes = Nets::flat(alloc, set.contract_count())?;
     let lots = side(alloc, set, 900, 300)?;
     let buys = side(alloc, set, 900, 900)?;
@@ -175,6 +177,7 @@ fn nets_of(alloc: Global, set: &ParamSet, quantity: i8) -> Result<Nets, AllocErr
     ensures one_each { IfOk result (λ nets. length nets ≡ length set.now.contracts) }
     ensures small { IfOk result (λ nets. All IsNet nets) }
 {
+    set.limits();
     let mut nets = Nets::flat(alloc, set.contract_count())?;
     nets.add(0, Quantity::new(i64::from(quantity)));
     Ok(nets)
@@ -186,7 +189,7 @@ fn prepared(alloc: Global, set: &ParamSet, quantity: i8) -> Result<PreparedPortf
     ensures { IfOk result (IsPreparedPortfolio set.now) }
 {
     let nets = nets_of(alloc, set, quantity)?;
-    let requirement = requirement(alloc, set, nets.as_slice(), &mut Work::new())?;
+    let requirement = requirement(alloc, set, &nets.to_vec(alloc)?, &mut Work::new())?;
     Ok(PreparedPortfolio { nets, requirement })
 }
 

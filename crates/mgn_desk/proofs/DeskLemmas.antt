@@ -1,6 +1,6 @@
 -- What callers of a desk go by.
-use Rattle.std.proofs.Common.{◌≡◌, Bool, true, false, ℕ, ◌<◌, List, [], length, pos, ℤ, ap, sym, subst, arith, refl, Option, Some, None, get_or-set_same}
-use Rattle.std.specs.Prelude.{◌+ℤ◌, neg_ℤ, if◌then◌else◌}
+use Rattle.std.proofs.Common.{◌≡◌, ℕ, ◌<◌, List, [], length, pos, ℤ, ap, sym, subst, arith, refl, Option, Some, None, get_or-set_same}
+use Rattle.std.specs.Prelude.{◌+ℤ◌, neg_ℤ}
 use Rattle.std.proofs.lemmas.Int.{ints}
 use Rattle.mgn_params.specs.Tables.{Tables}
 use Rattle.mgn_span.specs.Positions.{IsNet}
@@ -10,7 +10,7 @@ use Rattle.mgn_desk.specs.declared.moves.Moves.{Moves}
 use Rattle.mgn_desk.specs.Desks.{AreNetsOf, CanMoveMarked, IsMarkedBy, MarkedNets, marked_nets, moved_marked}
 use Rattle.mgn_desk.specs.Kept.{IsPortfolio, Kept}
 use Rattle.mgn_desk.specs.Moved.{more_of}
-use Rattle.mgn_desk.specs.declared.branch.Branch.{Branch}
+use Rattle.mgn_desk.proofs.BranchLemmas.{branch_is}
 use Rattle.mgn_desk.specs.Portfolios.{AreFourNets, AreNets, CanMove, FourNets, branch_of, moved_by, nets_of, opposite}
 
 -- a desk whose nets stay within their limits
@@ -21,11 +21,6 @@ can_move_marked m (Some x) n are can = subst (λ (k : FourNets). CanMove m k) ar
 -- the nets of a desk are one for each contract and within their limit
 nets_are : (t : Tables) (p : Kept) → IsPortfolio t p → AreNets t p.nets
 nets_are t p is = record { one_each = is.ready.parts.totals.one_each; small = is.ready.parts.totals.small }
-
--- and so is what is kept of a branch
-branch_is : (t : Tables) (lots : Kept) (b : Branch) → IsPortfolio t lots → IsPortfolio t b.own → IsPortfolio t (branch_of lots b)
-branch_is t lots b is own =
-    elim b.apart as (λ (v : Bool). IsPortfolio t (if v then b.own else lots)) [ true ↦ own | false ↦ is ]
 
 pub marked_nets_are : (t : Tables) (marked : Option Marked) (n : FourNets) → IsMarkedBy t marked → AreNetsOf marked n → AreFourNets t n
 marked_nets_are t None n is are = absurd is

@@ -1,5 +1,5 @@
 -- A change of one net leaves the numbers of the other commodities as they were.
-use Rattle.std.proofs.Common.{◌≡◌, ◌≢◌, ℕ, ◌<◌, List, length, slice_set, pos, ℤ, unsigned_abs, ap, ◌∙◌, sym, arith, refl, ne_eqb}
+use Rattle.std.proofs.Common.{◌≡◌, ◌≢◌, ℕ, ◌<◌, List, length, slice_set, ℤ, ap, ◌∙◌, sym, arith, refl, ne_eqb}
 use Rattle.std.specs.Prelude.{◌+ℤ◌, ◌*ℤ◌}
 use Rattle.std.proofs.lemmas.Int.{ints}
 use Rattle.std.proofs.lemmas.List.FromFn.{length-map-range_with_len}
@@ -18,8 +18,7 @@ use Rattle.mgn_span.proofs.PositionLemmas.{position_count-set, position_sum-set}
 use Rattle.mgn_span.proofs.ScanLemmas.{price_risk2_same, scan_risk_same}
 use Rattle.mgn_span.proofs.ShareLemmas.{scenario_share_out, short_share_out}
 use Rattle.mgn_tiers.proofs.StartLemmas.{net_moved, starts_kept}
-use Rattle.mgn_desk.specs.Kept.{charge_of, net_deltas_of, price_risks_of}
-use Rattle.mgn_desk.proofs.RowLemmas.{row-set}
+use Rattle.mgn_desk.specs.Kept.{charge_of, SameBut}
 
 -- a net with a quantity more
 abbrev pub changed : List ℤ → ℕ → ℤ → List ℤ
@@ -40,7 +39,7 @@ price_risk_kept : (t : Tables) (nets : List ℤ) (i k : ℕ) (q : ℤ) → i < l
 price_risk_kept t nets i k q h long other =
     price_risk2_same (scenario_total k (positions t.contracts (changed nets i q))) (scenario_total k (positions t.contracts nets)) (λ s low. total_kept t nets i k s q h long other)
 
-pub minimum_kept : (t : Tables) (nets : List ℤ) (i k : ℕ) (q : ℤ) → i < length t.contracts → length nets ≡ length t.contracts → (contract_at t.contracts i).commodity ≢ k → minimum t (positions t.contracts (changed nets i q)) k ≡ minimum t (positions t.contracts nets) k
+minimum_kept : (t : Tables) (nets : List ℤ) (i k : ℕ) (q : ℤ) → i < length t.contracts → length nets ≡ length t.contracts → (contract_at t.contracts i).commodity ≢ k → minimum t (positions t.contracts (changed nets i q)) k ≡ minimum t (positions t.contracts nets) k
 minimum_kept t nets i k q h long other =
     let c = contract_at t.contracts i in
     let charge = (commodity_at t.commodities k).short_option_charge in
@@ -104,17 +103,15 @@ net_delta_kept t nets i k q limits h long other =
     ∙ net_delta_by-month_deltas t.months (positions t.contracts nets) k
 
 -- the risk before credits
-pub charge_kept : (t : Tables) (nets : List ℤ) (i k : ℕ) (q : ℤ) → IsWithinLimits t → i < length t.contracts → length nets ≡ length t.contracts → (contract_at t.contracts i).commodity ≢ k → charge_of t (positions t.contracts (changed nets i q)) k ≡ charge_of t (positions t.contracts nets) k
+charge_kept : (t : Tables) (nets : List ℤ) (i k : ℕ) (q : ℤ) → IsWithinLimits t → i < length t.contracts → length nets ≡ length t.contracts → (contract_at t.contracts i).commodity ≢ k → charge_of t (positions t.contracts (changed nets i q)) k ≡ charge_of t (positions t.contracts nets) k
 charge_kept t nets i k q limits h long other =
     rw (scan_kept t nets i k q h long other, intra_kept t nets i k q limits h long other, spot_kept t nets i k q limits h long other) refl
 
--- the rows of net deltas and price risks, of which those of the contract's commodity are written
-pub net_deltas_changed : (t : Tables) (nets : List ℤ) (i : ℕ) (q : ℤ) → IsWithinLimits t → i < length t.contracts → length nets ≡ length t.contracts → let g = (contract_at t.contracts i).commodity in let held = positions t.contracts (changed nets i q) in slice_set (net_deltas_of t (positions t.contracts nets)) g (net_delta t.months held g) ≡ net_deltas_of t held
-net_deltas_changed t nets i q limits h long =
-    let g = (contract_at t.contracts i).commodity in
-    row-set (pos 0) (net_delta t.months (positions t.contracts nets)) (net_delta t.months (positions t.contracts (changed nets i q))) (length t.commodities) g (limits.contracts i no_contract h).commodity (λ k low other. net_delta_kept t nets i k q limits h long (λ e. other (sym e)))
-
-pub price_risks_changed : (t : Tables) (nets : List ℤ) (i : ℕ) (q : ℤ) → IsWithinLimits t → i < length t.contracts → length nets ≡ length t.contracts → let g = (contract_at t.contracts i).commodity in let held = positions t.contracts (changed nets i q) in slice_set (price_risks_of t (positions t.contracts nets)) g (unsigned_abs (price_risk2 (scenario_total g held))) ≡ price_risks_of t held
-price_risks_changed t nets i q limits h long =
-    let g = (contract_at t.contracts i).commodity in
-    row-set 0 (λ k. unsigned_abs (price_risk2 (scenario_total k (positions t.contracts nets)))) (λ k. unsigned_abs (price_risk2 (scenario_total k (positions t.contracts (changed nets i q))))) (length t.commodities) g (limits.contracts i no_contract h).commodity (λ k low other. ap unsigned_abs (price_risk_kept t nets i k q h long (λ e. other (sym e))))
+-- and so the numbers of all other commodities
+pub same_but_changed : (t : Tables) (nets : List ℤ) (i : ℕ) (q : ℤ) → IsWithinLimits t → i < length t.contracts → length nets ≡ length t.contracts → SameBut t (contract_at t.contracts i).commodity nets (changed nets i q)
+same_but_changed t nets i q limits h long = record {
+  charges = λ k other. charge_kept t nets i k q limits h long (λ e. other (sym e));
+  net_deltas = λ k other. net_delta_kept t nets i k q limits h long (λ e. other (sym e));
+  price_risks = λ k other. price_risk_kept t nets i k q h long (λ e. other (sym e));
+  minimums = λ k other. minimum_kept t nets i k q h long (λ e. other (sym e));
+}

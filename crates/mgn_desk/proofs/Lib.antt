@@ -9,4 +9,5 @@ pub mod CreditLemmas
 pub mod KeptLemmas
 pub mod StartLemmas
 pub mod MovedLemmas
+pub mod BranchLemmas
 pub mod DeskLemmas

@@ -4,7 +4,7 @@ use Rattle.mgn_params.specs.Tables.{Tables}
 use Rattle.mgn_desk.specs.declared.desk.Marked.{Marked}
 use Rattle.mgn_desk.specs.declared.moves.Moves.{Moves}
 use Rattle.mgn_desk.specs.declared.moves.Requirements.{Requirements}
-use Rattle.mgn_desk.specs.Portfolios.{ArePortfolios, AreTogether, CanMove, FourNets, KeepsTogether, moved_by, nets_of, requirements_of}
+use Rattle.mgn_desk.specs.Portfolios.{ArePortfolios, AreRows, AreTogether, CanMove, FourNets, KeepsTogether, moved_by, nets_of, requirements_of}
 
 pub record DeskRows : Type 0 where
   pub unit : ℕ
@@ -50,6 +50,11 @@ moved_desk m d = record { unit = d.unit; marked = moved_marked m d.marked }
 abbrev pub IsMarkedBy : Tables → Option Marked → Type 0
 IsMarkedBy set None = ⊥
 IsMarkedBy set (Some m) = ArePortfolios set m.portfolios
+
+-- it is marked, with the rows that a set asks for
+abbrev pub HasRows : Tables → Option Marked → Type 0
+HasRows set None = ⊥
+HasRows set (Some m) = AreRows set m.portfolios
 
 -- it is marked, with these nets
 abbrev pub AreNetsOf : Option Marked → FourNets → Type 0

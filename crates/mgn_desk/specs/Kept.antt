@@ -1,17 +1,17 @@
 -- The nets of a portfolio with what is kept of them, commodity by commodity.
-use Rattle.std.specs.Prelude.{ℕ, ◌≡◌, ◌<◌, ℤ, pos, ◌+ℤ◌, ◌-ℤ◌, unsigned_abs, List, length, map, slice_index, All}
+use Rattle.std.specs.Prelude.{ℕ, ◌≡◌, ◌≢◌, ◌<◌, ℤ, pos, ◌+ℤ◌, ◌-ℤ◌, unsigned_abs, List, length, map, slice_index, All}
 use Rattle.std.specs.Int.{int_max}
 use Rattle.std.specs.List.{range_with_len}
 use Rattle.mgn_params.specs.Tables.{Tables}
 use Rattle.mgn_span.specs.Deltas.{month_delta, net_delta_from}
 use Rattle.mgn_span.specs.MonthDeltas.{month_deltas}
 use Rattle.mgn_span.specs.Positions.{Position, positions}
-use Rattle.mgn_span.specs.Requirement.{intra_charge, risk, scan_of, spot_charge}
+use Rattle.mgn_span.specs.Requirement.{intra_charge, minimum, risk, scan_of, spot_charge}
 use Rattle.mgn_span.specs.Scan.{price_risk2, scenario_total, value_at}
 use Rattle.mgn_scan.specs.Totals.{AreTotals}
 use Rattle.mgn_option.specs.Sums.{AreSums, Sums}
-use Rattle.mgn_tiers.specs.Tiers.{AreTiersOf, Tiers}
-use Rattle.mgn_inter.specs.Credited.{AreCreditsOf}
+use Rattle.mgn_tiers.specs.Tiers.{AreTierRows, AreTiersOf, Tiers}
+use Rattle.mgn_inter.specs.Credited.{AreCreditRows, AreCreditsOf}
 use Rattle.mgn_inter.specs.Rows.{Credited}
 use Rattle.mgn_desk.specs.Risks.{IsRisk}
 
@@ -25,6 +25,16 @@ pub record Kept : Type 0 where
   pub credits : Credited
   pub charges : List ℤ
   pub risks : List ℤ
+
+-- as many rows as a set has contracts, months, commodities and intercommodity spreads
+pub record ArePortfolioRows (set : Tables) (p : Kept) : Type 0 where
+  pub nets : length p.nets ≡ length set.contracts
+  pub totals : length p.totals ≡ length set.commodities
+  pub minimums : length p.sums.minimums ≡ length set.commodities
+  pub tiers : AreTierRows set p.tiers
+  pub credits : AreCreditRows set p.credits
+  pub charges : length p.charges ≡ length set.commodities
+  pub risks : length p.risks ≡ length set.commodities
 
 -- The numbers of each commodity.
 
@@ -75,6 +85,22 @@ pub record IsReady (set : Tables) (p : Kept) : Type 0 where
 pub record IsPortfolio (set : Tables) (p : Kept) : Type 0 where
   pub ready : IsReady set p
   pub risks : AreRisks set p.nets p.risks
+
+-- the numbers of the commodities but one are the same by some nets as by others
+pub record SameBut (set : Tables) (g : ℕ) (old new : List ℤ) : Type 0 where
+  pub charges : (k : ℕ) → k ≢ g → charge_of set (positions set.contracts new) k ≡ charge_of set (positions set.contracts old) k
+  pub net_deltas : (k : ℕ) → k ≢ g → net_delta_from set.months (month_delta (positions set.contracts new)) k ≡ net_delta_from set.months (month_delta (positions set.contracts old)) k
+  pub price_risks : (k : ℕ) → k ≢ g → price_risk2 (scenario_total k (positions set.contracts new)) ≡ price_risk2 (scenario_total k (positions set.contracts old))
+  pub minimums : (k : ℕ) → k ≢ g → minimum set (positions set.contracts new) k ≡ minimum set (positions set.contracts old) k
+
+-- what is kept is that of the nets, but for what hangs on the nets of one commodity, of which it is that of earlier ones
+pub record IsBehind (set : Tables) (g : ℕ) (p : Kept) : Type 0 where
+  pub was : List ℤ
+  pub parts : AreParts set p
+  pub credits : AreCreditsBy set was p.credits
+  pub charges : AreCharges set was p.charges
+  pub risks : AreRisks set was p.risks
+  pub others : SameBut set g was p.nets
 
 -- the risk of a commodity by what is kept: at least the minimum
 abbrev pub kept_risk : Kept → ℕ → ℤ

@@ -1,5 +1,5 @@
 -- The four portfolios of a margin unit under one set.
-use Rattle.std.specs.Prelude.{ℕ, ◌≡◌, ◌≤◌, ◌+◌, ◌^◌, if◌then◌else◌, false, ℤ, neg_ℤ, ◌+ℤ◌, unsigned_abs, List, length, All}
+use Rattle.std.specs.Prelude.{ℕ, ◌≡◌, ◌≤◌, ◌+◌, ◌^◌, if◌then◌else◌, true, false, ℤ, neg_ℤ, ◌+ℤ◌, unsigned_abs, List, length, All}
 use Rattle.mgn_params.specs.Tables.{Tables}
 use Rattle.mgn_span.specs.Positions.{IsNet}
 use Rattle.mgn_span.specs.Requirement.{requirement}
@@ -9,7 +9,7 @@ use Rattle.mgn_desk.specs.declared.moves.Requirements.{Requirements}
 use Rattle.mgn_desk.specs.declared.moves.UnitNets.{UnitNets}
 use Rattle.mgn_desk.specs.declared.branch.Branch.{Branch}
 use Rattle.mgn_desk.specs.declared.portfolios.Portfolios.{Portfolios}
-use Rattle.mgn_desk.specs.Kept.{IsPortfolio, Kept}
+use Rattle.mgn_desk.specs.Kept.{ArePortfolioRows, IsPortfolio, Kept}
 use Rattle.mgn_desk.specs.Moved.{arrays_of_quantity, more_of}
 
 -- the nets of each: the lots; with the held buys; with the held sales; with all holds
@@ -45,16 +45,28 @@ pub record AreFourNets (set : Tables) (n : FourNets) : Type 0 where
   pub sales : AreNets set n.sales
   pub all : AreNets set n.all
 
+-- each has the rows that a set asks for
+pub record AreRows (set : Tables) (p : Portfolios) : Type 0 where
+  pub lots : ArePortfolioRows set p.lots
+  pub buys : ArePortfolioRows set p.buys.own
+  pub sales : ArePortfolioRows set p.sales.own
+  pub all : ArePortfolioRows set p.all.own
+
+-- a branch has the rows that this set asks for, and is kept under it where it is apart
+pub record IsUnder (set : Tables) (b : Branch) : Type 0 where
+  pub rows : ArePortfolioRows set b.own
+  pub own : b.apart ≡ true → IsPortfolio set b.own
+
 -- each is kept under this set
 pub record ArePortfolios (set : Tables) (p : Portfolios) : Type 0 where
   pub lots : IsPortfolio set p.lots
-  pub buys : IsPortfolio set p.buys.own
-  pub sales : IsPortfolio set p.sales.own
-  pub all : IsPortfolio set p.all.own
+  pub buys : IsUnder set p.buys
+  pub sales : IsUnder set p.sales
+  pub all : IsUnder set p.all
 
 -- a branch beside lots: under this set, and with these nets wherever the lots have theirs
 pub record IsBranch (set : Tables) (lots row : List ℤ) (b : Branch) : Type 0 where
-  pub own : IsPortfolio set b.own
+  pub under : IsUnder set b
   pub nets : (p : Kept) → p.nets ≡ lots → (branch_of p b).nets ≡ row
 
 -- the branches with buys, sales and all of these nets

@@ -2,7 +2,7 @@ ghost use Rattle.std.specs.Prelude.{◌≡◌, ◌<◌, ◌+ℤ◌, length, true
 ghost use Rattle.mgn_params.specs.Tables.{Tables};
 ghost use Rattle.mgn_span.specs.Positions.{IsNet};
 ghost use Rattle.mgn_span.specs.Scan.{value_at};
-ghost use Rattle.mgn_desk.specs.Kept.{IsPortfolio, Kept};
+ghost use Rattle.mgn_desk.specs.Kept.{ArePortfolioRows, IsPortfolio, Kept};
 ghost use Rattle.mgn_desk.specs.Moved.{arrays_of_quantity, counted, more_of};
 
 use crate::portfolio::Portfolio;
@@ -11,7 +11,7 @@ use mgn_params::{ParamSet, Work};
 use std::alloc::{AllocError, Global};
 
 /// A portfolio of a margin unit beside that of its lots. Until it first has other nets than the lots, what is kept of
-/// these is kept of it too, and its own waits with nets of 0.
+/// these is kept of it too, and nothing counts of its own but how long the rows are.
 #[derive(Drop)]
 pub(crate) struct Branch {
     pub own: Portfolio,
@@ -19,7 +19,7 @@ pub(crate) struct Branch {
 }
 
 impl Branch {
-    ghost use Rattle.mgn_desk.specs.Portfolios.{branch_of};
+    ghost use Rattle.mgn_desk.specs.Portfolios.{IsUnder, branch_of};
 
     // A branch with these nets beside those of the lots. The only error is that memory was refused.
     pub fn of_nets(
@@ -30,7 +30,7 @@ impl Branch {
     ) -> Result<Branch, AllocError>
         requires one_each { length nets.now ≡ length set.now.contracts }
         requires nets { All IsNet nets.now }
-        ensures portfolio { IfOk result (λ b. IsPortfolio set.now b.own) }
+        ensures portfolio { IfOk result (IsUnder set.now) }
         ensures nets { IfOk result (λ b. (p : Kept) → p.nets ≡ lots.now → (branch_of p b).nets ≡ nets.now) }
         ensures together { IfOk result (λ b. nets.now ≡ lots.now → b.apart ≡ false) }
     {
@@ -42,6 +42,23 @@ impl Branch {
         Ok(Branch { own, apart: true })
     }
 
+    // These nets beside those of the lots in place of its own, under a set that its rows fit. Takes no memory.
+    pub fn renew(&mut self, set: &ParamSet, lots: &[Quantity], nets: &[Quantity])
+        requires rows { ArePortfolioRows set.now self.old.own }
+        requires one_each { length nets.now ≡ length set.now.contracts }
+        requires nets { All IsNet nets.now }
+        ensures portfolio { IsUnder set.now self.new }
+        ensures nets { (p : Kept) → p.nets ≡ lots.now → (branch_of p self.new).nets ≡ nets.now }
+        ensures together { nets.now ≡ lots.now → self.new.apart ≡ false }
+    {
+        if lots == nets {
+            self.apart = false;
+            return;
+        }
+        self.own.renew(set, nets);
+        self.apart = true;
+    }
+
     // What is kept of it.
     pub fn kept<'a>(&'a self, lots: &'a Portfolio) -> &'a Portfolio
         ensures { result.now ≡ branch_of lots.now self.now }
@@ -51,10 +68,10 @@ impl Branch {
 
     // Keeps it apart from now on, if it is to have other nets than the lots.
     pub fn part(&mut self, lots: &Portfolio, is_other: bool)
-        requires { (set : Tables) × IsPortfolio set self.old.own × IsPortfolio set lots.now }
+        requires { (set : Tables) × IsUnder set self.old × IsPortfolio set lots.now }
         ensures kept { branch_of lots.now self.new ≡ branch_of lots.now self.old }
-        ensures portfolio { (set : Tables) → IsPortfolio set self.old.own → IsPortfolio set lots.now →
-            IsPortfolio set self.new.own }
+        ensures portfolio { (set : Tables) → IsUnder set self.old → IsPortfolio set lots.now →
+            IsUnder set self.new }
         ensures apart { is_other ≡ true → self.new.apart ≡ true }
         ensures together { is_other ≡ false → self.new.apart ≡ self.old.apart }
     {
@@ -66,10 +83,10 @@ impl Branch {
 
     // Changes a net where it is kept apart. Else the lots' array is read again, since arrays are counted by portfolio.
     pub fn follow(&mut self, set: &ParamSet, i: usize, quantity: Quantity, work: &mut Work)
-        requires portfolio { IsPortfolio set.now self.old.own }
+        requires portfolio { IsUnder set.now self.old }
         requires contract { i < length set.now.contracts }
         requires net { self.old.apart ≡ true → IsNet (value_at self.old.own.nets i +ℤ quantity) }
-        ensures portfolio { IsPortfolio set.now self.new.own }
+        ensures portfolio { IsUnder set.now self.new }
         ensures apart { self.new.apart ≡ self.old.apart }
         ensures nets { self.new.apart ≡ true → self.new.own.nets ≡ more_of self.old.own.nets i quantity }
         ensures counted { work.new ≡ counted work.old (arrays_of_quantity quantity) }

@@ -1,4 +1,4 @@
-ghost use Rattle.std.specs.Prelude.{◌≡◌, ◌<◌, length, None, OnErr, OnOk};
+ghost use Rattle.std.specs.Prelude.{◌≡◌, ◌<◌, length, IsTrue, ◌↔◌, None, OnErr, OnOk};
 ghost use Rattle.mgn_params.specs.Tables.{Tables};
 ghost use Rattle.mgn_desk.specs.Moved.{counted};
 
@@ -20,7 +20,8 @@ pub(crate) struct Marked {
 ///
 /// Contracts see the unit and, where the desk is marked, the version and the four portfolios; `shown` is what of it
 /// callers go by. `IsMarkedBy` says that all that is kept is that of the nets under a set: `mark` gives it, and `apply`
-/// and `take_back`, which ask for it, keep it. Nothing but `mark` takes memory.
+/// and `take_back`, which ask for it, keep it. Nothing but `mark` takes memory, and that only where the desk has no lists
+/// that are as long as the set asks for.
 #[derive(Drop)]
 pub struct Desk {
     unit: usize,
@@ -38,7 +39,7 @@ impl Model for Desk {
 }
 
 impl Desk {
-    ghost use Rattle.mgn_desk.specs.Desks.{AreNetsOf, CanMoveMarked, IsMarkedBy, IsMarkedTogether, Requires, Shown, StaysTogether, marked_with, moved_desk, shown, version_of};
+    ghost use Rattle.mgn_desk.specs.Desks.{AreNetsOf, CanMoveMarked, HasRows, IsMarkedBy, IsMarkedTogether, Requires, Shown, StaysTogether, marked_with, moved_desk, shown, version_of};
     ghost use Rattle.mgn_desk.specs.Portfolios.{AreFourNets, AreSmall, arrays_of, four_of, opposite};
 
     /// A desk of a unit that is not marked. Takes no memory.
@@ -83,6 +84,10 @@ impl Desk {
         ensures together { OnOk result (IsMarkedTogether (four_of nets.now) self.new.marked) }
         ensures refused { OnErr result (self.new ≡ self.old) }
     {
+        if self.fits(set) {
+            self.renew(version, set, nets);
+            return Ok(());
+        }
         let portfolios = Portfolios::of_nets(alloc, set, nets)?;
         let marked = Marked {
             version,
@@ -91,6 +96,30 @@ impl Desk {
         // What it had is dropped by one call: after an assignment a proof goes through each field.
         drop(self.marked.replace(marked));
         Ok(())
+    }
+
+    // Whether it is marked, and all that is kept is as long as a set asks for.
+    fn fits(&self, set: &ParamSet) -> bool
+        ensures { IsTrue result ↔ HasRows set.now self.now.marked }
+    {
+        match &self.marked {
+            Some(marked) => marked.portfolios.fits(set),
+            None => false,
+        }
+    }
+
+    // Marks a marked desk in place, under a set that its rows fit. Takes no memory.
+    fn renew(&mut self, version: Version, set: &ParamSet, nets: &UnitNets<'_>)
+        requires rows { HasRows set.now self.old.marked }
+        requires nets { AreFourNets set.now (four_of nets.now) }
+        ensures marked { shown self.new ≡ marked_with self.old.unit version (four_of nets.now) }
+        ensures of_set { IsMarkedBy set.now self.new.marked }
+        ensures together { IsMarkedTogether (four_of nets.now) self.new.marked }
+    {
+        if let Some(marked) = &mut self.marked {
+            marked.version = version;
+            marked.portfolios.renew(set, nets);
+        }
     }
 
     /// Moves the nets of one contract. The set is the one that the desk was marked under, and the nets stay within

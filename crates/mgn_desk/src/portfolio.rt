@@ -1,17 +1,17 @@
-ghost use Rattle.std.specs.Prelude.{◌≡◌, ℕ, ◌+◌, ◌-◌, ◌*◌, ◌<◌, ◌≤◌, ◌^◌, ℤ, pos, ◌+ℤ◌, ◌*ℤ◌, unsigned_abs, length, min, replicate, slice_index, slice_set, false, IfOk, List, All, if◌then◌else◌};
+ghost use Rattle.std.specs.Prelude.{◌≡◌, ℕ, ◌+◌, ◌-◌, ◌*◌, ◌<◌, ◌≤◌, ◌^◌, ℤ, pos, ◌+ℤ◌, ◌*ℤ◌, ◌≤ℤ◌, unsigned_abs, length, min, replicate, slice_index, slice_set, false, IfOk, IsTrue, ◌↔◌, List, All, if◌then◌else◌};
 ghost use Rattle.mgn_inter.specs.Credited.{AreCreditsOf};
 ghost use Rattle.mgn_inter.specs.Rows.{named, names};
 ghost use Rattle.mgn_span.specs.Words.{net_delta};
 ghost use Rattle.mgn_params.specs.Tables.{Tables, credit_spread_at, legs_of};
 ghost use Rattle.mgn_span.specs.Positions.{IsNet, positions};
-ghost use Rattle.mgn_span.specs.Requirement.{requirement};
+ghost use Rattle.mgn_span.specs.Requirement.{requirement, scan_of};
 ghost use Rattle.mgn_span.specs.Scan.{price_risk2, scenario_total, value_at};
-ghost use Rattle.mgn_desk.specs.Kept.{AreParts, charge_of, IsPortfolio, IsReady, kept_risk, KeepsParts, KeepsRest, with_charges, with_credits, with_risks};
+ghost use Rattle.mgn_desk.specs.Kept.{AreParts, ArePortfolioRows, charge_of, IsBehind, IsPortfolio, IsReady, kept_risk, KeepsParts, KeepsRest, with_charges, with_credits, with_risks};
 ghost use Rattle.mgn_desk.specs.Moved.{arrays_of_quantity, counted, more_of};
 ghost use Rattle.mgn_desk.specs.Risks.{IsRisk};
 
 use crate::risk_sum::RiskSum;
-use crate::rows::filled;
+use crate::rows::{fill, filled};
 use mgn_inter::{InterCredits, Reworked, spread_at};
 use mgn_num::{Cents, Quantity, TenThousandths};
 use mgn_option::OptionSums;
@@ -56,6 +56,19 @@ fn net_at(nets: &[Quantity], contract: usize) -> Quantity
     nets[contract]
 }
 
+// The place of the first net other than 0, or the number of nets.
+fn first_held(nets: &[Quantity]) -> usize
+    ensures few { result ≤ length nets.now }
+    ensures flat { (k : ℕ) → k < result → value_at nets.now k ≡ pos 0 }
+{
+    for (i, net) in nets.iter().enumerate() {
+        if net.size() != 0 {
+            return i;
+        }
+    }
+    nets.len()
+}
+
 // Contracts at a scaled delta for each.
 fn scaled(quantity: Quantity, delta: &i64) -> TenThousandths
     ensures { result ≡ quantity *ℤ delta.now }
@@ -98,6 +111,47 @@ impl Portfolio {
         Ok(portfolio)
     }
 
+    // Whether all that it keeps is as long as a set asks for.
+    pub(crate) fn fits(&self, set: &ParamSet) -> bool
+        ensures { IsTrue result ↔ ArePortfolioRows set.now self.now }
+    {
+        let count = set.commodity_count();
+        self.nets.len() == set.contract_count()
+            && self.totals.fits(set)
+            && self.sums.fits(set)
+            && self.tiers.fits(set)
+            && self.credits.fits(set)
+            && self.charges.len() == count
+            && self.risks.count() == count
+    }
+
+    // Nets of 0 in place of its own, under a set that it fits. Takes no memory.
+    fn flatten(&mut self, set: &ParamSet)
+        requires { ArePortfolioRows set.now self.old }
+        ensures portfolio { IsPortfolio set.now self.new }
+        ensures flat { self.new.nets ≡ replicate (length set.now.contracts) (pos 0) }
+    {
+        fill(&mut self.nets, Quantity::ZERO);
+        self.totals.flatten();
+        self.sums.flatten();
+        self.tiers.flatten();
+        self.credits.flatten(set);
+        fill(&mut self.charges, Cents::ZERO);
+        self.risks.flatten();
+    }
+
+    // These nets in place of its own, under a set that it fits. Takes no memory.
+    pub(crate) fn renew(&mut self, set: &ParamSet, nets: &[Quantity])
+        requires rows { ArePortfolioRows set.now self.old }
+        requires one_each { length nets.now ≡ length set.now.contracts }
+        requires nets { All IsNet nets.now }
+        ensures portfolio { IsPortfolio set.now self.new }
+        ensures nets { self.new.nets ≡ nets.now }
+    {
+        self.flatten(set);
+        self.bring_to(set, nets);
+    }
+
     // Brings nets of 0 to these.
     fn bring_to(&mut self, set: &ParamSet, nets: &[Quantity])
         requires portfolio { IsPortfolio set.now self.old }
@@ -107,12 +161,56 @@ impl Portfolio {
         ensures portfolio { IsPortfolio set.now self.new }
         ensures nets { self.new.nets ≡ nets.now }
     {
+        let first = first_held(nets);
+        if first == nets.len() {
+            return;
+        }
+        set.limits();
         let mut work = Work::new();
-        for i in 0..nets.len() {
-            let net = net_at(nets, i);
-            if net.size() != 0 {
-                self.change(set, i, net, &mut work);
-            }
+        let mut behind = set.contract_at(first).commodity;
+        for i in first..nets.len() {
+            behind = self.bring_net(set, i, net_at(nets, i), behind, &mut work);
+        }
+        self.settle(set, behind);
+    }
+
+    // Brings a net of 0 to this one, while what hangs on the nets of a commodity waits. Tells the commodity of which it
+    // waits then: neighbours are mostly of one commodity, and their nets are brought before what hangs on them.
+    fn bring_net(
+        &mut self,
+        set: &ParamSet,
+        i: usize,
+        net: Quantity,
+        g: usize,
+        work: &mut Work,
+    ) -> usize
+        requires commodity { g < length set.now.commodities }
+        requires behind { IsBehind set.now g self.old }
+        requires contract { i < length set.now.contracts }
+        requires net { IsNet (value_at self.old.nets i +ℤ net) }
+        ensures commodity { result < length set.now.commodities }
+        ensures behind { IsBehind set.now result self.new }
+        ensures nets { self.new.nets ≡ more_of self.old.nets i net }
+    {
+        if net.size() == 0 {
+            return g;
+        }
+        set.limits();
+        let commodity = set.contract_at(i).commodity;
+        self.turn_to(set, g, commodity);
+        self.move_net(set, i, net, work);
+        commodity
+    }
+
+    // Brings what hangs on the nets of a commodity after them, unless it is to wait for those of the same one.
+    fn turn_to(&mut self, set: &ParamSet, g: usize, next: usize)
+        requires commodity { g < length set.now.commodities }
+        requires behind { IsBehind set.now g self.old }
+        ensures behind { IsBehind set.now next self.new }
+        ensures nets { self.new.nets ≡ self.old.nets }
+    {
+        if next != g {
+            self.settle(set, g);
         }
     }
 
@@ -135,37 +233,41 @@ impl Portfolio {
         self.nets[i] = net_at(&self.nets, i).plus(quantity);
     }
 
-    // What the commodity at a place risks before credits.
-    fn charge(&self, g: usize) -> Cents
-        requires { (set : Tables) × AreParts set self.now × (g < length set.commodities) }
+    // What the commodity at a place risks before credits, by its scan risk.
+    fn charge(&self, g: usize, scan: Cents) -> Cents
+        requires parts { (set : Tables) × AreParts set self.now × (g < length set.commodities) }
+        requires scan { unsigned_abs scan ≤ 256 * 10 ^ 15 }
         ensures charge { (set : Tables) → AreParts set self.now →
+            scan ≡ scan_of (positions set.contracts self.now.nets) g →
             result ≡ charge_of set (positions set.contracts self.now.nets) g }
         ensures small { IsRisk result }
     {
-        self.totals
-            .scan(g)
-            .plus(self.tiers.charge(g))
-            .plus(self.tiers.spot(g))
+        scan.plus(self.tiers.charge(g)).plus(self.tiers.spot(g))
     }
 
     // Writes what the commodity at a place risks before credits.
-    fn write_charge(&mut self, set: &ParamSet, g: usize)
+    fn write_charge(&mut self, set: &ParamSet, g: usize, scan: Cents)
         requires parts { AreParts set.now self.old }
         requires commodity { g < length set.now.commodities }
         requires charges { length self.old.charges ≡ length set.now.commodities }
+        requires scan { scan ≡ scan_of (positions set.now.contracts self.old.nets) g }
+        requires small { unsigned_abs scan ≤ 256 * 10 ^ 15 }
         ensures written { self.new ≡ with_charges self.old (slice_set self.old.charges g
             (charge_of set.now (positions set.now.contracts self.old.nets) g)) }
         ensures small { IsRisk (charge_of set.now (positions set.now.contracts self.old.nets) g) }
     {
-        let charge = self.charge(g);
+        let charge = self.charge(g, scan);
         self.charges[g] = charge;
     }
 
     // Brings the credits after the parts.
-    fn refresh_credits(&mut self, set: &ParamSet, g: usize) -> Reworked
+    fn refresh_credits(&mut self, set: &ParamSet, g: usize, doubled_risk: Cents) -> Reworked
         requires parts { AreParts set.now self.old }
         requires commodity { g < length set.now.commodities }
         requires credits { AreCreditsOf set.now self.old.credits }
+        requires doubled_risk { doubled_risk ≡ price_risk2 (scenario_total g (positions set.now.contracts self.old.nets)) }
+        requires not_negative { pos 0 ≤ℤ doubled_risk }
+        requires small { unsigned_abs doubled_risk ≤ 11 * 10 ^ 17 }
         ensures written { self.new ≡ with_credits self.old self.new.credits }
         ensures credits { AreCreditsOf set.now self.new.credits }
         ensures net_deltas { self.new.credits.deltas ≡ slice_set self.old.credits.deltas g
@@ -177,8 +279,7 @@ impl Portfolio {
             slice_index self.new.credits.credits k ≡ slice_index self.old.credits.credits k }
     {
         let net_delta = self.tiers.net_delta(g);
-        let price_risk2 = self.totals.price_risk2(g);
-        self.credits.refresh(set, g, net_delta, price_risk2)
+        self.credits.refresh(set, g, net_delta, doubled_risk)
     }
 
     // Brings what the commodity at a place risks before credits, and the credits, after the parts.
@@ -200,8 +301,9 @@ impl Portfolio {
         ensures others { (k : ℕ) → named k set.now.credits result ≡ false →
             slice_index self.new.credits.credits k ≡ slice_index self.old.credits.credits k }
     {
-        self.write_charge(set, g);
-        self.refresh_credits(set, g)
+        let scanned = self.totals.risks(g);
+        self.write_charge(set, g, scanned.scan);
+        self.refresh_credits(set, g, scanned.price_risk2)
     }
 
     // The risk of the commodity at a place, by what is kept.
@@ -270,6 +372,18 @@ impl Portfolio {
         }
     }
 
+    // Brings all that is kept after the nets of a commodity.
+    fn settle(&mut self, set: &ParamSet, g: usize)
+        requires commodity { g < length set.now.commodities }
+        requires behind { IsBehind set.now g self.old }
+        ensures portfolio { IsPortfolio set.now self.new }
+        ensures nets { self.new.nets ≡ self.old.nets }
+    {
+        let reworked = self.refresh(set, g);
+        self.mend(g);
+        self.mend_spreads(set, reworked.places());
+    }
+
     /// Changes one net: a quantity more of the contract at `i`, bought above 0 and sold below.
     ///
     /// The set must be the one of the portfolio, and the changed net at most 10,000,000 in size. One risk array is
@@ -287,9 +401,7 @@ impl Portfolio {
         set.limits();
         let g = set.contract_at(i).commodity;
         self.move_net(set, i, quantity, work);
-        let reworked = self.refresh(set, g);
-        self.mend(g);
-        self.mend_spreads(set, reworked.places());
+        self.settle(set, g);
     }
 
     // The same, but that a quantity of 0 costs nothing.
@@ -306,9 +418,9 @@ impl Portfolio {
         }
     }
 
-    /// Takes over another portfolio under the same set. Takes no memory.
+    /// Takes over another portfolio for a set that the rows fit. Takes no memory.
     pub(crate) fn copy_from(&mut self, other: &Portfolio)
-        requires { (set : Tables) × IsPortfolio set self.old × IsPortfolio set other.now }
+        requires { (set : Tables) × ArePortfolioRows set self.old × ArePortfolioRows set other.now }
         ensures { self.new ≡ other.now }
     {
         self.nets.copy_from_slice(&other.nets);

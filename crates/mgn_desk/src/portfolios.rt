@@ -1,4 +1,4 @@
-ghost use Rattle.std.specs.Prelude.{◌≡◌, ◌<◌, length, false, IfOk};
+ghost use Rattle.std.specs.Prelude.{◌≡◌, ◌<◌, length, false, IfOk, IsTrue, ◌↔◌};
 ghost use Rattle.mgn_params.specs.Tables.{Tables};
 ghost use Rattle.mgn_desk.specs.Moved.{counted};
 
@@ -19,7 +19,7 @@ pub(crate) struct Portfolios {
 }
 
 impl Portfolios {
-    ghost use Rattle.mgn_desk.specs.Portfolios.{AreBranches, AreFourNets, AreParted, ArePortfolios, AreSmall, AreTogether, CanMove, KeepsTogether, StaysApart, arrays_of, four_of, moved_by, nets_of, requirements_of};
+    ghost use Rattle.mgn_desk.specs.Portfolios.{AreBranches, AreFourNets, AreParted, ArePortfolios, AreRows, AreSmall, AreTogether, CanMove, KeepsTogether, StaysApart, arrays_of, four_of, moved_by, nets_of, requirements_of};
 
     // These nets. The only error is that memory was refused.
     pub fn of_nets(
@@ -55,6 +55,30 @@ impl Portfolios {
         let buys = Branch::of_nets(alloc, set, nets.lots, nets.buys)?;
         let sales = Branch::of_nets(alloc, set, nets.lots, nets.sales)?;
         Branch::of_nets(alloc, set, nets.lots, nets.all).map(|all| (buys, sales, all))
+    }
+
+    // Whether all that is kept is as long as a set asks for.
+    pub fn fits(&self, set: &ParamSet) -> bool
+        ensures { IsTrue result ↔ AreRows set.now self.now }
+    {
+        self.lots.fits(set)
+            && self.buys.own.fits(set)
+            && self.sales.own.fits(set)
+            && self.all.own.fits(set)
+    }
+
+    // These nets in place of its own, under a set that the rows fit. Takes no memory.
+    pub fn renew(&mut self, set: &ParamSet, nets: &UnitNets<'_>)
+        requires rows { AreRows set.now self.old }
+        requires nets { AreFourNets set.now (four_of nets.now) }
+        ensures portfolios { ArePortfolios set.now self.new }
+        ensures nets { nets_of self.new ≡ four_of nets.now }
+        ensures together { AreTogether (four_of nets.now) (self.new.buys, self.new.sales, self.new.all) }
+    {
+        self.lots.renew(set, nets.lots);
+        self.buys.renew(set, nets.lots, nets.buys);
+        self.sales.renew(set, nets.lots, nets.sales);
+        self.all.renew(set, nets.lots, nets.all);
     }
 
     // Keeps those apart that are to move by something else than the lots.

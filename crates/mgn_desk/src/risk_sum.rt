@@ -2,7 +2,7 @@ ghost use Rattle.std.specs.Prelude.{◌≡◌, ◌*◌, ◌<◌, ◌≤◌, ◌^
 ghost use Rattle.mgn_num.specs.Signed.{signed_sum_below};
 ghost use Rattle.mgn_span.specs.Scan.{value_at};
 
-use crate::rows::filled;
+use crate::rows::{fill, filled};
 use mgn_num::Cents;
 use std::alloc::{AllocError, Global};
 use std::marker::Model;
@@ -48,6 +48,21 @@ impl RiskSum {
             risks,
             sum: Cents::ZERO,
         })
+    }
+
+    /// How many there are.
+    pub fn count(&self) -> usize
+        ensures { result ≡ length self.now }
+    {
+        self.risks.len()
+    }
+
+    /// As many risks of 0 in place of these. Takes no memory.
+    pub fn flatten(&mut self)
+        ensures { self.new ≡ replicate (length self.old) (pos 0) }
+    {
+        fill(&mut self.risks, Cents::ZERO);
+        self.sum = Cents::ZERO;
     }
 
     /// Writes the risk of the commodity at a place.

@@ -1,6 +1,6 @@
 //! Rows with one number for each contract or commodity of a set.
 
-ghost use Rattle.std.specs.Prelude.{◌≡◌, replicate, IfOk};
+ghost use Rattle.std.specs.Prelude.{◌≡◌, length, replicate, IfOk};
 
 use std::alloc::{AllocError, Global};
 
@@ -11,4 +11,13 @@ pub(crate) fn filled<T: Copy>(alloc: Global, count: usize, value: T) -> Result<V
     let mut row = Vec::new(alloc);
     row.resize(count, value)?;
     Ok(row)
+}
+
+/// Writes one value at each place.
+pub(crate) fn fill<T: Copy>(row: &mut Vec<T>, value: T)
+    ensures { row.new.items ≡ replicate (length row.old.items) value }
+{
+    for place in row.iter_mut() {
+        *place = value;
+    }
 }

@@ -6,7 +6,7 @@ ghost use Rattle.std.specs.Cmp.Rules.{comparing};
 ghost use Rattle.std.specs.Cmp.Lexicographic.{slice_cmp};
 ghost use Rattle.std.specs.Ordering.{nat_cmp, as_partial_cmp};
 ghost use Rattle.std.specs.List.{list_all};
-ghost use Rattle.mgn_ids.specs.Name.{is_name_byte, name_in};
+ghost use Rattle.mgn_ids.specs.Name.{is_name_byte, name_in, row_of};
 
 use crate::fault::IdFault;
 use std::cmp::Ordering;
@@ -86,8 +86,9 @@ impl PartialEq for Name {
 
     ghost laws = { Prim.search (comparing, rules) };
 
+    // Two rows of 16 bytes, and no loop over as many as the names have.
     fn eq(&self, other: &Name) -> bool {
-        self.as_bytes() == other.as_bytes()
+        self.len == other.len && self.bytes == other.bytes
     }
 }
 
@@ -119,13 +120,13 @@ impl Ord for Name {
     }
 }
 
-// One write of all its bytes.
+// One write of 16 bytes, whatever the length.
 impl Hash for Name {
-    ghost hash_input = { λ name. name ∷ [] };
+    ghost hash_input = { λ name. row_of name ∷ [] };
 
     ghost respects_eq = { Prim.search rules };
 
     fn hash<H: Hasher>(&self, state: &mut H) {
-        state.write(self.as_bytes());
+        state.write(&self.bytes);
     }
 }

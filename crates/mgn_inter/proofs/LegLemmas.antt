@@ -1,12 +1,13 @@
 -- The legs of one spread, one after the other.
-use Rattle.std.proofs.Common.{◌≡◌, ◌≢◌, ℕ, zero, suc, ◌+◌, ◌-◌, ◌*◌, ◌<◌, ◌≤◌, Bool, true, false, List, [], ◌∷◌, length, take, get_or, slice_index, slice_set, min, pos, negsuc, ℤ, unsigned_abs, ap, ◌∙◌, sym, subst, arith, refl, replicate, eq-eqb, ne_eqb, All, ⊎_elim, length-set, get_or-set_same, get_or-set_other}
+use Rattle.std.proofs.Common.{◌≡◌, ◌≢◌, ℕ, zero, suc, ◌+◌, ◌-◌, ◌*◌, ◌<◌, ◌≤◌, Bool, true, false, List, [], ◌∷◌, length, map, take, get_or, slice_index, slice_set, min, pos, negsuc, ℤ, unsigned_abs, ap, ◌∙◌, sym, subst, arith, refl, replicate, eq-eqb, ne_eqb, All, ⊎_elim, length-set, get_or-set_same, get_or-set_other}
 use Rattle.std.specs.Prelude.{◌==◌, if◌then◌else◌, not}
-use Rattle.std.specs.List.{AllByRecursion, fold, list_all, sum_by, zip}
+use Rattle.std.specs.List.{AllByRecursion, IsDistinct, fold, list_all, sum_by, zip}
 use Rattle.std.specs.Ordering.{int_eq}
 use Rattle.std.proofs.lemmas.Bool.{cases_eq, cases_lt, false≢true, true≢false}
 use Rattle.std.proofs.lemmas.Bool.Decides.{Decides-int_eq}
 use Rattle.std.proofs.lemmas.Int.{ints}
-use Rattle.std.proofs.lemmas.List.{set_past}
+use Rattle.std.proofs.lemmas.List.{get_or-map, length-map, set_past}
+use Rattle.std.proofs.lemmas.Map.Keys.{apart_from_distinct}
 use Rattle.std.proofs.lemmas.List.Sums.{fold_more, sum_by-cons, sum_by-take-le, sum_by_more}
 use Rattle.std.proofs.lemmas.Slice.Zip.{get_or-zip, length-zip}
 use Rattle.std.proofs.lemmas.List.Elements.{All-from_recursion, All-head, All-nil, All-tail}
@@ -336,3 +337,28 @@ credit_moved was now legs old new k g low old_there new_there here covered so_fa
     let written = get_or-set_other now c g x 0 (λ e. other (sym e)) in
     omega (arith, off_other, on_other, written, so_far))
     (cases_eq c g)
+
+-- legs of different commodities
+legs_apart : (legs : List Leg) (j k : ℕ) → IsDistinct (λ g h. g == h) (map (λ leg. leg.commodity) legs) → j < k → k < length legs → (leg_at legs j).commodity ≢ (leg_at legs k).commodity
+legs_apart legs j k apart before low same =
+    let f = λ (leg : Leg). leg.commodity in
+    let there : k < length (map f legs) = omega (arith, length-map legs f, low) in
+    let no = apart_from_distinct (λ (g h : ℕ). g == h) (map f legs) j k 0 apart before there in
+    let first = get_or-map f legs j no_leg 0 (omega arith) in
+    let second = get_or-map f legs k no_leg 0 low in
+    let differ : ((leg_at legs j).commodity == (leg_at legs k).commodity) ≡ false = rw (first, second) at no in
+    true≢false (sym (eq-eqb (leg_at legs j).commodity (leg_at legs k).commodity same) ∙ differ)
+
+-- a row keeps the rests of the legs so far, and then that of one more, which is of another commodity
+pub kept_so_far : (legs : List Leg) (kept rests : List ℤ) (k : ℕ) (rest : ℤ) → IsDistinct (λ g h. g == h) (map (λ leg. leg.commodity) legs) → k < length legs → k < length kept → (leg_at legs k).commodity < length rests → ((j : ℕ) → j < k → value_at kept j ≡ value_at rests (leg_at legs j).commodity) → (j : ℕ) → j < k + 1 → value_at (slice_set kept k rest) j ≡ value_at (slice_set rests (leg_at legs k).commodity rest) (leg_at legs j).commodity
+kept_so_far legs kept rests k rest apart low here there before j below =
+    let g = (leg_at legs k).commodity in
+    ⊎_elim
+    (λ (earlier : j < k).
+    get_or-set_other kept k j rest (pos 0) (λ e. omega (arith, e, earlier))
+    ∙ before j earlier
+    ∙ sym (get_or-set_other rests g (leg_at legs j).commodity rest (pos 0) (legs_apart legs j k apart earlier low)))
+    (λ (own : k ≤ j).
+    let same : j ≡ k = omega (arith, own, below) in
+    rw same (get_or-set_same kept k rest (pos 0) here ∙ sym (get_or-set_same rests g rest (pos 0) there)))
+    (cases_lt j k)

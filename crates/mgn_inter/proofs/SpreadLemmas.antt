@@ -155,18 +155,17 @@ kept_yes deltas risks rests s k there few they_do rests_long after_long credits_
           ∙ credits_after_shares deltas risks s.rate amount x legs k.credits g (omega (arith, few, credits_long)) (λ j d low. omega (arith, there j d low, h)) credits_are;
     }
 
-pub kept_no : (deltas : List ℤ) (risks : List ℕ) (rests : List ℤ) (s : CreditSpread) (k : Kept) → forms rests (legs_of s) ≡ false → length k.rests ≡ 4 → let legs = legs_of s in ((j : ℕ) → j < length legs → value_at k.rests j ≡ value_at rests (leg_at legs j).commodity) → k.after ≡ k.rests → k.credits ≡ replicate 4 0 → IsKept deltas risks rests s k
-kept_no deltas risks rests s k they_dont rests_long rests_are after credits =
+pub kept_no : (deltas : List ℤ) (risks : List ℕ) (rests : List ℤ) (s : CreditSpread) (k : Kept) → forms rests (legs_of s) ≡ false → length k.rests ≡ 4 → length k.after ≡ 4 → let legs = legs_of s in ((j : ℕ) → j < length legs → value_at k.rests j ≡ value_at rests (leg_at legs j).commodity) → ((j : ℕ) → j < length legs → value_at k.after j ≡ value_at rests (leg_at legs j).commodity) → k.credits ≡ replicate 4 0 → IsKept deltas risks rests s k
+kept_no deltas risks rests s k they_dont rests_long after_long rests_are after_are credits =
     let legs = legs_of s in
     let is = λ (x : List ℕ). (let now : List ℤ × List ℕ = (rests, x) in formed_no deltas risks now s they_dont) in
     record {
       rests_long = rests_long;
-      after_long = ap (λ (r : List ℤ). length r) after ∙ rests_long;
+      after_long = after_long;
       credits_long = ap (λ (r : List ℕ). length r) credits;
       rests_are = rests_are;
       after_are = λ x j h.
-          ap (λ (r : List ℤ). value_at r j) after
-          ∙ rests_are j h
+          after_are j h
           ∙ sym (ap (λ (p : List ℤ × List ℕ). value_at p.0 (leg_at legs j).commodity) (is x));
       credits_are = λ x g h.
           ap (λ (p : List ℤ × List ℕ). slice_index p.1 g) (is x)

@@ -6,6 +6,15 @@ use Rattle.mgn_span.specs.Scan.{value_at}
 use Rattle.mgn_inter.specs.Rows.{AreNumbers, Credited, IsKept, Misses, kept_at, moved_at, rests_at}
 use Rattle.mgn_inter.specs.Shares.{shares}
 
+-- as many rows as a set has commodities and intercommodity spreads
+pub record AreCreditRows (set : Tables) (c : Credited) : Type 0 where
+  pub deltas : length c.deltas ≡ length set.commodities
+  pub risks : length c.risks ≡ length set.commodities
+  pub rests : length c.rests ≡ length set.commodities
+  pub credits : length c.credits ≡ length set.commodities
+  pub kept : length c.kept ≡ length set.credits
+  pub naming : length c.naming ≡ length set.commodities
+
 -- everything is kept for a set: one net delta and one doubled price risk for each of its commodities, and what its
 -- intercommodity spreads make of them
 pub record AreCreditsOf (set : Tables) (c : Credited) : Type 0 where

@@ -75,6 +75,11 @@ abbrev pub AreNear : List ℤ → List ℤ → List Leg → Type 0
 AreNear deltas rests legs =
     All (λ leg. unsigned_abs (value_at rests leg.commodity) ≤ unsigned_abs (value_at deltas leg.commodity)) legs
 
+-- a row of four that begins with the rests of the legs' commodities
+pub record AreRestsOf (legs : List Leg) (rests row : List ℤ) : Type 0 where
+  pub long : length row ≡ 4
+  pub are : (j : ℕ) → j < length legs → value_at row j ≡ value_at rests (leg_at legs j).commodity
+
 -- the rests and credits after spreads, in file order
 abbrev pub state_of : List ℤ → List ℕ → List CreditSpread → List ℤ × List ℕ
 state_of deltas risks spreads = fold (formed deltas risks) (deltas, replicate (length deltas) 0) spreads

@@ -1,7 +1,7 @@
-ghost use Rattle.std.specs.Prelude.{◌≡◌, ◌≢◌, ◌↔◌, ℕ, ◌+◌, ◌*◌, ◌^◌, ◌<◌, ◌≤◌, ◌≤ℤ◌, true, false, pos, unsigned_abs, [], ◌∷◌, ◌++◌, if◌then◌else◌, length, replicate, slice_index, slice_set, All, IfOk, min};
+ghost use Rattle.std.specs.Prelude.{◌≡◌, ◌≢◌, ◌↔◌, ℕ, ◌+◌, ◌*◌, ◌^◌, ◌<◌, ◌≤◌, ◌≤ℤ◌, true, false, pos, unsigned_abs, [], ◌∷◌, ◌++◌, if◌then◌else◌, length, replicate, slice_index, slice_set, All, IfOk, IsTrue, min};
 ghost use Rattle.std.specs.List.{Contains};
 ghost use Rattle.std.specs.List.Sorted.{IsStrictlyIncreasing};
-ghost use Rattle.mgn_inter.specs.Credited.{AreCreditsOf, IsAtTurn};
+ghost use Rattle.mgn_inter.specs.Credited.{AreCreditRows, AreCreditsOf, IsAtTurn};
 ghost use Rattle.mgn_inter.specs.Rows.{Credited, IsNextOf, AreWaiting, KeepsNumbers, kept_at, moved_at, named, names};
 ghost use Rattle.mgn_inter.specs.Sizes.{IsRisk};
 ghost use Rattle.mgn_inter.specs.Told.{credits_at, credits_else, told_of};
@@ -10,10 +10,10 @@ ghost use Rattle.mgn_params.specs.Tables.{Tables, credit_spread_at, legs_of};
 ghost use Rattle.mgn_span.specs.Sizes.{IsDelta};
 
 use crate::kept::Kept;
-use crate::naming::{await_moved, first_place, naming_spreads, next_place, spread_at};
+use crate::naming::{await_moved, first_place, name_again, naming_spreads, next_place, spread_at};
 use crate::rest::Rest;
 use crate::reworked::Reworked;
-use crate::rows::{bring_rests, filled, form_spread, is_reached, mark_moved, move_credits};
+use crate::rows::{bring_rests, change_credits, fill, filled, form_spread, is_reached, mark_moved};
 use mgn_num::{Cents, TenThousandths};
 use mgn_params::ParamSet;
 use std::alloc::{AllocError, Global};
@@ -66,6 +66,35 @@ impl InterCredits {
         })
     }
 
+    /// Whether there is one row of each kind for each commodity of a set, and one for each of its spreads.
+    pub fn fits(&self, set: &ParamSet) -> bool
+        ensures { IsTrue result ↔ AreCreditRows set.now self.now }
+    {
+        let count = set.commodity_count();
+        self.deltas.len() == count
+            && self.risks.len() == count
+            && self.rests.len() == count
+            && self.credits.len() == count
+            && self.kept.len() == set.credits().len()
+            && self.naming.len() == count
+    }
+
+    /// Nothing held in place of what was kept, under a set that the rows fit. Takes no memory.
+    pub fn flatten(&mut self, set: &ParamSet)
+        requires { AreCreditRows set.now self.old }
+        ensures of_set { AreCreditsOf set.now self.new }
+        ensures net_deltas { self.new.deltas ≡ replicate (length set.now.commodities) (pos 0) }
+        ensures price_risks { self.new.risks ≡ replicate (length set.now.commodities) 0 }
+    {
+        set.limits();
+        fill(&mut self.deltas, Rest::ZERO);
+        fill(&mut self.risks, 0);
+        fill(&mut self.rests, Rest::ZERO);
+        fill(&mut self.credits, 0);
+        fill(&mut self.kept, Kept::NOTHING);
+        name_again(&mut self.naming, set);
+    }
+
     // Writes the numbers of a commodity, and its net delta as its rest.
     fn write_numbers(&mut self, g: usize, delta: Rest, risk: u64)
         requires delta { g < length self.old.deltas }
@@ -96,13 +125,11 @@ impl InterCredits {
         set.limits();
         let spread = spread_at(set.credits(), i);
         let legs = &spread.legs[..spread.count];
-        let old = self.kept[i];
-        bring_rests(moved, &mut self.rests, legs, &old.rests);
-        let new = form_spread(&self.deltas, &self.risks, &mut self.rests, spread);
-        move_credits(&mut self.credits, legs, &old.credits, &new.credits);
-        mark_moved(moved, &self.rests, legs, &old.after);
-        self.kept[i] = new;
-        old.credits != new.credits
+        let kept = &mut self.kept[i];
+        bring_rests(moved, &mut self.rests, legs, &mut kept.rests);
+        let credits = form_spread(&self.deltas, &self.risks, &mut self.rests, spread);
+        mark_moved(moved, &self.rests, legs, &mut kept.after);
+        change_credits(&mut self.credits, legs, &mut kept.credits, &credits)
     }
 
     // Forms the spread at a place again if the change reaches it. Those that it reaches then wait too.
@@ -202,9 +229,9 @@ impl InterCredits {
         self.rework_reached(set, g)
     }
 
-    /// Takes over what is kept for the same set under other numbers. Takes no memory.
+    /// Takes over what is kept for a set that the rows fit. Takes no memory.
     pub fn copy_from(&mut self, others: &InterCredits)
-        requires { (set : Tables) × AreCreditsOf set self.old × AreCreditsOf set others.now }
+        requires { (set : Tables) × AreCreditRows set self.old × AreCreditRows set others.now }
         ensures { self.new ≡ others.now }
     {
         self.deltas.copy_from_slice(&others.deltas);

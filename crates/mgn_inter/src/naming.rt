@@ -6,7 +6,7 @@ ghost use Rattle.mgn_inter.specs.Rows.{Misses, leg_at, moved_at, names};
 ghost use Rattle.mgn_params.specs.Limits.{IsCreditSpread};
 ghost use Rattle.mgn_params.specs.Tables.{credit_spread_at};
 
-use crate::rows::filled;
+use crate::rows::{fill, filled};
 use mgn_params::{CreditSpread, Leg, ParamSet};
 use std::alloc::{AllocError, Global};
 
@@ -77,6 +77,17 @@ pub(crate) fn naming_spreads(alloc: Global, set: &ParamSet) -> Result<Vec<u64>, 
     let mut naming = filled(alloc, set.commodity_count(), 0)?;
     name_spreads(&mut naming, set.credits());
     Ok(naming)
+}
+
+/// The same in a row of as many numbers, in place of what it had.
+pub(crate) fn name_again(naming: &mut Vec<u64>, set: &ParamSet)
+    requires { length naming.old.items ≡ length set.now.commodities }
+    ensures one_each { length naming.new.items ≡ length set.now.commodities }
+    ensures naming { (g : ℕ) → Misses set.now.credits (slice_index naming.new.items g) g }
+{
+    set.limits();
+    fill(naming, 0);
+    name_spreads(naming, set.credits());
 }
 
 // Some places with those of the spreads that name a commodity, if its rest has moved.

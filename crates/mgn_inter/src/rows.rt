@@ -1,13 +1,14 @@
 //! The rows of the commodities while spreads are formed.
 
-ghost use Rattle.std.specs.Prelude.{◌≡◌, ℕ, ℤ, ◌+◌, ◌*◌, ◌<◌, ◌≤◌, ◌^◌, ◌==◌, if◌then◌else◌, pos, length, replicate, All, slice_index, IfOk, List};
-ghost use Rattle.mgn_inter.specs.Rows.{AreNear, AreNumbers, brought, IsKept, leg_at, marked, moved_at, reached, share_of};
+ghost use Rattle.std.specs.Prelude.{◌≡◌, ℕ, ℤ, ◌+◌, ◌*◌, ◌<◌, ◌≤◌, ◌^◌, ◌==◌, if◌then◌else◌, pos, length, map, replicate, All, not, slice_index, IfOk, List};
+ghost use Rattle.std.specs.List.{IsDistinct};
+ghost use Rattle.std.specs.Str.{bytes_eq};
+ghost use Rattle.mgn_inter.specs.Rows.{AreNear, AreNumbers, AreRestsOf, brought, IsKept, leg_at, marked, moved_at, reached, share_of};
 ghost use Rattle.mgn_span.specs.Credits.{formed};
 ghost use Rattle.mgn_params.specs.Limits.{IsCreditSpread};
 ghost use Rattle.mgn_span.specs.Scan.{value_at};
 ghost use Rattle.mgn_params.specs.Tables.{legs_of};
 
-use crate::kept::Kept;
 use crate::legs::{amount_of_legs, credits_of_legs, rest_at, spread_forms, use_rests};
 use crate::rest::Rest;
 use mgn_params::{CreditSpread, Leg};
@@ -20,6 +21,15 @@ pub(crate) fn filled<T: Copy>(alloc: Global, count: usize, value: T) -> Result<V
     let mut row = Vec::new(alloc);
     row.resize(count, value)?;
     Ok(row)
+}
+
+/// Writes one value at each place.
+pub(crate) fn fill<T: Copy>(row: &mut Vec<T>, value: T)
+    ensures { row.new.items ≡ replicate (length row.old.items) value }
+{
+    for place in row.iter_mut() {
+        *place = value;
+    }
 }
 
 /// Whether a leg is of the commodity at a place, or of one whose rest has moved.
@@ -44,69 +54,53 @@ fn rest_at_turn(moved: &[bool], rests: &[Rest], commodity: usize, kept: Rest) ->
     }
 }
 
-/// Gives the legs' commodities their rests at a spread's turn.
-pub(crate) fn bring_rests(moved: &[bool], rests: &mut [Rest], legs: &[Leg], kept: &[Rest; 4])
+/// Gives the legs' commodities their rests at a spread's turn, and keeps these.
+pub(crate) fn bring_rests(moved: &[bool], rests: &mut [Rest], legs: &[Leg], kept: &mut [Rest; 4])
     requires few { length legs.now ≤ 4 }
     requires marks { All (λ leg. leg.commodity < length moved.now) legs.now }
     requires legs { All (λ leg. leg.commodity < length rests.old) legs.now }
-    ensures { rests.new ≡ brought moved.now rests.old legs.now kept.now }
+    requires apart { IsDistinct (λ g h. g == h) (map (λ leg. leg.commodity) legs.now) }
+    ensures rests { rests.new ≡ brought moved.now rests.old legs.now kept.old }
+    ensures long { length kept.new ≡ 4 }
+    ensures kept { (j : ℕ) → j < length legs.now →
+        value_at kept.new j ≡ value_at rests.new (leg_at legs.now j).commodity }
 {
     for k in 0..legs.len() {
         let commodity = legs[k].commodity;
-        rests[commodity] = rest_at_turn(moved, rests, commodity, kept[k]);
+        let rest = rest_at_turn(moved, rests, commodity, kept[k]);
+        rests[commodity] = rest;
+        kept[k] = rest;
     }
 }
 
-// The rests of the legs' commodities.
-fn rests_of(rests: &[Rest], legs: &[Leg]) -> [Rest; 4]
-    requires few { length legs.now ≤ 4 }
-    requires legs { All (λ leg. leg.commodity < length rests.now) legs.now }
-    ensures long { length result ≡ 4 }
-    ensures rests { (j : ℕ) → j < length legs.now →
-        value_at result j ≡ value_at rests.now (leg_at legs.now j).commodity }
-{
-    let mut row = [Rest::ZERO; 4];
-    for k in 0..legs.len() {
-        row[k] = rest_at(rests, legs[k].commodity);
-    }
-    row
-}
-
-/// Forms a spread, if it can be: takes what it uses off the rests, and gives what is to be kept of it.
+/// Forms a spread, if it can be: takes what it uses off the rests, and tells what its legs are credited.
 pub(crate) fn form_spread(
     deltas: &[Rest],
     risks: &[u64],
     rests: &mut [Rest],
     spread: &CreditSpread,
-) -> Kept
+) -> [u64; 4]
     requires spread { IsCreditSpread (length deltas.now) spread.now }
     requires numbers { AreNumbers deltas.now risks.now }
     requires one_each { length rests.old ≡ length deltas.now }
     requires near { AreNear deltas.now rests.old (legs_of spread.now) }
     ensures rests { (x : List ℕ) → rests.new ≡ (formed deltas.now risks.now (rests.old, x) spread.now).0 }
-    ensures kept { IsKept deltas.now risks.now rests.old spread.now result }
+    ensures kept { (before after : List ℤ) → AreRestsOf (legs_of spread.now) rests.old before →
+        AreRestsOf (legs_of spread.now) rests.new after →
+        IsKept deltas.now risks.now rests.old spread.now (record { rests = before; after = after; credits = result }) }
 {
     let legs = &spread.legs[..spread.count];
-    let before = rests_of(rests, legs);
     if !spread_forms(rests, legs) {
-        return Kept {
-            rests: before,
-            after: before,
-            credits: [0; 4],
-        };
+        return [0; 4];
     }
     let amount = amount_of_legs(rests, legs);
     let credits = credits_of_legs(deltas, risks, &spread.rate, &amount, legs);
     use_rests(rests, &amount, legs);
-    Kept {
-        rests: before,
-        after: rests_of(rests, legs),
-        credits,
-    }
+    credits
 }
 
-/// Takes the legs' old credits off, and adds the new ones.
-pub(crate) fn move_credits(credits: &mut [u128], legs: &[Leg], old: &[u64; 4], new: &[u64; 4])
+// Takes the legs' old credits off, and adds the new ones.
+fn move_credits(credits: &mut [u128], legs: &[Leg], old: &[u64; 4], new: &[u64; 4])
     requires few { length legs.now ≤ 4 }
     requires legs { All (λ leg. leg.commodity < length credits.old) legs.now }
     requires old { (g : ℕ) → share_of g legs.now old.now ≤ slice_index credits.old g }
@@ -122,15 +116,47 @@ pub(crate) fn move_credits(credits: &mut [u128], legs: &[Leg], old: &[u64; 4], n
     }
 }
 
-/// Marks the legs' commodities whose rests are not what they were, and takes the marks off the others.
-pub(crate) fn mark_moved(moved: &mut [bool], rests: &[Rest], legs: &[Leg], after: &[Rest; 4])
+/// Brings the legs' credits, and what is kept of them, after new ones, and tells whether these are something else.
+pub(crate) fn change_credits(
+    credits: &mut [u128],
+    legs: &[Leg],
+    kept: &mut [u64; 4],
+    new: &[u64; 4],
+) -> bool
+    requires few { length legs.now ≤ 4 }
+    requires legs { All (λ leg. leg.commodity < length credits.old) legs.now }
+    requires old { (g : ℕ) → share_of g legs.now kept.old ≤ slice_index credits.old g }
+    requires new { (g : ℕ) → share_of g legs.now new.now ≤ 10 ^ 36 }
+    requires room { (g : ℕ) → slice_index credits.old g ≤ 10 ^ 36 }
+    ensures long { length credits.new ≡ length credits.old }
+    ensures moved { (g : ℕ) → slice_index credits.new g + share_of g legs.now kept.old ≡
+        slice_index credits.old g + share_of g legs.now new.now }
+    ensures kept { kept.new ≡ new.now }
+    ensures told { result ≡ not (bytes_eq kept.old new.now) }
+{
+    if *kept == *new {
+        return false;
+    }
+    move_credits(credits, legs, kept, new);
+    *kept = *new;
+    true
+}
+
+/// Marks the legs' commodities whose rests are not those that are kept, takes the marks off the others, and keeps the
+/// rests.
+pub(crate) fn mark_moved(moved: &mut [bool], rests: &[Rest], legs: &[Leg], kept: &mut [Rest; 4])
     requires few { length legs.now ≤ 4 }
     requires marks { All (λ leg. leg.commodity < length moved.old) legs.now }
     requires legs { All (λ leg. leg.commodity < length rests.now) legs.now }
-    ensures { moved.new ≡ marked rests.now moved.old legs.now after.now }
+    ensures marks { moved.new ≡ marked rests.now moved.old legs.now kept.old }
+    ensures long { length kept.new ≡ 4 }
+    ensures rests { (j : ℕ) → j < length legs.now →
+        value_at kept.new j ≡ value_at rests.now (leg_at legs.now j).commodity }
 {
     for k in 0..legs.len() {
         let commodity = legs[k].commodity;
-        moved[commodity] = rest_at(rests, commodity).differs(after[k]);
+        let rest = rest_at(rests, commodity);
+        moved[commodity] = rest.differs(kept[k]);
+        kept[k] = rest;
     }
 }

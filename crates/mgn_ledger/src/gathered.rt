@@ -86,18 +86,24 @@ fn has_nets(prepared: &PreparedUnit, row: &Row, old: &ParamSet, new: &ParamSet) 
         && are_same(&prepared.all.nets, &row.all.nets, old, new)
 }
 
+// The net at a place, if there is one.
+fn net_at(nets: &Nets, place: usize) -> Option<Quantity> {
+    if place < nets.len() {
+        Some(nets.at(place))
+    } else {
+        None
+    }
+}
+
 // Whether nets under a new set are those under the old one, by the contracts' names.
 fn are_same(carried: &Nets, nets: &Nets, old: &ParamSet, new: &ParamSet) -> bool {
     for contract in 0..new.contract_count() {
         let net = match old.contract(new.contract_at(contract).name) {
-            Some(place) => nets.as_slice().get(place),
+            Some(place) => net_at(nets, place),
             None => None,
         };
-        let here = match net {
-            Some(net) => *net,
-            None => Quantity::ZERO,
-        };
-        if carried.as_slice().get(contract) != Some(&here) {
+        let here = net.unwrap_or(Quantity::ZERO);
+        if net_at(carried, contract) != Some(here) {
             return false;
         }
     }

@@ -5,6 +5,7 @@
 mod entered;
 mod gathered;
 mod image;
+mod known_orders;
 mod known_units;
 mod ledger;
 mod pass;

@@ -2,8 +2,10 @@ ghost use Rattle.std.specs.Prelude.{◌≡◌, length};
 ghost use Rattle.mgn_ledger.specs.Passes.{fresh, transcript};
 
 use crate::image::Image;
+use crate::known_orders::KnownOrders;
 use crate::known_units::KnownUnits;
-use mgn_ids::{AccountName, SessionNo};
+use mgn_ids::{AccountName, OrderId, SessionNo};
+use mgn_machine::Hold;
 use mgn_slots::{SlotNames, Stamp};
 use std::marker::Model;
 
@@ -16,6 +18,7 @@ pub struct Pass<'a, T: Image, J: SlotNames> {
     pub(crate) count: u64,
     pub(crate) last: Option<Stamp<'a, T, J>>,
     units: KnownUnits,
+    orders: KnownOrders,
 }
 
 impl<'a, T: Image, J: SlotNames> Model for Pass<'a, T, J> {
@@ -38,6 +41,7 @@ impl<'a, T: Image, J: SlotNames> Pass<'a, T, J> {
             count: 0,
             last: None,
             units: KnownUnits::new(),
+            orders: KnownOrders::new(),
         }
     }
 
@@ -65,5 +69,17 @@ impl<'a, T: Image, J: SlotNames> Pass<'a, T, J> {
         ensures { self.new ≡ self.old }
     {
         self.units.keep(account, unit);
+    }
+
+    /// An order of an account that a call of the session held lately, as it was held.
+    pub fn known_order(&self, account: &AccountName, order: OrderId) -> Option<Hold> {
+        self.orders.get(account, order)
+    }
+
+    /// Keeps an order for later calls of the session, which can then tell before they look what its release or fill changes.
+    pub fn keep_order(&mut self, hold: &Hold)
+        ensures { self.new ≡ self.old }
+    {
+        self.orders.keep(hold);
     }
 }

@@ -1,4 +1,4 @@
-ghost use Rattle.std.specs.Prelude.{◌≡◌, ◌+◌, ◌*◌, ◌^◌, ◌<◌, ◌≤◌, IfOk, IsTrue, ◌↔◌, unsigned_abs};
+ghost use Rattle.std.specs.Prelude.{◌≡◌, ◌≢◌, ◌+◌, ◌*◌, ◌^◌, ◌<◌, ◌≤◌, length, slice_index, IfOk, IfSome, IsTrue, ◌↔◌, Some, unsigned_abs};
 ghost use Rattle.mgn_num.specs.Text.{capped_number};
 ghost use Rattle.mgn_num.specs.Reading.{number_of, unsigned_in, signed_in};
 
@@ -13,14 +13,33 @@ pub enum NumFault {
 
 const LARGEST: u128 = 1_000_000_000_000_000_000_000_000_000_000_000_000;
 
+// A number up to this one and a digit more fit in 64 bits.
+const SHORT: u64 = 1_000_000_000_000_000_000;
+
+// What digits spell, of which the first is not 0, in 64 bits; none where it is too large for these, as few numbers are.
 #[tactic(auto, using(std::proofs::lemmas::List::Sums::fold_more, std::proofs::lemmas::List::Folds::list_all_more, std::proofs::lemmas::List::Folds::list_all_at))]
-// A digit 1 to 9 and further digits, as a number; one above the limit where it is larger.
-fn read_positive(digits: &[u8]) -> Option<u128>
+fn read_short(digits: &[u8]) -> Option<u64>
+    requires some { 0 < length digits.now }
+    requires first { slice_index digits.now 0 ≢ 48 }
+    ensures { IfSome result (λ n. capped_number digits.now ≡ Some n) }
+{
+    let mut number: u64 = 0;
+    for byte in digits {
+        if *byte < b'0' || *byte > b'9' || SHORT < number {
+            return None;
+        }
+        number = number * 10 + (*byte - b'0') as u64;
+    }
+    Some(number)
+}
+
+// The same of any number; one above the limit where it is larger.
+#[tactic(auto, using(std::proofs::lemmas::List::Sums::fold_more, std::proofs::lemmas::List::Folds::list_all_more, std::proofs::lemmas::List::Folds::list_all_at))]
+fn read_long(digits: &[u8]) -> Option<u128>
+    requires some { 0 < length digits.now }
+    requires first { slice_index digits.now 0 ≢ 48 }
     ensures { result ≡ capped_number digits.now }
 {
-    if digits.is_empty() || digits[0] == b'0' {
-        return None;
-    }
     let mut number: u128 = 0;
     for byte in digits {
         if *byte < b'0' || *byte > b'9' {
@@ -30,6 +49,19 @@ fn read_positive(digits: &[u8]) -> Option<u128>
         number = (number * 10 + digit).min(LARGEST + 1);
     }
     Some(number)
+}
+
+// A digit 1 to 9 and further digits, as a number; one above the limit where it is larger.
+fn read_positive(digits: &[u8]) -> Option<u128>
+    ensures { result ≡ capped_number digits.now }
+{
+    if digits.is_empty() || digits[0] == b'0' {
+        return None;
+    }
+    match read_short(digits) {
+        Some(number) => Some(u128::from(number)),
+        None => read_long(digits),
+    }
 }
 
 fn is_amount(number: u128) -> bool

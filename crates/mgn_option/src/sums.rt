@@ -1,4 +1,4 @@
-ghost use Rattle.std.specs.Prelude.{◌≡◌, ℤ, List, ◌*◌, ◌<◌, ◌≤◌, ◌^◌, pos, ◌+ℤ◌, ◌≤ℤ◌, unsigned_abs, length, replicate, slice_index, slice_set, IfOk};
+ghost use Rattle.std.specs.Prelude.{◌≡◌, ℤ, List, ◌*◌, ◌<◌, ◌≤◌, ◌^◌, pos, ◌+ℤ◌, ◌≤ℤ◌, unsigned_abs, length, replicate, slice_index, slice_set, IfOk, IsTrue, ◌↔◌};
 ghost use Rattle.mgn_span.specs.Options.{net_option_value};
 ghost use Rattle.mgn_span.specs.Positions.{IsNet, positions};
 ghost use Rattle.mgn_span.specs.Requirement.{minimum};
@@ -43,6 +43,15 @@ fn flat_minimums(alloc: Global, count: usize) -> Result<Vec<Minimum>, AllocError
     Ok(minimums)
 }
 
+// Writes one value at each place.
+fn fill<T: Copy>(row: &mut Vec<T>, value: T)
+    ensures { row.new.items ≡ replicate (length row.old.items) value }
+{
+    for place in row.iter_mut() {
+        *place = value;
+    }
+}
+
 fn net_at(nets: &[Quantity], contract: usize) -> Quantity
     requires { contract < length nets.now }
     ensures { result ≡ value_at nets.now contract }
@@ -67,6 +76,22 @@ impl OptionSums {
             minimums,
             value: Cents::ZERO,
         })
+    }
+
+    /// Whether there is one minimum for each commodity of a set.
+    pub fn fits(&self, set: &ParamSet) -> bool
+        ensures { IsTrue result ↔ (length self.now.minimums ≡ length set.now.commodities) }
+    {
+        self.minimums.len() == set.commodity_count()
+    }
+
+    /// The sums of nets of 0 in place of what was kept, under each set that the minimums fit. Takes no memory.
+    pub fn flatten(&mut self)
+        ensures { (set : Tables) → length self.old.minimums ≡ length set.commodities →
+            AreSums set (replicate (length set.contracts) (pos 0)) self.new }
+    {
+        fill(&mut self.minimums, Minimum::ZERO);
+        self.value = Cents::ZERO;
     }
 
     /// Follows a change of one net: a quantity more of the contract at `i`, bought above 0 and sold below.

@@ -1,12 +1,12 @@
 -- What deltas come to, and how large they are.
-use Rattle.std.proofs.Common.{◌≡◌, ◌≢◌, ℕ, zero, suc, ◌-◌, ◌*◌, ◌<◌, ◌≤◌, ◌^◌, List, [], length, take, pos, ℤ, ap, ◌∙◌, arith, take_all, add-one, unsigned_abs}
+use Rattle.std.proofs.Common.{◌≡◌, ◌≢◌, ℕ, zero, suc, ◌+◌, ◌-◌, ◌*◌, ◌<◌, ◌≤◌, ◌^◌, List, [], length, take, pos, ℤ, ap, ◌∙◌, arith, take_all, add-one, unsigned_abs}
 use Rattle.std.specs.Prelude.{◌*ℤ◌, ◌==◌, if◌then◌else◌, nat_lt}
 use Rattle.std.specs.List.{count_by}
 use Rattle.std.proofs.lemmas.Int.{ints}
 use Rattle.std.proofs.lemmas.List.FromFn.{fill_by_all}
 use Rattle.std.proofs.lemmas.Slice.Zip.{length-zip}
 use Rattle.mgn_num.specs.Signed.{signed_sum_by, signed_sum_below, sum_below}
-use Rattle.mgn_num.proofs.SignedLemmas.{size-*ℤ-le}
+use Rattle.mgn_num.proofs.SignedLemmas.{signed_sum_below_more, size-*ℤ-le, sum_below_more}
 use Rattle.mgn_params.specs.declared.tables.Contract.{Contract}
 use Rattle.mgn_params.specs.declared.tables.Month.{Month}
 use Rattle.mgn_span.specs.Deltas.{month_delta, starts_from}
@@ -16,10 +16,12 @@ use Rattle.mgn_span.specs.Scan.{value_at}
 use Rattle.mgn_span.specs.Words.{long_share, month_share, net_delta, net_share, short_share, start_of, starts_of}
 use Rattle.mgn_params.specs.Tables.{Tables, contract_at, no_contract, month_at}
 use Rattle.mgn_plain.specs.Kept.{leg_of, legs_row}
+use Rattle.mgn_plain.specs.declared.deltas.MonthSums.{MonthSums}
+use Rattle.mgn_plain.specs.Months.{AreMonthSums, AreMonthSumsTo}
 use Rattle.mgn_plain.specs.Parts.{AreDeltas, AreNets}
 use Rattle.mgn_span.proofs.PositionLemmas.{position_sum_more}
 use Rattle.mgn_span.proofs.ShareLemmas.{share_sum_by_count, month_share_small}
-use Rattle.mgn_plain.proofs.SumLemmas.{sum_below_same, signed_sum_below_same, sum_below_le, sum_below_none, signed_sum_below_none, sum_below_grown, signed_sum_below_grown, sum_below_one, signed_sum_below_one, sum_below_if}
+use Rattle.mgn_plain.proofs.SumLemmas.{sum_below_same, signed_sum_below_same, sum_below_le, sum_below_none, signed_sum_below_none, sum_below_grown, signed_sum_below_grown, sum_below_one, signed_sum_below_one, sum_below_if, sum_below_fewer, signed_sum_below_small}
 use Rattle.mgn_span.specs.MonthDeltas.{leg_share, month_net, net_share_by, start_share}
 
 -- a month counts for at most its delta's size
@@ -43,6 +45,31 @@ starts_are t nets deltas starts g are long each =
 pub net_is : (t : Tables) (nets deltas : List ℤ) (g : ℕ) → AreDeltas t nets deltas → signed_sum_below (net_share_by t.months deltas g) (length t.months) ≡ net_delta t.months (positions t.contracts nets) g
 net_is t nets deltas g are =
     signed_sum_below_same (net_share_by t.months deltas g) (net_share t.months (positions t.contracts nets) g) (length t.months) (λ m h. ap (λ (d : ℤ). month_net (month_at t.months m) d g) (are.each m h))
+
+-- a month of a delta within the limits counts for as little in a net delta
+net_share_size : (month : Month) (delta : ℤ) (g : ℕ) → unsigned_abs (month_net month delta g) ≤ unsigned_abs delta
+net_share_size month delta g = grind (arith, ints)
+
+-- a delta of 0 counts for nothing
+
+pub start_share_none : (month : Month) (g leg : ℕ) → start_share month (pos 0) g leg ≡ 0
+start_share_none month g leg = grind arith
+
+month_net_none : (month : Month) (g : ℕ) → month_net month (pos 0) g ≡ pos 0
+month_net_none month g = grind arith
+
+pub months_flat : (t : Tables) (deltas : List ℤ) (m : ℕ) (sums : MonthSums) → value_at deltas m ≡ pos 0 → AreMonthSumsTo t deltas m sums → AreMonthSumsTo t deltas (m + 1) sums
+months_flat t deltas m sums none are = record {
+  one_row_each = are.one_row_each;
+  one_net_each = are.one_net_each;
+  sixteen = are.sixteen;
+  starts = λ g leg h k.
+      let share : leg_share t.months deltas g leg m ≡ 0 = rw none (start_share_none (month_at t.months m) g leg) in
+      omega (arith, are.starts g leg h k, share, sum_below_more (leg_share t.months deltas g leg) m);
+  nets = λ g h.
+      let share : net_share_by t.months deltas g m ≡ pos 0 = rw none (month_net_none (month_at t.months m) g) in
+      omega (arith, ints, are.nets g h, share, signed_sum_below_more (net_share_by t.months deltas g) m);
+}
 
 -- the sizes of all month deltas together are at most 10^12 for each position
 month_sizes : (t : Tables) (nets : List ℤ) (i : ℕ) → IsWithinLimits t → AreNets t nets → i ≤ length t.contracts → sum_below (λ m. unsigned_abs (month_delta (take i (positions t.contracts nets)) m)) (length t.months) ≤ i * 10 ^ 12
@@ -71,6 +98,18 @@ start_small t nets g leg limits are =
     let le = sum_below_le (λ m. start_share (month_at t.months m) (month_delta held m) g leg) (λ m. unsigned_abs (month_delta held m)) (length t.months) (λ m h. start_share_small (month_at t.months m) (month_delta held m) g leg) in
     let few = limits.few_contracts in
     omega (arith, all, sizes, is, le, few)
+
+-- nor does it after the first months
+pub start_small_to : (t : Tables) (nets deltas : List ℤ) (m : ℕ) (sums : MonthSums) (g leg : ℕ) → IsWithinLimits t → AreDeltas t nets deltas → AreMonthSumsTo t deltas m sums → m ≤ length t.months → g < length t.commodities → leg < 16 → leg_of sums.starts.items g leg ≤ 10 ^ 16
+start_small_to t nets deltas m sums g leg limits are summed few h k =
+    let fewer = sum_below_fewer (leg_share t.months deltas g leg) m (length t.months) few in
+    omega (arith, summed.starts g leg h k, fewer, start_is t nets deltas g leg are, start_small t nets g leg limits are.of_nets)
+
+-- and no net delta is large after them
+pub net_small_to : (t : Tables) (deltas : List ℤ) (m : ℕ) (sums : MonthSums) (g : ℕ) → length deltas ≡ length t.months → ((k : ℕ) → k < length deltas → unsigned_abs (value_at deltas k) ≤ 10 ^ 16) → AreMonthSumsTo t deltas m sums → m ≤ length t.months → g < length t.commodities → unsigned_abs (value_at sums.nets.items g) ≤ m * 10 ^ 16
+net_small_to t deltas m sums g one_each small summed few h =
+    let low = signed_sum_below_small (net_share_by t.months deltas g) (10 ^ 16) m (λ k p. let own = small k (omega (arith, one_each, p, few)) in omega (arith, own, net_share_size (month_at t.months k) (value_at deltas k) g)) in
+    rw (summed.nets g h) low
 
 -- what a position counts for in the net delta of its commodity
 net_share_of : ℕ → Position → ℤ
@@ -116,3 +155,18 @@ net_small t nets g limits are =
     let every = ap (λ (cs : List Contract). count_by (λ (c : Contract). c.commodity == g) cs) (take_all n t.contracts (omega arith)) in
     let few = limits.few_contracts_in_each g in
     omega (arith, ints, all, is, small, every, few)
+
+-- the sums of all months
+pub months_all : (t : Tables) (nets deltas : List ℤ) (sums : MonthSums) → IsWithinLimits t → AreDeltas t nets deltas → AreMonthSumsTo t deltas (length t.months) sums → AreMonthSums t nets sums
+months_all t nets deltas sums limits are summed = record {
+  starts = record {
+    one_row_each = summed.one_row_each;
+    each = λ g h. starts_are t nets deltas sums.starts.items g are (summed.sixteen g h) (λ leg k. summed.starts g leg h k);
+    small = λ g leg h k. start_small_to t nets deltas (length t.months) sums g leg limits are summed (omega arith) h k;
+  };
+  net_deltas = record {
+    of_nets = are.of_nets;
+    one_each = summed.one_net_each;
+    each = λ g h. summed.nets g h ∙ net_is t nets deltas g are;
+  };
+}

@@ -4,3 +4,5 @@ pub mod PartLemmas
 pub mod StageLemmas
 pub mod SumLemmas
 pub mod ProductLemmas
+pub mod PassLemmas
+pub mod FlatLemmas

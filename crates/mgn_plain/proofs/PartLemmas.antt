@@ -20,84 +20,50 @@ use Rattle.mgn_span.specs.Stages.{charges_of, stages_of, left_by}
 use Rattle.mgn_params.specs.Tables.{Tables}
 use Rattle.mgn_plain.specs.declared.figure_rows.FigureRows.{FigureRows}
 use Rattle.mgn_plain.specs.declared.scanned.ScanFigures.{ScanFigures}
-use Rattle.mgn_plain.specs.Kept.{leg_of, legs_row}
-use Rattle.mgn_plain.specs.Parts.{AreCharges, AreChargesFrom, AreCredits, AreCreditsFrom, AreDeltas, AreNetDeltas, AreFigureRows, AreRisks, AreStarts, AreTotals}
+use Rattle.mgn_plain.specs.Kept.{legs_row}
+use Rattle.mgn_plain.specs.Parts.{AreCredits, AreCreditsFrom, AreNetDeltas, AreFigureRows, AreRisks, AreTotals}
 use Rattle.mgn_plain.specs.Rests.{AreCreditNumbers}
-use Rattle.mgn_plain.specs.Scans.{AreScans, AreScansOf, scan_at, scanned}
-use Rattle.mgn_plain.proofs.DeltaLemmas.{net_is, net_small, start_is, start_small, starts_are}
+use Rattle.mgn_plain.specs.Scans.{scanned}
+use Rattle.mgn_plain.proofs.DeltaLemmas.{net_small}
 use Rattle.mgn_span.proofs.ShareLemmas.{scenario_total_small}
 use Rattle.mgn_span.proofs.ScanLemmas.{active_same, scan_risk_same, price_risk2_same, price_risk2_small}
-use Rattle.mgn_plain.proofs.StageLemmas.{charges_of-small, stages_of-are, stages_of-few}
 
 -- no kept total is large
 pub total_small : (t : Tables) (nets : List ℤ) (rows : List (List ℤ)) (g s : ℕ) → IsWithinLimits t → AreTotals t nets rows → g < length t.commodities → s < 16 → unsigned_abs (total_of rows g s) ≤ 256 * 10 ^ 15
 total_small t nets rows g s limits are h k =
     omega (arith, ints, are.each g s h k, scenario_total_small t nets g s limits are.of_nets.one_each are.of_nets.small)
 
--- no kept start is large
-pub kept_start_small : (t : Tables) (nets deltas : List ℤ) (starts : List (List ℕ)) (g leg : ℕ) → IsWithinLimits t → AreDeltas t nets deltas → AreStarts t deltas starts → g < length t.commodities → leg < 16 → leg_of starts g leg ≤ 10 ^ 16
-kept_start_small t nets deltas starts g leg limits are from h k =
-    omega (arith, from.each g leg h k, start_is t nets deltas g leg are, start_small t nets g leg limits are.of_nets)
-
--- charges from the starts are those of the definitions
-pub charges_are : (t : Tables) (nets deltas : List ℤ) (starts : List (List ℕ)) (intra spot : List ℕ) → IsWithinLimits t → AreDeltas t nets deltas → AreStarts t deltas starts → AreChargesFrom t starts intra spot → AreCharges t nets intra spot
-unfolding intra_charge spot_charge
-charges_are t nets deltas starts intra spot limits are from charged =
-    let row = λ (g : ℕ) (h : g < length t.commodities). starts_are t nets deltas starts g are (from.sixteen g h) (λ leg k. from.each g leg h k) in
-    let stages = λ (g : ℕ). stages_of-are (length t.commodities) t.spreads g limits.spreads in
-    record {
-      one_intra_each = charged.one_intra_each;
-      one_spot_each = charged.one_spot_each;
-      intra_is = λ g h. charged.intra_is g h ∙ ap (λ (xs : List ℕ). charges_of xs (stages_of t.spreads g)) (row g h);
-      spot_is = λ g h. charged.spot_is g h ∙ ap (λ (xs : List ℕ). spot_charge_from xs (left_by xs (stages_of t.spreads g)) (spot_of t.spots g)) (row g h);
-      intra_small = λ g h.
-          let low = charges_of-small (legs_row starts g) (stages_of t.spreads g) (stages g) (λ k. ⊎_elim (λ inside. kept_start_small t nets deltas starts g k limits are from h inside) (λ past. rw (get_or_past (legs_row starts g) k 0 (omega (arith, from.sixteen g h, past))) (omega arith)) (cases_lt k 16)) in
-          omega (arith, charged.intra_is g h, low, stages_of-few t.spreads g, limits.few_spreads_in_each g);
-      spot_small = charged.spot_small;
-    }
-
 -- equal totals have equal figures
 scanned_same : (f h : ℕ → ℤ) → ((s : ℕ) → s < 16 → f s ≡ h s) → scanned f ≡ scanned h
 scanned_same f h same = rw (price_risk2_same f h same, scan_risk_same f h same, active_same f h same) refl
 
--- the scan figures of rows of totals are those of the nets
-pub scans_are : (t : Tables) (nets : List ℤ) (totals : List (List ℤ)) (scans : List ScanFigures) → IsWithinLimits t → AreTotals t nets totals → AreScansOf totals scans → AreScans t nets scans
-scans_are t nets totals scans limits totalled of = record {
-  one_each = of.one_each ∙ totalled.one_row_each;
-  each = λ g h. of.each g (omega (arith, totalled.one_row_each)) ∙ scanned_same (total_of totals g) (scenario_total g (positions t.contracts nets)) (λ s k. totalled.each g s h k);
-  small_scan = λ g h. of.small g (omega (arith, totalled.one_row_each));
-  small_risk = λ g h.
-      let risk = price_risk2_small (total_of totals g) (256 * 10 ^ 15) (λ s k. total_small t nets totals g s limits totalled h k) in
-      let is = ap (λ (x : ScanFigures). unsigned_abs x.price_risk2) (of.each g (omega (arith, totalled.one_row_each))) in
-      omega (arith, is, risk);
-}
-
 -- the numbers that credits are worked out from are within their limits
-pub credit_numbers : (t : Tables) (nets deltas row : List ℤ) (scans : List ScanFigures) (risks : List ℕ) → IsWithinLimits t → AreDeltas t nets deltas → AreScans t nets scans → AreNetDeltas t deltas row → AreRisks scans risks → AreCreditNumbers row risks
-credit_numbers t nets deltas row scans risks limits are scanned netted priced = record {
-  one_each = priced.one_each ∙ scanned.one_each ∙ sym netted.one_each;
+pub credit_numbers : (t : Tables) (nets row : List ℤ) (totals : List (List ℤ)) (risks : List ℕ) → IsWithinLimits t → AreNetDeltas t nets row → AreTotals t nets totals → AreRisks totals risks → AreCreditNumbers row risks
+credit_numbers t nets row totals risks limits netted totalled priced = record {
+  one_each = priced.one_each ∙ totalled.one_row_each ∙ sym netted.one_each;
   small_deltas = λ k d h.
       let low : k < length t.commodities = omega (arith, netted.one_each) in
-      let small = net_small t nets k limits are.of_nets in
-      rw (get_or_default row k d (pos 0) h) (omega (arith, ints, netted.each k low, net_is t nets deltas k are, small));
+      let small = net_small t nets k limits netted.of_nets in
+      rw (get_or_default row k d (pos 0) h) (omega (arith, ints, netted.each k low, small));
   small_risks = λ g.
       ⊎_elim
-      (λ (inside : g < length scans).
-      let low : g < length t.commodities = omega (arith, scanned.one_each) in
-      omega (arith, priced.each g inside, scanned.small_risk g low))
+      (λ (inside : g < length totals).
+      let low : g < length t.commodities = omega (arith, totalled.one_row_each) in
+      let risk = price_risk2_small (total_of totals g) (256 * 10 ^ 15) (λ s k. total_small t nets totals g s limits totalled low k) in
+      omega (arith, priced.each g inside, risk))
       (λ past. rw (get_or_past risks g 0 (omega (arith, priced.one_each, past))) (omega arith))
-      (cases_lt g (length scans));
+      (cases_lt g (length totals));
 }
 
 -- credits from those numbers are those of the definitions
-pub credits_are : (t : Tables) (nets deltas row : List ℤ) (scans : List ScanFigures) (risks credited : List ℕ) → AreDeltas t nets deltas → AreScans t nets scans → AreNetDeltas t deltas row → AreRisks scans risks → AreCreditsFrom t row risks credited → AreCredits t nets credited
+pub credits_are : (t : Tables) (nets row : List ℤ) (totals : List (List ℤ)) (risks credited : List ℕ) → AreNetDeltas t nets row → AreTotals t nets totals → AreRisks totals risks → AreCreditsFrom t row risks credited → AreCredits t nets credited
 unfolding credits
-credits_are t nets deltas row scans risks credited are scanned netted priced from =
+credits_are t nets row totals risks credited netted totalled priced from =
     let held : List Position = positions t.contracts nets in
     let n = length t.commodities in
-    let rests : row ≡ map (net_delta t.months held) (range_with_len 0 n) = fill_by_all (net_delta t.months held) row n (pos 0) netted.one_each (λ g h. netted.each g h ∙ net_is t nets deltas g are) in
+    let rests : row ≡ map (net_delta t.months held) (range_with_len 0 n) = fill_by_all (net_delta t.months held) row n (pos 0) netted.one_each netted.each in
     let prices : risks ≡ map (price_risk2_of held) (range_with_len 0 n) =
-    fill_by_all (price_risk2_of held) risks n 0 (priced.one_each ∙ scanned.one_each) (λ g h. priced.each g (omega (arith, scanned.one_each)) ∙ ap (λ (x : ScanFigures). unsigned_abs x.price_risk2) (scanned.each g h)) in
+    fill_by_all (price_risk2_of held) risks n 0 (priced.one_each ∙ totalled.one_row_each) (λ g h. priced.each g (omega (arith, totalled.one_row_each)) ∙ ap unsigned_abs (price_risk2_same (total_of totals g) (scenario_total g held) (λ s k. totalled.each g s h k))) in
     record {
       is = from.is ∙ ap (λ (xs : List ℤ). credits_of xs risks t.credits) rests ∙ ap (λ (xs : List ℕ). credits_of (map (net_delta t.months held) (range_with_len 0 n)) xs t.credits) prices;
       one_each = from.one_each;
@@ -123,15 +89,16 @@ if_ok_along (Ok x) P Q along h = along x h
 if_ok_along (Err e) P Q along h = h
 
 -- the figures from the rows are those of the definitions
-pub figures_are : (t : Tables) (nets : List ℤ) (rows : FigureRows) (g : ℕ) (scan : ScanFigures) (i s c m r : ℤ) → AreFigureRows t nets rows → g < length t.commodities → scan ≡ scan_at rows.scans.items g → i ≡ pos (slice_index rows.intra.items g) → s ≡ pos (slice_index rows.spot.items g) → c ≡ pos (slice_index rows.credits.items g) → m ≡ pos (slice_index rows.minimums.items g) → r ≡ int_max (scan.scan +ℤ i +ℤ s -ℤ c) m → let built : CommodityFigures = record { scan = scan.scan; active = scan.active; price_risk2 = scan.price_risk2; intra = i; spot = s; credit = c; minimum = m; risk = r } in built ≡ commodity_figures t (positions t.contracts nets) g
-unfolding commodity_figures risk
+pub figures_are : (t : Tables) (nets : List ℤ) (rows : FigureRows) (g : ℕ) (scan : ScanFigures) (i s c m r : ℤ) → AreFigureRows t nets rows → g < length t.commodities → scan ≡ scanned (total_of rows.sums.totals.items g) → i ≡ pos (charges_of (legs_row rows.starts.items g) (stages_of t.spreads g)) → s ≡ pos (spot_charge_from (legs_row rows.starts.items g) (left_by (legs_row rows.starts.items g) (stages_of t.spreads g)) (spot_of t.spots g)) → c ≡ pos (slice_index rows.credits.items g) → m ≡ pos (slice_index rows.sums.minimums.items g) → r ≡ int_max (scan.scan +ℤ i +ℤ s -ℤ c) m → let built : CommodityFigures = record { scan = scan.scan; active = scan.active; price_risk2 = scan.price_risk2; intra = i; spot = s; credit = c; minimum = m; risk = r } in built ≡ commodity_figures t (positions t.contracts nets) g
+unfolding commodity_figures risk intra_charge spot_charge
 figures_are t nets rows g scan i s c m r are h read charged spotted creditted lowest risked =
     let held : List Position = positions t.contracts nets in
-    let scan_is : scan ≡ scanned (scenario_total g held) = read ∙ are.scans.each g h in
-    let intra_is : i ≡ pos (intra_charge t held g) = charged ∙ ap pos (are.charges.intra_is g h) in
-    let spot_is : s ≡ pos (spot_charge t held g) = spotted ∙ ap pos (are.charges.spot_is g h) in
+    let starts = are.starts.each g h in
+    let scan_is : scan ≡ scanned (scenario_total g held) = read ∙ scanned_same (total_of rows.sums.totals.items g) (scenario_total g held) (λ s k. are.sums.totals.each g s h k) in
+    let intra_is : i ≡ pos (intra_charge t held g) = charged ∙ ap (λ (xs : List ℕ). pos (charges_of xs (stages_of t.spreads g))) starts in
+    let spot_is : s ≡ pos (spot_charge t held g) = spotted ∙ ap (λ (xs : List ℕ). pos (spot_charge_from xs (left_by xs (stages_of t.spreads g)) (spot_of t.spots g))) starts in
     let credit_is : c ≡ pos (credit t held g) = creditted ∙ ap (λ (xs : List ℕ). pos (slice_index xs g)) are.credits.is in
-    let minimum_is : m ≡ pos (minimum t held g) = lowest ∙ ap pos (are.minimums.each g h) in
+    let minimum_is : m ≡ pos (minimum t held g) = lowest ∙ ap pos (are.sums.minimums.each g h) in
     rw (risked, scan_is, intra_is, spot_is, credit_is, minimum_is) refl
 
 -- the risk among the figures of a commodity

@@ -1,17 +1,19 @@
--- Stages: what they use and charge, one after the other.
-use Rattle.std.proofs.Common.{◌≡◌, ◌≢◌, ℕ, suc, ◌+◌, ◌*◌, ◌<◌, ◌≤◌, ◌^◌, List, [], ◌∷◌, ◌++◌, length, drop, get_or, ap, ◌∙◌, sym, arith, add-one, refl, eq-eqb, ne_eqb, All, length-append, true, false}
-use Rattle.std.specs.Prelude.{◌==◌, if◌then◌else◌, slice_index}
-use Rattle.std.specs.List.{filter, flat_map, count_by, AllByRecursion}
-use Rattle.std.proofs.Math.Nat.{mul-le-mul}
-use Rattle.std.proofs.Math.Seq.{drop-cons}
-use Rattle.std.proofs.lemmas.List.Sums.{fold-append, sum_by-cons}
-use Rattle.std.proofs.lemmas.List.Elements.{All-tail}
-use Rattle.std.proofs.lemmas.Grind.{common_steps}
+-- Stages: one after the other, and of nothing.
+use Rattle.std.proofs.Common.{◌≡◌, ℕ, zero, suc, ◌+◌, ◌-◌, ◌<◌, ◌≤◌, List, [], ◌∷◌, ◌++◌, length, take, get_or, replicate, ap, ◌∙◌, arith, refl, All, true, false, Option, Some, None, rules}
+use Rattle.std.specs.Prelude.{◌==◌, if◌then◌else◌, slice_index, Bool, IfSome}
+use Rattle.std.specs.List.{filter, find, flat_map}
+use Rattle.std.proofs.Math.Nat.{zero-div}
+use Rattle.std.proofs.lemmas.Grind.{common_steps, flat_map-append}
+use Rattle.std.proofs.lemmas.List.{append-nil, set-get_or, take_more}
+use Rattle.std.proofs.lemmas.List.Elements.{All-filter}
+use Rattle.std.proofs.lemmas.List.Sums.{fold-append, length-filter}
+use Rattle.mgn_params.specs.declared.tables.SpotCharge.{SpotCharge}
 use Rattle.mgn_params.specs.declared.tables.Spread.{Spread}
+use Rattle.mgn_params.specs.Limits.{IsSpotCharge, IsSpread, IsWithinLimits}
+use Rattle.mgn_params.specs.Tables.{Tables}
 use Rattle.mgn_span.specs.declared.stage.Stage.{Stage}
-use Rattle.mgn_span.specs.Stages.{amount_of, left_after, charges_of, left_by, stages_of_spread, stages_of, IsStage, long_leg, short_leg}
-use Rattle.mgn_span.specs.Words.{charge_of}
-use Rattle.mgn_params.specs.Limits.{IsSpread}
+use Rattle.mgn_span.specs.Spot.{spot_charge_from, spot_of}
+use Rattle.mgn_span.specs.Stages.{amount_of, left_after, charges_of, left_by, stages_of_spread, used}
 
 -- what stages and further stages charge
 pub charges_of-append : (left : List ℕ) (one two : List Stage) → charges_of left (one ++ two) ≡ charges_of left one + charges_of (left_by left one) two
@@ -20,17 +22,6 @@ charges_of-append left (stage ∷ one) two = omega (arith, charges_of-append (le
 
 pub left_by-append : (left : List ℕ) (one two : List Stage) → left_by left (one ++ two) ≡ left_by (left_by left one) two
 left_by-append left one two = fold-append left_after left one two
-
--- the stages from a spread on, where it is of the commodity
-pub stages_of-drop_in : (spreads : List Spread) (i g : ℕ) (spread : Spread) → i < length spreads → spread ≡ get_or spreads i spread → spread.commodity ≡ g → stages_of (drop i spreads) g ≡ stages_of_spread spread ++ stages_of (drop (i + 1) spreads) g
-stages_of-drop_in spreads i g spread h e same =
-    let split = drop-cons spreads i spread h ∙ ap (λ (s : Spread). s ∷ drop (suc i) spreads) (sym e) in
-    rw (add-one, split, eq-eqb spread.commodity g same) refl
-
-pub stages_of-drop_out : (spreads : List Spread) (i g : ℕ) (spread : Spread) → i < length spreads → spread ≡ get_or spreads i spread → spread.commodity ≢ g → stages_of (drop i spreads) g ≡ stages_of (drop (i + 1) spreads) g
-stages_of-drop_out spreads i g spread h e other =
-    let split = drop-cons spreads i spread h ∙ ap (λ (s : Spread). s ∷ drop (suc i) spreads) (sym e) in
-    rw (add-one, split, ne_eqb spread.commodity g other) refl
 
 -- no stage adds to a leg
 left_after-le : (left : List ℕ) (stage : Stage) (k : ℕ) → slice_index (left_after left stage) k ≤ slice_index left k
@@ -41,51 +32,65 @@ left_by_le left [] k = omega arith
 left_by_le left (stage ∷ stages) k =
     omega (arith, left_by_le (left_after left stage) stages k, left_after-le left stage k)
 
--- the stages of spreads within their limits are within theirs
-stages_of_spread-are : (commodities : ℕ) (s : Spread) → IsSpread commodities s → AllByRecursion IsStage (stages_of_spread s)
-stages_of_spread-are commodities s limits =
-    let there : Stage = record { first_leg = long_leg s.first_tier; first_ratio = s.first_ratio; second_leg = short_leg s.second_tier; second_ratio = s.second_ratio; charge = s.charge } in
-    let back : Stage = record { first_leg = long_leg s.second_tier; first_ratio = s.second_ratio; second_leg = short_leg s.first_tier; second_ratio = s.first_ratio; charge = s.charge } in
-    let there_is : IsStage there = record { first_leg = omega (arith, limits.first_tier); second_leg = omega (arith, limits.second_tier); apart = omega (arith, limits.first_tier); first_ratio = limits.first_ratio; second_ratio = limits.second_ratio; small_first_ratio = limits.small_first_ratio; small_second_ratio = limits.small_second_ratio; charge = limits.charge } in
-    let back_is : IsStage back = record { first_leg = omega (arith, limits.second_tier); second_leg = omega (arith, limits.first_tier); apart = omega (arith, limits.second_tier); first_ratio = limits.second_ratio; second_ratio = limits.first_ratio; small_first_ratio = limits.small_second_ratio; small_second_ratio = limits.small_first_ratio; charge = limits.charge } in
-    elim (s.first_tier == s.second_tier) as (λ b. AllByRecursion IsStage (if b then there ∷ [] else there ∷ back ∷ [])) [ true ↦ (there_is, tt) | false ↦ (there_is, (back_is, tt)) ]
+-- one spread more
+pub stages_more : (spreads : List Spread) (i : ℕ) (d : Spread) → i < length spreads → flat_map stages_of_spread (take (i + 1) spreads) ≡ flat_map stages_of_spread (take i spreads) ++ stages_of_spread (get_or spreads i d)
+stages_more spreads i d h =
+    ap (flat_map stages_of_spread) (take_more spreads i d h)
+    ∙ flat_map-append stages_of_spread (take i spreads) (get_or spreads i d ∷ [])
+    ∙ ap (λ (ss : List Stage). flat_map stages_of_spread (take i spreads) ++ ss) (append-nil (stages_of_spread (get_or spreads i d)))
 
-stages-append : (one two : List Stage) → AllByRecursion IsStage one → AllByRecursion IsStage two → AllByRecursion IsStage (one ++ two)
-stages-append [] two p q = q
-stages-append (stage ∷ one) two p q = (p.0, stages-append one two p.1 q)
+-- the limits of a set, for one of its commodities
 
-pub stages_of-are : (commodities : ℕ) (spreads : List Spread) (g : ℕ) → All (IsSpread commodities) spreads → AllByRecursion IsStage (stages_of spreads g)
-stages_of-are commodities [] g limits = tt
-stages_of-are commodities (s ∷ spreads) g limits =
-    let rest = stages_of-are commodities spreads g (All-tail (IsSpread commodities) s spreads limits) in
-    let own = stages_of_spread-are commodities s (limits 0 s (omega arith)) in
-    let others : List Spread = filter (λ x. x.commodity == g) spreads in
-    elim (s.commodity == g) as (λ b. AllByRecursion IsStage (flat_map stages_of_spread (if b then s ∷ others else others))) [ true ↦ stages-append (stages_of_spread s) (stages_of spreads g) own rest | false ↦ rest ]
+pub are_spreads : (t : Tables) (g : ℕ) → IsWithinLimits t → All (λ s. (commodities : ℕ) × IsSpread commodities s) (filter (λ s. s.commodity == g) t.spreads)
+are_spreads t g limits =
+    All-filter (λ (s : Spread). s.commodity == g) (λ (s : Spread). (commodities : ℕ) × IsSpread commodities s) t.spreads (λ i d h. (length t.commodities, limits.spreads i d h))
 
--- a spread has at most two stages
-stages_of_spread-few : (s : Spread) → length (stages_of_spread s) ≤ 2
-stages_of_spread-few s = grind arith
+pub few_spreads : (t : Tables) (g : ℕ) → IsWithinLimits t → length (filter (λ s. s.commodity == g) t.spreads) ≤ 32
+few_spreads t g limits = omega (arith, length-filter (λ (s : Spread). s.commodity == g) t.spreads, limits.few_spreads_in_each g)
 
-pub stages_of-few : (spreads : List Spread) (g : ℕ) → length (stages_of spreads g) ≤ 2 * count_by (λ s. s.commodity == g) spreads
-stages_of-few [] g = omega arith
-stages_of-few (s ∷ spreads) g =
-    let rest = stages_of-few spreads g in
-    let own = stages_of_spread-few s in
-    let others : List Spread = filter (λ x. x.commodity == g) spreads in
-    let counted = sum_by-cons (λ (x : Spread). if x.commodity == g then 1 else 0) s spreads in
-    let both = length-append (stages_of_spread s) (stages_of spreads g) in
-    rw counted (elim (s.commodity == g) as (λ b. length (flat_map stages_of_spread (if b then s ∷ others else others)) ≤ 2 * ((if b then 1 else 0) + count_by (λ x. x.commodity == g) spreads)) [ true ↦ omega (arith, rest, own, both) | false ↦ omega (arith, rest) ])
+found : {X : Type 0} (P : X → Type 0) (p : X → Bool) (xs : List X) → All P xs → IfSome (find p xs) P
+found P p [] all = search rules
+found P p (x ∷ xs) all =
+    let rest = found P p xs (λ i d h. all (suc i) d (omega (arith, h))) in
+    elim (p x) as (λ b. IfSome (if b then Some x else find p xs) P) [ true ↦ all zero x (omega arith) | false ↦ rest ]
 
--- what stages charge, where no leg has more than 10^16
-charge_of-small : (left : List ℕ) (stage : Stage) → IsStage stage → ((k : ℕ) → slice_index left k ≤ 10 ^ 16) → charge_of left stage ≤ 10 ^ 25
-charge_of-small left stage is small =
-    let most = small stage.first_leg in
-    let ratio = is.first_ratio in
-    let amount : amount_of left stage ≤ 10 ^ 20 = grind arith in
-    let product = mul-le-mul amount is.charge in
-    omega (arith, product)
+pub is_spot : (t : Tables) (g : ℕ) → IsWithinLimits t → IfSome (spot_of t.spots g) (λ s. (commodities : ℕ) × IsSpotCharge commodities s)
+is_spot t g limits =
+    found (λ (s : SpotCharge). (commodities : ℕ) × IsSpotCharge commodities s) (λ (s : SpotCharge). s.commodity == g) t.spots (λ i d h. (length t.commodities, limits.spots i d h))
 
-pub charges_of-small : (left : List ℕ) (stages : List Stage) → AllByRecursion IsStage stages → ((k : ℕ) → slice_index left k ≤ 10 ^ 16) → charges_of left stages ≤ length stages * 10 ^ 25
-charges_of-small left [] are small = omega arith
-charges_of-small left (stage ∷ stages) are small =
-    omega (arith, charge_of-small left stage are.0 small, charges_of-small (left_after left stage) stages are.1 (λ k. omega (arith, small k, left_after-le left stage k)))
+-- of nothing, no stage forms anything
+
+none_at : (n k : ℕ) → slice_index (replicate n 0) k ≡ 0
+none_at zero k = refl
+none_at (suc n) zero = refl
+none_at (suc n) (suc k) = none_at n k
+
+amount_of_nothing : (n : ℕ) (s : Stage) → amount_of (replicate n 0) s ≡ 0
+amount_of_nothing n s =
+    rw (none_at n s.first_leg, none_at n s.second_leg, zero-div s.first_ratio, zero-div s.second_ratio) refl
+
+used_none : (ratio : ℕ) → used 0 ratio ≡ 0
+used_none ratio = omega arith
+
+left_after_nothing : (n : ℕ) (s : Stage) → left_after (replicate n 0) s ≡ replicate n 0
+left_after_nothing n s =
+    let left : List ℕ = replicate n 0 in
+    let none = amount_of_nothing n s in
+    let a = slice_index left s.first_leg in
+    let b = slice_index left s.second_leg in
+    let first : a - used (amount_of left s) s.first_ratio ≡ a = rw (none, used_none s.first_ratio) (omega arith) in
+    let second : b - used (amount_of left s) s.second_ratio ≡ b = rw (none, used_none s.second_ratio) (omega arith) in
+    rw (first, second, set-get_or left s.first_leg 0, set-get_or left s.second_leg 0) refl
+
+pub left_by_nothing : (n : ℕ) (stages : List Stage) → left_by (replicate n 0) stages ≡ replicate n 0
+left_by_nothing n [] = refl
+left_by_nothing n (s ∷ stages) = rw (left_after_nothing n s) (left_by_nothing n stages)
+
+pub charges_of_nothing : (n : ℕ) (stages : List Stage) → charges_of (replicate n 0) stages ≡ 0
+charges_of_nothing n [] = refl
+charges_of_nothing n (s ∷ stages) =
+    rw (left_after_nothing n s, amount_of_nothing n s) (omega (arith, charges_of_nothing n stages))
+
+pub spot_charge_of_nothing : (n : ℕ) (spot : Option SpotCharge) → spot_charge_from (replicate n 0) (replicate n 0) spot ≡ 0
+spot_charge_of_nothing n None = refl
+spot_charge_of_nothing n (Some spot) = rw (none_at n spot.tier, none_at n (8 + spot.tier)) (omega arith)

@@ -1,5 +1,5 @@
 -- Sums over the numbers below a bound.
-use Rattle.std.proofs.Common.{◌≡◌, ◌≢◌, ℕ, zero, suc, ◌+◌, ◌<◌, ◌≤◌, Bool, true, false, pos, ℤ, ⊎_elim, ap, arith, refl}
+use Rattle.std.proofs.Common.{◌≡◌, ◌≢◌, ℕ, zero, suc, ◌+◌, ◌*◌, ◌<◌, ◌≤◌, Bool, true, false, pos, ℤ, unsigned_abs, ⊎_elim, ap, arith, refl}
 use Rattle.std.specs.Prelude.{◌+ℤ◌, if◌then◌else◌}
 use Rattle.std.proofs.lemmas.Bool.{cases_eq}
 use Rattle.std.proofs.lemmas.Int.{ints}
@@ -72,3 +72,18 @@ signed_sum_below_one f at (suc n) inside others =
 pub sum_below_if : (b : Bool) (f g : ℕ → ℕ) (n : ℕ) → sum_below (λ m. if b then f m else g m) n ≡ (if b then sum_below f n else sum_below g n)
 sum_below_if true f g n = refl
 sum_below_if false f g n = refl
+
+-- a sum over fewer numbers
+pub sum_below_fewer : (f : ℕ → ℕ) (m n : ℕ) → m ≤ n → sum_below f m ≤ sum_below f n
+sum_below_fewer f m zero h = let e : m ≡ 0 = omega arith in rw e (omega arith)
+sum_below_fewer f m (suc n) h =
+    ⊎_elim
+    (λ (same : m ≡ suc n). rw same (omega arith))
+    (λ (other : m ≢ suc n). let before = sum_below_fewer f m n (omega arith) in omega (arith, before))
+    (cases_eq m (suc n))
+
+-- where no number is large, nor is the sum
+pub signed_sum_below_small : (f : ℕ → ℤ) (most n : ℕ) → ((m : ℕ) → m < n → unsigned_abs (f m) ≤ most) → unsigned_abs (signed_sum_below f n) ≤ n * most
+signed_sum_below_small f most zero small = omega (arith, ints)
+signed_sum_below_small f most (suc n) small =
+    omega (arith, ints, signed_sum_below_small f most n (λ m h. small m (omega arith)), small n (omega arith))

@@ -1,5 +1,5 @@
 -- The rows that a calculation keeps: one for each commodity of a set, in file order.
-use Rattle.std.specs.Prelude.{◌≤◌, ◌*◌, ◌^◌, unsigned_abs, ℕ, ℤ, List, [], slice_index_or, slice_index}
+use Rattle.std.specs.Prelude.{◌≤◌, ◌*◌, ◌^◌, unsigned_abs, ℕ, ℤ, Bool, true, List, [], slice_index_or, slice_index}
 
 -- at most 8 * 10^18 in size, so that 64 bits hold it (own profile)
 abbrev pub IsTotal : ℤ → Type 0
@@ -12,3 +12,7 @@ legs_row rows commodity = slice_index_or rows commodity []
 -- the number of a leg
 abbrev pub leg_of : List (List ℕ) → ℕ → ℕ → ℕ
 leg_of rows commodity leg = slice_index (legs_row rows commodity) leg
+
+-- whether a commodity is marked
+abbrev pub mark_at : List Bool → ℕ → Bool
+mark_at marks commodity = slice_index_or marks commodity true

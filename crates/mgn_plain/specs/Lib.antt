@@ -1,6 +1,8 @@
 -- How the rows of a calculation are kept.
 pub mod Figures
 pub mod Kept
+pub mod Months
 pub mod Parts
 pub mod Rests
 pub mod Scans
+pub mod Sums

@@ -1,20 +1,16 @@
 -- What the rows of a calculation are, in the words of the definitions.
-use Rattle.std.specs.Prelude.{ℕ, ◌*◌, ◌≡◌, ◌<◌, ◌≤◌, ◌^◌, ℤ, unsigned_abs, List, length, slice_index, All}
-use Rattle.mgn_num.specs.Signed.{signed_sum_below, sum_below}
+use Rattle.std.specs.Prelude.{ℕ, ◌*◌, ◌≡◌, ◌<◌, ◌≤◌, ◌^◌, Bool, false, ℤ, pos, unsigned_abs, List, length, slice_index, All}
+use Rattle.mgn_params.specs.Tables.{Tables, contract_at}
 use Rattle.mgn_span.specs.Credits.{credits_of}
 use Rattle.mgn_span.specs.Deltas.{month_delta}
+use Rattle.mgn_span.specs.Options.{net_option_value}
 use Rattle.mgn_span.specs.Positions.{IsNet, positions}
-use Rattle.mgn_span.specs.Requirement.{credits, intra_charge, minimum, spot_charge}
-use Rattle.mgn_span.specs.Scan.{scenario_total, value_at}
-use Rattle.mgn_span.specs.Spot.{spot_of, spot_charge_from}
-use Rattle.mgn_span.specs.Stages.{charges_of, left_by, stages_of}
-use Rattle.mgn_params.specs.Tables.{Tables}
+use Rattle.mgn_span.specs.Requirement.{credits, minimum}
+use Rattle.mgn_span.specs.Scan.{price_risk2, scenario_total, value_at}
+use Rattle.mgn_span.specs.Words.{net_delta, starts_of, total_of}
 use Rattle.mgn_plain.specs.declared.figure_rows.FigureRows.{FigureRows}
-use Rattle.mgn_plain.specs.declared.scanned.ScanFigures.{ScanFigures}
-use Rattle.mgn_plain.specs.Kept.{leg_of, legs_row}
-use Rattle.mgn_span.specs.Words.{total_of}
-use Rattle.mgn_plain.specs.Scans.{AreScans, scan_at}
-use Rattle.mgn_span.specs.MonthDeltas.{leg_share, net_share_by}
+use Rattle.mgn_plain.specs.declared.sums.Sums.{Sums}
+use Rattle.mgn_plain.specs.Kept.{leg_of, legs_row, mark_at}
 
 -- one net for each contract, each at most 10^7 in size
 pub record AreNets (set : Tables) (nets : List ℤ) : Type 0 where
@@ -39,29 +35,37 @@ pub record AreMinimums (set : Tables) (nets : List ℤ) (row : List ℕ) : Type 
   pub each : (g : ℕ) → g < length set.commodities → slice_index row g ≡ minimum set (positions set.contracts nets) g
   pub small : (g : ℕ) → g < length set.commodities → slice_index row g ≤ 10 ^ 20
 
--- what the legs of the commodities start with, summed over the months with their deltas
-pub record AreStarts (set : Tables) (deltas : List ℤ) (starts : List (List ℕ)) : Type 0 where
+-- the commodities without a mark have nets of 0
+pub record AreMarks (set : Tables) (nets : List ℤ) (marks : List Bool) : Type 0 where
+  pub one_each : length marks ≡ length set.commodities
+  pub flat : (g k : ℕ) → mark_at marks g ≡ false → k < length set.contracts → (contract_at set.contracts k).commodity ≡ g → value_at nets k ≡ pos 0
+
+-- all that is summed over the positions
+pub record AreSums (set : Tables) (nets : List ℤ) (sums : Sums) : Type 0 where
+  pub totals : AreTotals set nets sums.totals.items
+  pub deltas : AreDeltas set nets sums.deltas.items
+  pub small_deltas : (m : ℕ) → m < length sums.deltas.items → unsigned_abs (value_at sums.deltas.items m) ≤ 10 ^ 16
+  pub minimums : AreMinimums set nets sums.minimums.items
+  pub held : AreMarks set nets sums.held.items
+  pub value : sums.option_value ≡ net_option_value (positions set.contracts nets)
+  pub small_value : unsigned_abs sums.option_value ≤ 10 ^ 20
+
+-- what the legs of the commodities start with
+pub record AreStarts (set : Tables) (nets : List ℤ) (starts : List (List ℕ)) : Type 0 where
   pub one_row_each : length starts ≡ length set.commodities
-  pub sixteen : (g : ℕ) → g < length set.commodities → length (legs_row starts g) ≡ 16
-  pub each : (g leg : ℕ) → g < length set.commodities → leg < 16 → leg_of starts g leg ≡ sum_below (leg_share set.months deltas g leg) (length set.months)
+  pub each : (g : ℕ) → g < length set.commodities → legs_row starts g ≡ starts_of set.months (positions set.contracts nets) g
+  pub small : (g leg : ℕ) → g < length set.commodities → leg < 16 → leg_of starts g leg ≤ 10 ^ 16
 
--- the net deltas of the commodities, summed over the months with their deltas
-pub record AreNetDeltas (set : Tables) (deltas row : List ℤ) : Type 0 where
+-- the net deltas of the commodities
+pub record AreNetDeltas (set : Tables) (nets row : List ℤ) : Type 0 where
+  pub of_nets : AreNets set nets
   pub one_each : length row ≡ length set.commodities
-  pub each : (g : ℕ) → g < length set.commodities → value_at row g ≡ signed_sum_below (net_share_by set.months deltas g) (length set.months)
+  pub each : (g : ℕ) → g < length set.commodities → value_at row g ≡ net_delta set.months (positions set.contracts nets) g
 
--- the doubled price risks among scan figures
-pub record AreRisks (scans : List ScanFigures) (risks : List ℕ) : Type 0 where
-  pub one_each : length risks ≡ length scans
-  pub each : (g : ℕ) → g < length scans → slice_index risks g ≡ unsigned_abs (scan_at scans g).price_risk2
-
--- what spreading and spot months charge each commodity, by what its legs start with
-pub record AreChargesFrom (set : Tables) (starts : List (List ℕ)) (intra spot : List ℕ) : Type 0 where
-  pub one_intra_each : length intra ≡ length set.commodities
-  pub one_spot_each : length spot ≡ length set.commodities
-  pub intra_is : (g : ℕ) → g < length set.commodities → slice_index intra g ≡ charges_of (legs_row starts g) (stages_of set.spreads g)
-  pub spot_is : (g : ℕ) → g < length set.commodities → slice_index spot g ≡ spot_charge_from (legs_row starts g) (left_by (legs_row starts g) (stages_of set.spreads g)) (spot_of set.spots g)
-  pub spot_small : (g : ℕ) → g < length set.commodities → slice_index spot g ≤ 10 ^ 23
+-- the doubled price risks by rows of totals
+pub record AreRisks (totals : List (List ℤ)) (risks : List ℕ) : Type 0 where
+  pub one_each : length risks ≡ length totals
+  pub each : (g : ℕ) → g < length totals → slice_index risks g ≡ unsigned_abs (price_risk2 (total_of totals g))
 
 -- what intercommodity spreads credit, by net deltas and doubled price risks
 pub record AreCreditsFrom (set : Tables) (deltas : List ℤ) (risks row : List ℕ) : Type 0 where
@@ -69,24 +73,14 @@ pub record AreCreditsFrom (set : Tables) (deltas : List ℤ) (risks row : List �
   pub one_each : length row ≡ length set.commodities
   pub small : (g : ℕ) → slice_index row g ≤ 256 * 10 ^ 33
 
--- what spreading and spot months charge each commodity
-pub record AreCharges (set : Tables) (nets : List ℤ) (intra spot : List ℕ) : Type 0 where
-  pub one_intra_each : length intra ≡ length set.commodities
-  pub one_spot_each : length spot ≡ length set.commodities
-  pub intra_is : (g : ℕ) → g < length set.commodities → slice_index intra g ≡ intra_charge set (positions set.contracts nets) g
-  pub spot_is : (g : ℕ) → g < length set.commodities → slice_index spot g ≡ spot_charge set (positions set.contracts nets) g
-  pub intra_small : (g : ℕ) → g < length set.commodities → slice_index intra g ≤ 64 * 10 ^ 25
-  pub spot_small : (g : ℕ) → g < length set.commodities → slice_index spot g ≤ 10 ^ 23
-
 -- what intercommodity spreads credit to each commodity
 pub record AreCredits (set : Tables) (nets : List ℤ) (row : List ℕ) : Type 0 where
   pub is : row ≡ credits set (positions set.contracts nets)
   pub one_each : length row ≡ length set.commodities
   pub small : (g : ℕ) → slice_index row g ≤ 256 * 10 ^ 33
 
--- all rows that the figures of the commodities are worked out from
+-- all that the figures of the commodities are worked out from
 pub record AreFigureRows (set : Tables) (nets : List ℤ) (rows : FigureRows) : Type 0 where
-  pub scans : AreScans set nets rows.scans.items
-  pub charges : AreCharges set nets rows.intra.items rows.spot.items
+  pub sums : AreSums set nets rows.sums
+  pub starts : AreStarts set nets rows.starts.items
   pub credits : AreCredits set nets rows.credits.items
-  pub minimums : AreMinimums set nets rows.minimums.items

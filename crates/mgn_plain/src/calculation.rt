@@ -5,19 +5,23 @@ ghost use Rattle.mgn_span.specs.Positions.{IsNet, positions};
 ghost use Rattle.mgn_span.specs.Requirement.{requirement, risk};
 ghost use Rattle.mgn_span.specs.Words.{commodities_of};
 ghost use Rattle.mgn_plain.specs.Figures.{commodity_figures, figures_of};
+ghost use Rattle.mgn_plain.specs.Kept.{legs_row};
 ghost use Rattle.mgn_plain.specs.Parts.{AreFigureRows, AreNets};
 
+use crate::charges::charges_by;
 use crate::commodity::CommodityFigures;
+use crate::deltas::month_sums;
 use crate::figure_rows::FigureRows;
-use crate::options::option_value;
-use crate::parts::{minimum_row, month_deltas, scan_row, work_out_charges, work_out_credits};
-use crate::scan::scan_of;
+use crate::parts::work_out_credits;
+use crate::rows::mark_at;
+use crate::scan::{scan_figures, totals_row};
+use crate::sums::sums_of;
 use crate::whole::Figures;
 use mgn_num::{Cents, Quantity};
 use mgn_params::{ParamSet, Work};
 use std::alloc::{AllocError, Global};
 
-// One pass over the contracts for each kind of row, then one over the months, the spreads and the commodities.
+// One pass over the contracts, then those over the months, the spreads and the commodities.
 fn work_out(
     alloc: Global,
     set: &ParamSet,
@@ -27,18 +31,22 @@ fn work_out(
     requires { AreNets set.now nets.now }
     ensures { IfOk result (λ rows. AreFigureRows set.now nets.now rows) }
 {
-    let scans = scan_row(alloc, set, nets, work)?;
-    let deltas = month_deltas(alloc, set, nets)?;
-    let charges = work_out_charges(alloc, set, &deltas)?;
-    let credits = work_out_credits(alloc, set, &deltas, &scans)?;
-    let minimums = minimum_row(alloc, set, nets)?;
+    let sums = sums_of(alloc, set, nets, work)?;
+    let months = month_sums(alloc, set, &sums.deltas)?;
+    let credits = work_out_credits(alloc, set, &months.nets, &sums.totals)?;
     Ok(FigureRows {
-        scans,
-        intra: charges.intra,
-        spot: charges.spot,
+        sums,
+        starts: months.starts,
         credits,
-        minimums,
     })
+}
+
+// What the legs of a commodity start with.
+fn starts_row(starts: &[[u64; 16]], commodity: usize) -> &[u64; 16]
+    requires { commodity < length starts.now }
+    ensures { result.now ≡ legs_row starts.now commodity }
+{
+    &starts[commodity]
 }
 
 // A number of a row of cents.
@@ -76,24 +84,40 @@ fn figures_of(set: &ParamSet, rows: &FigureRows, commodity: usize) -> CommodityF
     ensures small { unsigned_abs result.risk ≤ 10 ^ 27 }
 {
     set.limits();
-    let scan = scan_of(&rows.scans, commodity);
-    let intra = cents_at(&rows.intra, commodity);
-    let spot = cents_at(&rows.spot, commodity);
+    let scan = scan_figures(totals_row(&rows.sums.totals, commodity));
+    let charges = charges_by(set, starts_row(&rows.starts, commodity), commodity);
     let credit = cents_at(&rows.credits, commodity);
-    let minimum = cents_at(&rows.minimums, commodity);
+    let minimum = cents_at(&rows.sums.minimums, commodity);
     CommodityFigures {
         scan: scan.scan,
         active: scan.active,
         price_risk2: scan.price_risk2,
-        intra,
-        spot,
+        intra: charges.intra,
+        spot: charges.spot,
         credit,
         minimum,
-        risk: risk_of(scan.scan, intra, spot, credit, minimum),
+        risk: risk_of(scan.scan, charges.intra, charges.spot, credit, minimum),
     }
 }
 
-#[tactic(auto, using(mgn_num::proofs::SignedLemmas::signed_sum_below_more, crate::proofs::PartLemmas::risk_is))]
+#[tactic(auto, using(crate::proofs::PartLemmas::risk_is))]
+// The risk of a commodity. Where each of its nets is 0 it risks nothing, and nothing is worked out.
+fn risk_at(set: &ParamSet, rows: &FigureRows, commodity: usize) -> Cents
+    requires rows { (nets : List ℤ) × AreFigureRows set.now nets rows.now }
+    requires commodity { commodity < length set.now.commodities }
+    ensures risk { (nets : List ℤ) →
+        AreFigureRows set.now nets rows.now →
+        result ≡ risk set.now (positions set.now.contracts nets) commodity }
+    ensures small { unsigned_abs result ≤ 10 ^ 27 }
+{
+    set.limits();
+    if !mark_at(&rows.sums.held, commodity) {
+        return Cents::ZERO;
+    }
+    figures_of(set, rows, commodity).risk
+}
+
+#[tactic(auto, using(mgn_num::proofs::SignedLemmas::signed_sum_below_more))]
 // The sum of the commodities' risks.
 fn sum_of_risks(set: &ParamSet, rows: &FigureRows) -> Cents
     requires { (nets : List ℤ) × AreFigureRows set.now nets rows.now }
@@ -104,21 +128,20 @@ fn sum_of_risks(set: &ParamSet, rows: &FigureRows) -> Cents
 {
     let mut total = Cents::ZERO;
     for g in 0..set.commodity_count() {
-        total = total.plus(figures_of(set, rows, g).risk);
+        total = total.plus(risk_at(set, rows, g));
     }
     total
 }
 
 #[tactic(auto, unfolding(mgn_span::specs::Requirement::requirement))]
 // The sum of the risks less the net option value, or 0 where that is negative.
-fn requirement_of(set: &ParamSet, nets: &[Quantity], rows: &FigureRows) -> Cents
-    requires nets { AreNets set.now nets.now }
-    requires rows { AreFigureRows set.now nets.now rows.now }
-    ensures requirement { result ≡ requirement set.now nets.now }
+fn requirement_of(set: &ParamSet, rows: &FigureRows) -> Cents
+    requires { (nets : List ℤ) × AreFigureRows set.now nets rows.now }
+    ensures requirement { (nets : List ℤ) → AreFigureRows set.now nets rows.now → result ≡ requirement set.now nets }
     ensures small { unsigned_abs result ≤ 10 ^ 30 }
 {
     let risks = sum_of_risks(set, rows);
-    risks.minus(option_value(set, nets)).or_zero()
+    risks.minus(rows.sums.option_value).or_zero()
 }
 
 /// What the nets require under the set, in whole cents, computed from scratch: one net for each contract of the set in file
@@ -138,7 +161,7 @@ pub fn requirement(
     ensures small { IfOk result (λ r. unsigned_abs r ≤ 10 ^ 30) }
 {
     let rows = work_out(alloc, set, nets, work)?;
-    Ok(requirement_of(set, nets, &rows))
+    Ok(requirement_of(set, &rows))
 }
 
 // The figures of the commodities, in file order.
@@ -160,12 +183,23 @@ fn list_figures(
     Ok(list)
 }
 
+// All figures by the rows.
+#[tactic(auto, unfolding(crate::specs::Figures::figures_of))]
+fn figures_by(alloc: Global, set: &ParamSet, rows: &FigureRows) -> Result<Figures, AllocError>
+    requires { (nets : List ℤ) × AreFigureRows set.now nets rows.now }
+    ensures ok { IfOk result (λ f. (nets : List ℤ) → AreFigureRows set.now nets rows.now → f ≡ figures_of set.now nets) }
+    ensures small { IfOk result (λ f. unsigned_abs f.requirement ≤ 10 ^ 30) }
+{
+    let commodities = list_figures(alloc, set, rows)?;
+    let requirement = requirement_of(set, rows);
+    Ok(Figures::new(commodities, rows.sums.option_value, requirement))
+}
+
 /// All figures of the nets under the set, computed from scratch: one net for each contract of the set in file order, each at
 /// most 10,000,000 in size.
 ///
 /// An error says that memory was refused, and nothing else fails. `work` counts the risk arrays that the calculation
 /// reads.
-#[tactic(auto, unfolding(crate::specs::Figures::figures_of))]
 pub fn figures(
     alloc: Global,
     set: &ParamSet,
@@ -178,7 +212,5 @@ pub fn figures(
     ensures small { IfOk result (λ f. unsigned_abs f.requirement ≤ 10 ^ 30) }
 {
     let rows = work_out(alloc, set, nets, work)?;
-    let commodities = list_figures(alloc, set, &rows)?;
-    let requirement = requirement_of(set, nets, &rows);
-    Ok(Figures::new(commodities, option_value(set, nets), requirement))
+    figures_by(alloc, set, &rows)
 }

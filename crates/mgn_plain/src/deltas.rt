@@ -1,16 +1,18 @@
-ghost use Rattle.std.specs.Prelude.{◌≡◌, ℕ, ◌+◌, ◌*◌, ◌<◌, ◌≤◌, ◌^◌, ℤ, pos, ◌+ℤ◌, ◌*ℤ◌, unsigned_abs, length, All, replicate, slice_index};
-ghost use Rattle.mgn_num.specs.Signed.{sum_below, signed_sum_below};
-ghost use Rattle.mgn_span.specs.Deltas.{month_delta, positive_part, negative_part};
-ghost use Rattle.mgn_span.specs.Positions.{positions, IsNet};
+ghost use Rattle.std.specs.Prelude.{◌≡◌, ℕ, ◌+◌, ◌*◌, ◌<◌, ◌≤◌, ◌^◌, ℤ, ◌+ℤ◌, ◌*ℤ◌, unsigned_abs, List, length, IfOk};
+ghost use Rattle.mgn_span.specs.Deltas.{positive_part, negative_part};
+ghost use Rattle.mgn_span.specs.Positions.{IsNet};
 ghost use Rattle.mgn_span.specs.Scan.{value_at};
-ghost use Rattle.mgn_span.specs.Words.{month_share, net_delta, start_of};
-ghost use Rattle.mgn_params.specs.Tables.{contract_at, month_at};
+ghost use Rattle.mgn_span.specs.Words.{month_share};
 ghost use Rattle.mgn_plain.specs.Kept.{leg_of, legs_row};
-ghost use Rattle.mgn_span.specs.MonthDeltas.{leg_share, month_net, net_share_by, start_share};
+ghost use Rattle.mgn_plain.specs.Months.{AreMonthSums, AreMonthSumsTo};
+ghost use Rattle.mgn_plain.specs.Parts.{AreDeltas};
+ghost use Rattle.mgn_span.specs.MonthDeltas.{month_net, start_share};
 
-use crate::rows::net_at;
+use crate::delta::Delta;
+use crate::rows::filled;
 use mgn_num::{Quantity, TenThousandths};
 use mgn_params::{Contract, Month, ParamSet};
+use std::alloc::{AllocError, Global};
 
 // The delta at a place.
 pub(crate) fn delta_at(deltas: &[TenThousandths], place: usize) -> TenThousandths
@@ -20,9 +22,17 @@ pub(crate) fn delta_at(deltas: &[TenThousandths], place: usize) -> TenThousandth
     deltas[place]
 }
 
+// The delta of a month.
+fn month_delta_at(deltas: &[Delta], month: usize) -> Delta
+    requires { month < length deltas.now }
+    ensures { result ≡ value_at deltas.now month }
+{
+    deltas[month]
+}
+
 // A delta and a net at a contract's delta more.
-fn plus_scaled(total: TenThousandths, net: Quantity, delta: &i64) -> TenThousandths
-    requires total { unsigned_abs total ≤ 10 ^ 30 }
+fn plus_scaled(total: Delta, net: Quantity, delta: &i64) -> Delta
+    requires total { unsigned_abs total ≤ 7 * 10 ^ 18 }
     requires net { IsNet net }
     requires delta { unsigned_abs delta.now ≤ 10 ^ 5 }
     ensures { result ≡ total +ℤ net *ℤ delta.now }
@@ -31,63 +41,40 @@ fn plus_scaled(total: TenThousandths, net: Quantity, delta: &i64) -> TenThousand
 }
 
 // Adds what a position in a contract counts for in its month.
-fn add_position(deltas: &mut [TenThousandths], contract: &Contract, net: Quantity)
+pub(crate) fn add_position(deltas: &mut [Delta], contract: &Contract, net: Quantity)
     requires month { contract.now.month < length deltas.old }
     requires delta { unsigned_abs contract.now.delta ≤ 10 ^ 5 }
     requires net { IsNet net }
-    requires room { (m : ℕ) → m < length deltas.old → unsigned_abs (value_at deltas.old m) ≤ 10 ^ 30 }
+    requires room { (m : ℕ) → m < length deltas.old → unsigned_abs (value_at deltas.old m) ≤ 7 * 10 ^ 18 }
     ensures one_each { length deltas.new ≡ length deltas.old }
     ensures deltas { (m : ℕ) → m < length deltas.old →
         value_at deltas.new m ≡ value_at deltas.old m +ℤ month_share m (contract.now, net) }
 {
-    if net != Quantity::ZERO {
-        let month = contract.month;
-        deltas[month] = plus_scaled(delta_at(deltas, month), net, &contract.delta);
-    }
+    let month = contract.month;
+    deltas[month] = plus_scaled(month_delta_at(deltas, month), net, &contract.delta);
 }
 
-#[tactic(auto, using(mgn_span::proofs::PositionLemmas::position_sum_all))]
-// Adds up the deltas of the months, one net for each contract of the set.
-pub(crate) fn add_positions(deltas: &mut [TenThousandths], set: &ParamSet, nets: &[Quantity])
-    requires one_each { length nets.now ≡ length set.now.contracts }
-    requires nets { All IsNet nets.now }
-    requires zero { deltas.old ≡ replicate (length set.now.months) (pos 0) }
-    ensures one_each { length deltas.new ≡ length set.now.months }
-    ensures deltas { (m : ℕ) → m < length set.now.months →
-        value_at deltas.new m ≡ month_delta (positions set.now.contracts nets.now) m }
-    ensures small { (m : ℕ) → m < length set.now.months → unsigned_abs (value_at deltas.new m) ≤ 10 ^ 16 }
-{
-    set.limits();
-    for i in 0..set.contract_count() {
-        add_position(deltas, set.contract_at(i), net_at(nets, i));
-    }
-}
-
-// Adds a month's delta to the leg of its tier that has the delta's direction. Of the month nothing is read where the
-// delta is 0, as most are.
-fn add_start(starts: &mut [[u128; 16]], month: &Month, delta: TenThousandths)
+// Adds a month's delta to the leg of its tier that has the delta's direction.
+fn add_start(starts: &mut [[u64; 16]], month: &Month, delta: TenThousandths)
     requires commodity { month.now.commodity < length starts.old }
     requires tier { month.now.tier < 8 }
-    requires delta { unsigned_abs delta ≤ 10 ^ 20 }
-    requires room { (g leg : ℕ) → g < length starts.old → leg < 16 → leg_of starts.old g leg ≤ 10 ^ 30 }
+    requires delta { unsigned_abs delta ≤ 10 ^ 16 }
+    requires room { (g leg : ℕ) → g < length starts.old → leg < 16 → leg_of starts.old g leg ≤ 10 ^ 16 }
     ensures one_each { length starts.new ≡ length starts.old }
     ensures starts { (g leg : ℕ) → g < length starts.old → leg < 16 →
         leg_of starts.new g leg ≡ leg_of starts.old g leg + start_share month.now delta g leg }
     ensures as_long { (g : ℕ) → g < length starts.old → length (legs_row starts.new g) ≡ length (legs_row starts.old g) }
 {
-    if delta == TenThousandths::ZERO {
-        return;
-    }
     let leg = if delta.is_negative() {
         8 + month.tier
     } else {
         month.tier
     };
     let row = &mut starts[month.commodity];
-    row[leg] += delta.size();
+    row[leg] += delta.size() as u64;
 }
 
-// Adds a month's delta to the net delta of its commodity. Of the month nothing is read where the delta is 0.
+// Adds a month's delta to the net delta of its commodity.
 fn add_net(nets: &mut [TenThousandths], month: &Month, delta: TenThousandths)
     requires commodity { month.now.commodity < length nets.old }
     requires delta { unsigned_abs delta ≤ 10 ^ 20 }
@@ -96,41 +83,70 @@ fn add_net(nets: &mut [TenThousandths], month: &Month, delta: TenThousandths)
     ensures nets { (g : ℕ) → g < length nets.old →
         value_at nets.new g ≡ value_at nets.old g +ℤ month_net month.now delta g }
 {
-    if delta != TenThousandths::ZERO {
-        let commodity = month.commodity;
-        nets[commodity] = delta_at(nets, commodity).plus(delta);
+    let commodity = month.commodity;
+    nets[commodity] = delta_at(nets, commodity).plus(delta);
+}
+
+// What the months come to.
+#[derive(Drop)]
+pub(crate) struct MonthSums {
+    // What the legs of the commodities start with.
+    pub starts: Vec<[u64; 16]>,
+    // The net deltas of the commodities.
+    pub nets: Vec<TenThousandths>,
+}
+
+// What no month comes to.
+fn nothing(alloc: Global, set: &ParamSet) -> Result<MonthSums, AllocError>
+    ensures { IfOk result (λ sums. (deltas : List ℤ) → AreMonthSumsTo set.now deltas 0 sums) }
+{
+    Ok(MonthSums {
+        starts: filled(alloc, set.commodity_count(), [0; 16])?,
+        nets: filled(alloc, set.commodity_count(), TenThousandths::ZERO)?,
+    })
+}
+
+// Adds what the month at `m` counts for, after all those before it.
+fn add_month(sums: &mut MonthSums, set: &ParamSet, deltas: &[Delta], m: usize)
+    requires month { m < length set.now.months }
+    requires deltas { (nets : List ℤ) × AreDeltas set.now nets deltas.now }
+    requires small { (k : ℕ) → k < length deltas.now → unsigned_abs (value_at deltas.now k) ≤ 10 ^ 16 }
+    requires sums { AreMonthSumsTo set.now deltas.now m sums.old }
+    ensures { AreMonthSumsTo set.now deltas.now (m + 1) sums.new }
+{
+    set.limits();
+    let delta = month_delta_at(deltas, m).ten_thousandths();
+    let month = set.month_at(m);
+    add_start(&mut sums.starts, month, delta);
+    add_net(&mut sums.nets, month, delta);
+}
+
+// Adds what all months count for. Nothing is read of a month where the delta is 0, as most are.
+fn add_months(sums: &mut MonthSums, set: &ParamSet, deltas: &[Delta])
+    requires deltas { (nets : List ℤ) × AreDeltas set.now nets deltas.now }
+    requires small { (m : ℕ) → m < length deltas.now → unsigned_abs (value_at deltas.now m) ≤ 10 ^ 16 }
+    requires sums { AreMonthSumsTo set.now deltas.now 0 sums.old }
+    ensures { AreMonthSumsTo set.now deltas.now (length set.now.months) sums.new }
+{
+    for m in 0..set.month_count() {
+        if month_delta_at(deltas, m) != Delta::ZERO {
+            add_month(sums, set, deltas, m);
+        }
     }
 }
 
-#[tactic(auto, using(mgn_num::proofs::SignedLemmas::sum_below_more))]
-// Adds up what the 16 legs of each commodity start with.
-pub(crate) fn add_starts(starts: &mut [[u128; 16]], set: &ParamSet, deltas: &[TenThousandths])
-    requires one_each { length deltas.now ≡ length set.now.months }
-    requires deltas { (m : ℕ) → m < length deltas.now → unsigned_abs (value_at deltas.now m) ≤ 10 ^ 16 }
-    requires zero { starts.old ≡ replicate (length set.now.commodities) (replicate 16 0) }
-    ensures one_each { length starts.new ≡ length set.now.commodities }
-    ensures starts { (g leg : ℕ) → g < length set.now.commodities → leg < 16 →
-        leg_of starts.new g leg ≡ sum_below (leg_share set.now.months deltas.now g leg) (length set.now.months) }
-    ensures sixteen { (g : ℕ) → g < length set.now.commodities → length (legs_row starts.new g) ≡ 16 }
+// What the months come to, in one pass over them.
+pub(crate) fn month_sums(
+    alloc: Global,
+    set: &ParamSet,
+    deltas: &[Delta],
+) -> Result<MonthSums, AllocError>
+    requires deltas { (nets : List ℤ) × AreDeltas set.now nets deltas.now }
+    requires small { (m : ℕ) → m < length deltas.now → unsigned_abs (value_at deltas.now m) ≤ 10 ^ 16 }
+    ensures { IfOk result (λ sums. (nets : List ℤ) → AreDeltas set.now nets deltas.now → AreMonthSums set.now nets sums) }
 {
     set.limits();
-    for m in 0..set.month_count() {
-        add_start(starts, set.month_at(m), delta_at(deltas, m));
-    }
-}
-
-#[tactic(auto, using(mgn_num::proofs::SignedLemmas::signed_sum_below_more))]
-// Adds up the net deltas of the commodities.
-pub(crate) fn add_nets(nets: &mut [TenThousandths], set: &ParamSet, deltas: &[TenThousandths])
-    requires one_each { length deltas.now ≡ length set.now.months }
-    requires deltas { (m : ℕ) → m < length deltas.now → unsigned_abs (value_at deltas.now m) ≤ 10 ^ 16 }
-    requires zero { nets.old ≡ replicate (length set.now.commodities) (pos 0) }
-    ensures one_each { length nets.new ≡ length set.now.commodities }
-    ensures nets { (g : ℕ) → g < length set.now.commodities →
-        value_at nets.new g ≡ signed_sum_below (net_share_by set.now.months deltas.now g) (length set.now.months) }
-{
-    set.limits();
-    for m in 0..set.month_count() {
-        add_net(nets, set.month_at(m), delta_at(deltas, m));
-    }
+    let mut sums = nothing(alloc, set)?;
+    add_months(&mut sums, set, deltas);
+    Ok(sums)
 }

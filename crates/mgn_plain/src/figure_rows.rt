@@ -1,11 +1,12 @@
-use crate::scanned::ScanFigures;
+use crate::sums::Sums;
 
-// What the figures of the commodities are worked out from: rows with an entry for each commodity.
+// What the figures of the commodities are worked out from.
 #[derive(Drop)]
 pub(crate) struct FigureRows {
-    pub scans: Vec<ScanFigures>,
-    pub intra: Vec<u128>,
-    pub spot: Vec<u128>,
+    // What the positions come to.
+    pub sums: Sums,
+    // What the legs of the commodities start with.
+    pub starts: Vec<[u64; 16]>,
+    // What intercommodity spreads credit to each commodity.
     pub credits: Vec<u128>,
-    pub minimums: Vec<u128>,
 }

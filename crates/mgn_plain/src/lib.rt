@@ -2,10 +2,13 @@
 #![tactic(auto)]
 
 mod calculation;
+mod charges;
 mod commodity;
 mod credits;
+mod delta;
 mod deltas;
 mod figure_rows;
+mod held;
 mod options;
 mod parts;
 mod rows;
@@ -13,6 +16,7 @@ mod scan;
 mod scanned;
 mod spot;
 mod stages;
+mod sums;
 mod total;
 mod whole;
 

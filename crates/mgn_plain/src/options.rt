@@ -4,7 +4,6 @@ ghost use Rattle.mgn_span.specs.Positions.{positions, IsNet};
 ghost use Rattle.mgn_span.specs.Words.{short_share_of, value_share};
 ghost use Rattle.mgn_params.specs.Tables.{commodity_at, contract_at, is_option, is_premium};
 
-use crate::rows::net_at;
 use mgn_num::{Cents, Quantity};
 use mgn_params::{Contract, Kind, ParamSet, Style};
 
@@ -38,7 +37,7 @@ fn charge_of(net: Quantity, charge: &u64) -> u128
 
 // Adds what a position in the contract at `i` counts for in its commodity's minimum. Of the contract nothing is read
 // where the net is not short, as most are not.
-fn add_minimum(minimums: &mut [u128], set: &ParamSet, i: usize, net: Quantity)
+pub(crate) fn add_minimum(minimums: &mut [u128], set: &ParamSet, i: usize, net: Quantity)
     requires contract { i < length set.now.contracts }
     requires net { IsNet net }
     requires one_each { length minimums.old ≡ length set.now.commodities }
@@ -59,49 +58,16 @@ fn add_minimum(minimums: &mut [u128], set: &ParamSet, i: usize, net: Quantity)
     }
 }
 
-#[tactic(auto, using(mgn_span::proofs::PositionLemmas::position_count_more, mgn_span::proofs::PositionLemmas::position_count_all))]
-// Adds up the short option minimums of the commodities, one net for each contract of the set.
-pub(crate) fn add_minimums(minimums: &mut [u128], set: &ParamSet, nets: &[Quantity])
-    requires one_each { length nets.now ≡ length set.now.contracts }
-    requires nets { All IsNet nets.now }
-    requires zero { minimums.old ≡ replicate (length set.now.commodities) 0 }
-    ensures one_each { length minimums.new ≡ length set.now.commodities }
-    ensures minimums { (g : ℕ) → g < length set.now.commodities → slice_index minimums.new g
-        ≡ short_option_minimum (positions set.now.contracts nets.now) g (commodity_at set.now.commodities g).short_option_charge }
-    ensures small { (g : ℕ) → g < length set.now.commodities → slice_index minimums.new g ≤ 10 ^ 20 }
-{
-    set.limits();
-    for i in 0..set.contract_count() {
-        add_minimum(minimums, set, i, net_at(nets, i));
-    }
-}
-
-// What a position counts for in the net option value. Of the contract nothing is read where the net is 0, as most are.
-fn share_of_value(contract: &Contract, net: Quantity) -> Cents
+// What a position counts for in the net option value.
+pub(crate) fn share_of_value(contract: &Contract, net: Quantity) -> Cents
     requires option_value { contract.now.option_value ≤ 10 ^ 8 }
     requires net { IsNet net }
     ensures share { result ≡ value_share (contract.now, net) }
     ensures small { unsigned_abs result ≤ 10 ^ 15 }
 {
-    if net != Quantity::ZERO && is_premium_style(contract.style) {
+    if is_premium_style(contract.style) {
         Cents::product(net, contract.option_value as i64)
     } else {
         Cents::ZERO
     }
-}
-
-#[tactic(auto, using(mgn_span::proofs::PositionLemmas::position_sum_more, mgn_span::proofs::PositionLemmas::position_sum_all))]
-// The net option value, one net for each contract of the set.
-pub(crate) fn option_value(set: &ParamSet, nets: &[Quantity]) -> Cents
-    requires one_each { length nets.now ≡ length set.now.contracts }
-    requires nets { All IsNet nets.now }
-    ensures value { result ≡ net_option_value (positions set.now.contracts nets.now) }
-    ensures small { unsigned_abs result ≤ 10 ^ 20 }
-{
-    set.limits();
-    let mut total = Cents::ZERO;
-    for i in 0..set.contract_count() {
-        total = total.plus(share_of_value(set.contract_at(i), net_at(nets, i)));
-    }
-    total
 }

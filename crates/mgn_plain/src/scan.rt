@@ -1,12 +1,11 @@
 ghost use Rattle.std.specs.Prelude.{◌≡◌, ℕ, ◌+◌, ◌*◌, ◌<◌, ◌≤◌, ◌^◌, ℤ, pos, ◌+ℤ◌, ◌*ℤ◌, unsigned_abs, length, All, replicate, slice_index};
 ghost use Rattle.std.specs.Int.{int_max};
 ghost use Rattle.mgn_params.specs.Tables.{contract_at};
-ghost use Rattle.mgn_span.specs.Positions.{positions, IsNet};
-ghost use Rattle.mgn_span.specs.Scan.{value_at, scenario_total, active, pair_of};
+ghost use Rattle.mgn_span.specs.Positions.{IsNet};
+ghost use Rattle.mgn_span.specs.Scan.{value_at, active, pair_of, price_risk2};
 ghost use Rattle.mgn_span.specs.Words.{price_risk2_at, scenario_share, total_of, totals_of};
-ghost use Rattle.mgn_plain.specs.Scans.{scan_at, scanned};
+ghost use Rattle.mgn_plain.specs.Scans.{scanned};
 
-use crate::rows::net_at;
 use crate::scanned::ScanFigures;
 use crate::total::Total;
 use mgn_num::{Cents, Quantity};
@@ -51,7 +50,7 @@ fn active_scenario(totals: &[Total; 16]) -> usize
 }
 
 // Adds what a position in the contract at `i` counts for.
-fn add_position(
+pub(crate) fn add_position(
     totals: &mut [[Total; 16]],
     set: &ParamSet,
     i: usize,
@@ -67,31 +66,8 @@ fn add_position(
         total_of totals.new g s ≡ total_of totals.old g s +ℤ scenario_share g s (contract_at set.now.contracts i, net) }
 {
     set.limits();
-    if net != Quantity::ZERO {
-        let row = &mut totals[set.contract_at(i).commodity];
-        add_scaled(row, set.array(i, work), net);
-    }
-}
-
-#[tactic(auto, using(mgn_span::proofs::PositionLemmas::position_sum_more, mgn_span::proofs::PositionLemmas::position_sum_all, mgn_span::proofs::ShareLemmas::scenario_share_small))]
-// Adds up the totals of the 16 scenarios of each commodity, one net for each contract of the set.
-pub(crate) fn add_positions(
-    totals: &mut [[Total; 16]],
-    set: &ParamSet,
-    nets: &[Quantity],
-    work: &mut Work,
-)
-    requires one_each { length nets.now ≡ length set.now.contracts }
-    requires nets { All IsNet nets.now }
-    requires zero { totals.old ≡ replicate (length set.now.commodities) (replicate 16 (pos 0)) }
-    ensures one_each { length totals.new ≡ length set.now.commodities }
-    ensures totals { (g s : ℕ) → g < length set.now.commodities → s < 16 →
-        total_of totals.new g s ≡ scenario_total g (positions set.now.contracts nets.now) s }
-{
-    set.limits();
-    for i in 0..set.contract_count() {
-        add_position(totals, set, i, net_at(nets, i), work);
-    }
+    let row = &mut totals[set.contract_at(i).commodity];
+    add_scaled(row, set.array(i, work), net);
 }
 
 // The other scenario of the same price move.
@@ -142,41 +118,21 @@ pub(crate) fn scan_figures(totals: &[Total; 16]) -> ScanFigures
 }
 
 // The totals of a commodity.
-fn totals_row(totals: &[[Total; 16]], commodity: usize) -> &[Total; 16]
+pub(crate) fn totals_row(totals: &[[Total; 16]], commodity: usize) -> &[Total; 16]
     requires { commodity < length totals.now }
     ensures { result.now ≡ totals_of totals.now commodity }
 {
     &totals[commodity]
 }
 
-// The scan figures of each commodity.
-pub(crate) fn fill_scans(scans: &mut [ScanFigures], totals: &[[Total; 16]])
-    requires one_each { length scans.old ≡ length totals.now }
+// Twice the price risk of each commodity.
+pub(crate) fn fill_price_risks(risks: &mut [u128], totals: &[[Total; 16]])
+    requires one_each { length risks.old ≡ length totals.now }
     requires small { (g s : ℕ) → g < length totals.now → s < 16 → unsigned_abs (total_of totals.now g s) ≤ 256 * 10 ^ 15 }
-    ensures one_each { length scans.new ≡ length totals.now }
-    ensures scans { (g : ℕ) → g < length totals.now → scan_at scans.new g ≡ scanned (total_of totals.now g) }
-    ensures small { (g : ℕ) → g < length totals.now → unsigned_abs (scan_at scans.new g).scan ≤ 256 * 10 ^ 15 }
+    ensures one_each { length risks.new ≡ length totals.now }
+    ensures risks { (g : ℕ) → g < length totals.now → slice_index risks.new g ≡ unsigned_abs (price_risk2 (total_of totals.now g)) }
 {
     for g in 0..totals.len() {
-        scans[g] = scan_figures(totals_row(totals, g));
-    }
-}
-
-// The scan figures of a commodity.
-pub(crate) fn scan_of(scans: &[ScanFigures], commodity: usize) -> ScanFigures
-    requires { commodity < length scans.now }
-    ensures { result ≡ scan_at scans.now commodity }
-{
-    scans[commodity]
-}
-
-// Twice the price risk of each commodity.
-pub(crate) fn fill_price_risks(risks: &mut [u128], scans: &[ScanFigures])
-    requires one_each { length risks.old ≡ length scans.now }
-    ensures one_each { length risks.new ≡ length scans.now }
-    ensures risks { (g : ℕ) → g < length scans.now → slice_index risks.new g ≡ unsigned_abs (scan_at scans.now g).price_risk2 }
-{
-    for g in 0..scans.len() {
-        risks[g] = scan_of(scans, g).price_risk2.size();
+        risks[g] = scan_figures(totals_row(totals, g)).price_risk2.size();
     }
 }

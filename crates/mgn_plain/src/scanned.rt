@@ -7,12 +7,3 @@ pub(crate) struct ScanFigures {
     pub active: usize,
     pub price_risk2: Cents,
 }
-
-impl ScanFigures {
-    // Those of no position.
-    pub const FLAT: ScanFigures = ScanFigures {
-        scan: Cents::ZERO,
-        active: 0,
-        price_risk2: Cents::ZERO,
-    };
-}

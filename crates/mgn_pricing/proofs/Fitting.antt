@@ -1,5 +1,5 @@
 -- Desks that are given with a command.
-use Rattle.std.proofs.Common.{◌≡◌, ◌<◌, ◌+◌, ◌∙◌, ℕ, zero, suc, ℤ, Bool, true, false, List, [], ◌∷◌, length, ◌≤◌, ◌-◌, take, drop, get_or, set, map, sym, ap, refl, arith, cond, Option, Some, None}
+use Rattle.std.proofs.Common.{pos, ◌≡◌, ◌<◌, ◌∙◌, ℕ, zero, suc, ℤ, Bool, true, false, List, [], ◌∷◌, length, ◌≤◌, get_or, set, map, sym, ap, refl, arith, cond, Option, Some, None}
 use Rattle.std.specs.Prelude.{◌||◌, ◌&&◌, ◌==◌, nat_lt, not}
 use Rattle.std.specs.Ordering.{int_eq}
 use Rattle.std.specs.Bool.{Decides}
@@ -10,8 +10,7 @@ use Rattle.std.proofs.lemmas.List.Folds.{find_at}
 use Rattle.std.proofs.lemmas.List.Quantifiers.{position-Some}
 use Rattle.std.proofs.lemmas.Option.{slice_get_past}
 use Rattle.std.proofs.lemmas.Bool.{ltb-false}
-use Rattle.std.proofs.lemmas.List.{drop-set-lt, get_or-set_same, length-drop, length-set, take-set}
-use Rattle.std.proofs.Math.Seq.{take-length}
+use Rattle.std.proofs.lemmas.List.{ext_get_or, length-set}
 use Rattle.mgn_params.specs.Tables.{Tables}
 use Rattle.mgn_desk.specs.declared.desk.Marked.{Marked}
 use Rattle.mgn_desk.specs.Desks.{DeskRows, IsMarkedBy, Requires}
@@ -53,33 +52,14 @@ decided xs ys = slice_eq-Decides Decides-int_eq xs ys (same_nets xs ys) refl
 pub not-same : (xs ys : List ℤ) → (xs ≡ ys → ⊥) → false ≡ same_nets xs ys
 not-same xs ys differ = same-bool false (same_nets xs ys) (λ e. cc, λ e. absurd (differ e)) (decided xs ys)
 
-joined : (xs ys : List ℤ) (i : ℕ) (v d : ℤ) → i < length xs → length xs ≡ length ys → take i xs ≡ take i ys → get_or xs i d ≡ v → drop (i + 1) xs ≡ drop (i + 1) ys → xs ≡ set ys i v
-joined [] ys i v d inside long before here after = absurd (omega (arith, inside))
-joined (x ∷ xs) [] i v d inside long before here after = absurd (omega (arith, long))
-joined (x ∷ xs) (y ∷ ys) zero v d inside long before here after = ap (λ (z : ℤ). z ∷ xs) here ∙ ap (λ (zs : List ℤ). v ∷ zs) after
-joined (x ∷ xs) (y ∷ ys) (suc i) v d inside long before here after =
-    let more : suc i + 1 ≡ suc (i + 1) = omega arith in
-    let first : x ≡ y = ap (λ (zs : List ℤ). get_or zs 0 y) before in
-    let rest = joined xs ys i v d (omega (arith, inside)) (omega (arith, long)) (ap (drop 1) before) here (rw more at after) in
-    ap (λ (z : ℤ). z ∷ xs) first ∙ ap (λ (zs : List ℤ). y ∷ zs) rest
-
 pub not-long : (xs ys : List ℤ) (i : ℕ) (v : ℤ) → (length xs ≡ length ys → ⊥) → false ≡ same_nets xs (set ys i v)
 not-long xs ys i v differ = not-same xs (set ys i v) (λ e. differ (ap (λ (zs : List ℤ). length zs) e ∙ length-set ys i v))
 
-pub not-before : (xs ys : List ℤ) (i : ℕ) (v : ℤ) → (take i xs ≡ take i ys → ⊥) → false ≡ same_nets xs (set ys i v)
-not-before xs ys i v differ = not-same xs (set ys i v) (λ e. differ (ap (take i) e ∙ take-set ys i v))
+pub not-here : (xs ys : List ℤ) (i : ℕ) (d : ℤ) → (get_or xs i d ≡ get_or ys i d → ⊥) → false ≡ same_nets xs ys
+not-here xs ys i d differ = not-same xs ys (λ e. differ (ap (λ (zs : List ℤ). get_or zs i d) e))
 
-pub not-here : (xs ys : List ℤ) (i : ℕ) (v d : ℤ) → i < length ys → (get_or xs i d ≡ v → ⊥) → false ≡ same_nets xs (set ys i v)
-not-here xs ys i v d inside differ = not-same xs (set ys i v) (λ e. differ (ap (λ (zs : List ℤ). get_or zs i d) e ∙ get_or-set_same ys i v d inside))
-
-pub all-same : (xs ys : List ℤ) (i : ℕ) (v d : ℤ) (r : Bool) → i < length ys → length xs ≡ length ys → take i xs ≡ take i ys → get_or xs i d ≡ v → r ≡ same_nets (drop (i + 1) xs) (drop (i + 1) ys) → r ≡ same_nets xs (set ys i v)
-all-same xs ys i v d r inside long before here is =
-    let whole : Decides r (xs ≡ set ys i v) = (
-      λ e. joined xs ys i v d (omega (arith, inside, long)) long before here ((decided (drop (i + 1) xs) (drop (i + 1) ys)).0 (sym is ∙ e)),
-      λ e. is ∙ (decided (drop (i + 1) xs) (drop (i + 1) ys)).1 (ap (drop (i + 1)) e ∙ drop-set-lt (i + 1) ys i v (omega arith)),
-    )
-    in
-    same-bool r (same_nets xs (set ys i v)) whole (decided xs (set ys i v))
+pub all-same : (xs ys : List ℤ) → length xs ≡ length ys → ((k : ℕ) → k < length xs → get_or xs k (pos 0) ≡ get_or ys k (pos 0)) → true ≡ same_nets xs ys
+all-same xs ys long each = sym ((decided xs ys).1 (ext_get_or (pos 0) xs ys long each))
 
 -- A desk that fits.
 
@@ -118,12 +98,6 @@ not-true false e f = cc
 not-not : (b : Bool) → false ≡ not b → b ≡ true
 not-not true e = refl
 not-not false e = cc
-
-pub differ : (xs ys : List ℤ) → true ≡ not (same_nets xs ys) → xs ≡ ys → ⊥
-differ xs ys test e = not-true (same_nets xs ys) test ((decided xs ys).1 e)
-
-pub alike : (xs ys : List ℤ) → false ≡ not (same_nets xs ys) → xs ≡ ys
-alike xs ys test = (decided xs ys).0 (not-not (same_nets xs ys) test)
 
 pub differ-here : (a b : ℤ) → true ≡ not (int_eq a b) → a ≡ b → ⊥
 differ-here a b test e = not-true (int_eq a b) test ((Decides-int_eq a b).1 e)
@@ -183,7 +157,3 @@ fits-place {A = A} f set' version rows u desks i d row inside row_is at d_is = �
 
     desk-same : find (λ (a : DeskRows). a.unit == u.unit) (map f desks) ≡ Some (f d)
     desk-same = found-at f (λ a. a.unit == u.unit) desks i d at ∙ ap (λ (a : A). Some (f a)) (sym d_is)
-
--- the end of a list
-pub rest-is : (n : ℕ) (xs : List ℤ) → take (length xs - n) (drop n xs) ≡ drop n xs
-rest-is n xs = ap (λ (m : ℕ). take m (drop n xs)) (sym (length-drop n xs)) ∙ take-length (drop n xs)

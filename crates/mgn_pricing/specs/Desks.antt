@@ -7,6 +7,7 @@ use Rattle.mgn_desk.specs.declared.moves.Requirements.{Requirements}
 use Rattle.mgn_desk.specs.Desks.{DeskRows}
 use Rattle.mgn_desk.specs.Portfolios.{AreFourNets, ArePortfolios, FourNets, nets_of}
 use Rattle.mgn_unit.specs.declared.change.Change.{Change}
+use Rattle.mgn_unit.specs.declared.prepared.KeptNets.{KeptNets}
 use Rattle.mgn_unit.specs.declared.row.Priced.{Priced}
 use Rattle.mgn_unit.specs.declared.row.Row.{Row}
 use Rattle.mgn_plan.specs.declared.plans.Plan.{Plan}
@@ -31,6 +32,10 @@ required_by r = record { lots = r.lots; buys = r.buys; sales = r.sales; all = r.
 -- nets as a desk shows them
 abbrev pub four : UnitNets → FourNets
 four nets = record { lots = nets.lots; buys = nets.buys; sales = nets.sales; all = nets.all }
+
+-- nets where a row keeps them, as a desk shows them
+abbrev pub four_kept : KeptNets → FourNets
+four_kept nets = record { lots = nets.lots.now; buys = nets.buys.now; sales = nets.sales.now; all = nets.all.now }
 
 -- nets can change so: they are within their limits before and after
 pub record CanGain (set : Tables) (nets : UnitNets) (change : Change) : Type 0 where

@@ -8,7 +8,8 @@ ghost use Rattle.mgn_plan.specs.Plans.{CanChange, Foresees, IsPossible, UnitNets
 ghost use Rattle.mgn_plan.specs.declared.plans.Plan.TheVariants.{Nothing};
 ghost use Rattle.mgn_pricing.specs.Desks.{IsReady, Rests, is_of, moves_of, required_by};
 
-use mgn_desk::{Desk, Moves, UnitNets};
+use crate::marks::mark;
+use mgn_desk::{Desk, Moves};
 use mgn_params::{ParamSet, Version, Work};
 use mgn_plan::{Known, Plan, UnitChange};
 use mgn_unit::{Change, Priced, Row};
@@ -77,13 +78,7 @@ fn ready(
     if is_of(desk, version) {
         return Ok(());
     }
-    let nets = UnitNets {
-        lots: row.lots.nets.as_slice(),
-        buys: row.buys.nets.as_slice(),
-        sales: row.sales.nets.as_slice(),
-        all: row.all.nets.as_slice(),
-    };
-    desk.mark(alloc, version, set, &nets)
+    mark(desk, alloc, version, set, &row.nets())
 }
 
 /// What the portfolios of a marked desk require, in cents.

@@ -18,7 +18,7 @@ use mgn_desk::Desk;
 use mgn_num::Quantity;
 use mgn_params::{ParamSet, Version};
 use mgn_plan::{Known, Plan, UnitChange};
-use mgn_unit::{Change, Gain, PortfolioRow, Priced, Row};
+use mgn_unit::{Change, Gain, Nets, PortfolioRow, Priced, Row};
 
 // Whether a desk is marked under a version before this one.
 fn is_older(desk: &Desk, version: Version) -> bool
@@ -52,19 +52,35 @@ fn place_of(desks: &[&Desk], unit: usize) -> Option<usize>
     desks.iter().position(|desk| desk.unit() == unit)
 }
 
+// A net of a row with a quantity more of one contract.
+fn moved_net(row: &Nets, i: usize, contract: usize, quantity: Quantity) -> Quantity
+    requires inside { i < length row.now }
+    requires small { IsQuantity (value_at row.now contract +ℤ quantity) }
+    ensures { result ≡ value_at (more_at row.now contract quantity) i }
+{
+    let net = row.at(i);
+    if i == contract {
+        net.plus(quantity)
+    } else {
+        net
+    }
+}
+
 // Whether nets are those of a row with a quantity more of one contract.
-fn are_moved(nets: &[Quantity], row: &[Quantity], contract: usize, quantity: Quantity) -> bool
+fn are_moved(nets: &[Quantity], row: &Nets, contract: usize, quantity: Quantity) -> bool
     requires contract { contract < length row.now }
     requires small { IsQuantity (value_at row.now contract +ℤ quantity) }
     ensures { result ≡ same_nets nets.now (more_at row.now contract quantity) }
 {
-    if nets.len() != row.len() || nets[..contract] != row[..contract] {
+    if nets.len() != row.len() {
         return false;
     }
-    if nets[contract] != row[contract].plus(quantity) {
-        return false;
+    for i in 0..nets.len() {
+        if nets[i] != moved_net(row, i, contract, quantity) {
+            return false;
+        }
     }
-    nets[contract + 1..] == row[contract + 1..]
+    true
 }
 
 // Whether nets are those of a portfolio's row after a gain in one contract.
@@ -73,7 +89,7 @@ fn have_gained(nets: &[Quantity], row: &PortfolioRow, contract: usize, gain: &Ga
     requires small { IsQuantity (value_at row.now.nets contract +ℤ gain.now.quantity) }
     ensures { result ≡ same_nets nets.now (more_at row.now.nets contract gain.now.quantity) }
 {
-    are_moved(nets, row.nets.as_slice(), contract, gain.quantity)
+    are_moved(nets, &row.nets, contract, gain.quantity)
 }
 
 // Whether a desk is marked under a version with the nets of a row after a change.

@@ -1,10 +1,18 @@
 ghost use Rattle.std.specs.Prelude.{◌≡◌, ℕ, ◌+◌, ◌*◌, ◌<◌, ◌≤◌, ◌^◌, ℤ, pos, ◌+ℤ◌, ◌*ℤ◌, ◌≤ℤ◌, unsigned_abs};
+ghost use Rattle.std.specs.Int.{int_max};
 ghost use Rattle.mgn_span.specs.Scan.{active, pair_of, price_risk2, scan_risk, value_at};
 ghost use Rattle.mgn_span.specs.Words.{price_risk2_at};
 ghost use Rattle.mgn_scan.specs.Totals.{IsTotal};
 
 use crate::total::Total;
 use mgn_num::{Cents, Quantity};
+
+/// The scan risk of a commodity and twice its price risk, in cents.
+#[derive(Clone, Copy, PartialEq, Eq, Debug)]
+pub struct ScanRisks {
+    pub scan: Cents,
+    pub price_risk2: Cents,
+}
 
 // The total of a scenario, by its place.
 fn total_at(totals: &[Total; 16], scenario: usize) -> Total
@@ -44,12 +52,21 @@ pub(crate) fn active_scenario(totals: &[Total; 16]) -> usize
     best
 }
 
+// The total of a scenario, if it is above 0.
+fn risk_at(totals: &[Total; 16], scenario: usize) -> Cents
+    requires { scenario < 16 }
+    ensures value { result ≡ int_max (pos 0) (value_at totals.now scenario) }
+    ensures small { unsigned_abs result ≤ 256 * 10 ^ 15 }
+{
+    total_at(totals, scenario).cents().or_zero()
+}
+
 // The largest total, if it is above 0.
 pub(crate) fn largest_total(totals: &[Total; 16]) -> Cents
     ensures scan { result ≡ scan_risk (value_at totals.now) }
     ensures small { unsigned_abs result ≤ 256 * 10 ^ 15 }
 {
-    total_at(totals, active_scenario(totals)).cents().or_zero()
+    risk_at(totals, active_scenario(totals))
 }
 
 // The other scenario of the same price move.
@@ -93,4 +110,19 @@ pub(crate) fn doubled_risk(totals: &[Total; 16]) -> Cents
     ensures small { unsigned_abs result ≤ 11 * 10 ^ 17 }
 {
     doubled_risk_at(totals, active_scenario(totals))
+}
+
+// The scan risk and twice the price risk, by one search of the active scenario.
+pub(crate) fn both_risks(totals: &[Total; 16]) -> ScanRisks
+    ensures scan { result.scan ≡ scan_risk (value_at totals.now) }
+    ensures small_scan { unsigned_abs result.scan ≤ 256 * 10 ^ 15 }
+    ensures price_risk2 { result.price_risk2 ≡ price_risk2 (value_at totals.now) }
+    ensures not_negative { pos 0 ≤ℤ result.price_risk2 }
+    ensures small { unsigned_abs result.price_risk2 ≤ 11 * 10 ^ 17 }
+{
+    let active = active_scenario(totals);
+    ScanRisks {
+        scan: risk_at(totals, active),
+        price_risk2: doubled_risk_at(totals, active),
+    }
 }

@@ -5,4 +5,5 @@ mod figures;
 mod total;
 mod totals;
 
+pub use figures::ScanRisks;
 pub use totals::ScanTotals;

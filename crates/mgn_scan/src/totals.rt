@@ -1,4 +1,4 @@
-ghost use Rattle.std.specs.Prelude.{◌≡◌, ℤ, List, ◌+◌, ◌-◌, ◌*◌, ◌<◌, ◌≤◌, ◌^◌, pos, ◌+ℤ◌, ◌≤ℤ◌, unsigned_abs, length, min, replicate, slice_set, IfOk};
+ghost use Rattle.std.specs.Prelude.{◌≡◌, ℤ, List, ◌+◌, ◌-◌, ◌*◌, ◌<◌, ◌≤◌, ◌^◌, pos, ◌+ℤ◌, ◌≤ℤ◌, unsigned_abs, length, min, replicate, slice_set, IfOk, IsTrue, ◌↔◌};
 ghost use Rattle.mgn_span.specs.Positions.{IsNet, positions};
 ghost use Rattle.mgn_span.specs.Requirement.{scan_of};
 ghost use Rattle.mgn_span.specs.Scan.{active, price_risk2, scenario_total, value_at};
@@ -6,7 +6,9 @@ ghost use Rattle.mgn_params.specs.Tables.{Tables};
 ghost use Rattle.mgn_scan.specs.Totals.{AreTotals};
 ghost use Rattle.mgn_span.specs.Words.{totals_of};
 
-use crate::figures::{active_scenario, add_scaled, doubled_risk, largest_total};
+use crate::figures::{
+    ScanRisks, active_scenario, add_scaled, both_risks, doubled_risk, largest_total,
+};
 use crate::total::Total;
 use mgn_num::{Cents, Quantity};
 use mgn_params::{ParamSet, Work};
@@ -39,6 +41,15 @@ fn flat_rows(alloc: Global, count: usize) -> Result<Vec<[Total; 16]>, AllocError
     Ok(rows)
 }
 
+// Writes one value at each place.
+fn fill<T: Copy>(row: &mut Vec<T>, value: T)
+    ensures { row.new.items ≡ replicate (length row.old.items) value }
+{
+    for place in row.iter_mut() {
+        *place = value;
+    }
+}
+
 impl ScanTotals {
     /// The totals of nets of 0 under a set. An error says that memory was refused; no later call takes any.
     pub fn new(alloc: Global, set: &ParamSet) -> Result<Self, AllocError>
@@ -46,6 +57,21 @@ impl ScanTotals {
     {
         let rows = flat_rows(alloc, set.commodity_count())?;
         Ok(ScanTotals { rows })
+    }
+
+    /// Whether there is one row for each commodity of a set.
+    pub fn fits(&self, set: &ParamSet) -> bool
+        ensures { IsTrue result ↔ (length self.now ≡ length set.now.commodities) }
+    {
+        self.rows.len() == set.commodity_count()
+    }
+
+    /// The totals of nets of 0 in place of what was kept, under each set that the rows fit. Takes no memory.
+    pub fn flatten(&mut self)
+        ensures { (set : Tables) → length self.old ≡ length set.commodities →
+            AreTotals set (replicate (length set.contracts) (pos 0)) self.new }
+    {
+        fill(&mut self.rows, [Total::ZERO; 16]);
     }
 
     /// Follows a change of one net: a quantity more of the contract at `i`, bought above 0 and sold below.
@@ -119,5 +145,20 @@ impl ScanTotals {
         ensures small { unsigned_abs result ≤ 11 * 10 ^ 17 }
     {
         doubled_risk(self.row(commodity))
+    }
+
+    /// The scan risk of a commodity and twice its price risk, as `scan` and `price_risk2` tell them. The totals are
+    /// searched once.
+    pub fn risks(&self, commodity: usize) -> ScanRisks
+        requires commodity { commodity < length self.now }
+        ensures scan { (set : Tables) (nets : List ℤ) → AreTotals set nets self.now →
+            result.scan ≡ scan_of (positions set.contracts nets) commodity }
+        ensures small_scan { unsigned_abs result.scan ≤ 256 * 10 ^ 15 }
+        ensures price_risk2 { (set : Tables) (nets : List ℤ) → AreTotals set nets self.now →
+            result.price_risk2 ≡ price_risk2 (scenario_total commodity (positions set.contracts nets)) }
+        ensures not_negative { pos 0 ≤ℤ result.price_risk2 }
+        ensures small { unsigned_abs result.price_risk2 ≤ 11 * 10 ^ 17 }
+    {
+        both_risks(self.row(commodity))
     }
 }

@@ -3,11 +3,11 @@ use Rattle.std.specs.Prelude.{ℕ, ◌≡◌, Option, Some, None}
 use Rattle.mgn_machine.specs.declared.command.Command.{Command}
 use Rattle.mgn_machine.specs.declared.reply.Reply.TheVariants.{Done}
 use Rattle.mgn_machine.specs.declared.request.Request.TheVariants.{Do}
-use Rattle.mgn_plan.specs.declared.plans.UnitChange.{UnitChange}
 use Rattle.mgn_ledger.specs.Days.{Day}
 use Rattle.mgn_ledger.specs.Ledgers.{Answers}
 use Rattle.mgn_ledger.specs.Passes.{IsCalled, PassView}
 use Rattle.mgn_service.specs.UnitDesks.{IsAfter}
+use Rattle.mgn_service.specs.declared.sight.UnitMove.{UnitMove}
 use Rattle.mgn_service.specs.declared.service.Begun.{Begun}
 use Rattle.mgn_service.specs.declared.service.Begun.TheVariants as begun
 use Rattle.mgn_service.specs.declared.service.Tried.{Tried}
@@ -26,7 +26,7 @@ Looks old command unit own (looked.Seen sight) new =
 Looks old command unit own looked.Apart new = new ≡ old
 
 -- a command that is done leaves the unit with the nets that its desk has moved to; any other way it came to nothing there
-abbrev pub Decides : {T J : Type 0} → (T → Day) → PassView → Command → UnitChange → T → Decided T J → PassView → Type 0
+abbrev pub Decides : {T J : Type 0} → (T → Day) → PassView → Command → UnitMove → T → Decided T J → PassView → Type 0
 Decides shown old command u t (decided.Settled place stamp) new =
     IsCalled old (Do command) place Done new × IsAfter shown u t stamp.1
 Decides shown old command u t (decided.Answered answer) new = Answers old (Do command) answer new

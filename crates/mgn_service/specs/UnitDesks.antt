@@ -1,10 +1,12 @@
 -- Desks under locks of their own, and the stamps that show where their nets stood in the book (own profile).
+use Rattle.std.specs.Borrow.{Bor}
 use Rattle.std.specs.Prelude.{ℕ, ◌≡◌, Option, Some, None, IfSome}
 use Rattle.mgn_params.specs.Tables.{Tables}
 use Rattle.mgn_desk.specs.Desks.{DeskRows}
 use Rattle.mgn_unit.specs.declared.change.Change.{Change}
 use Rattle.mgn_unit.specs.declared.prepared.CopiedNets.{CopiedNets}
 use Rattle.mgn_plan.specs.declared.plans.UnitChange.{UnitChange}
+use Rattle.mgn_service.specs.declared.sight.UnitMove.{UnitMove}
 use Rattle.mgn_plan.specs.Plans.{UnitNets, moved_nets}
 use Rattle.mgn_pricing.specs.Desks.{CanGain, IsReady}
 use Rattle.mgn_ledger.specs.Changes.{SameUnit}
@@ -19,31 +21,41 @@ abbrev pub IsInStep : {T : Type 0} → (T → Day) → DeskRows → Option (ℕ 
 IsInStep shown desk None = Unit {0}
 IsInStep shown desk (Some at) = IsOfDay (shown at.1) desk
 
+-- where a desk has a stamp and a set, the set is that of the day that the stamp shows
+abbrev pub IsSetAt : {T : Type 0} → (T → Day) → Option (ℕ × T) → Option (Bor Tables) → Type 0
+IsSetAt shown None set = Unit {0}
+IsSetAt shown (Some at) None = Unit {0}
+IsSetAt shown (Some at) (Some set) = set.now ≡ set_of (shown at.1)
+
+-- what a plan's change is of its unit
+abbrev pub moved_in : UnitChange → UnitMove
+moved_in u = record { unit = u.unit; change = u.change }
+
 abbrev pub nets_copied : CopiedNets → UnitNets
 nets_copied n = record { lots = n.lots; buys = n.buys; sales = n.sales; all = n.all }
 
 -- what was looked at of a unit is that of the day that the stamp shows: version, set and nets, which can change so
-pub record IsSight {T : Type 0} (shown : T → Day) (u : UnitChange) (version : ℕ) (set : Tables) (at : ℕ × T) (nets : Option CopiedNets) : Type 0 where
+pub record IsSight {T : Type 0} (shown : T → Day) (u : UnitMove) (version : ℕ) (set : Tables) (at : ℕ × T) (nets : Option CopiedNets) : Type 0 where
   pub version_is : version ≡ version_of (shown at.1)
   pub set_is : set ≡ set_of (shown at.1)
   pub can : CanGain set (nets_of (shown at.1) u.unit) u.change
   pub copied : IfSome nets (λ n. nets_copied n ≡ nets_of (shown at.1) u.unit)
 
 -- a desk has the nets of a day after a change of its unit
-abbrev pub IsMovedOf : Day → UnitChange → DeskRows → Type 0
+abbrev pub IsMovedOf : Day → UnitMove → DeskRows → Type 0
 IsMovedOf day u desk =
     IsReady (set_of day) (version_of day) (moved_nets u.change (nets_of day u.unit)) desk.marked
 
-abbrev pub IsMoved : {T : Type 0} → (T → Day) → UnitChange → T → DeskRows → Type 0
+abbrev pub IsMoved : {T : Type 0} → (T → Day) → UnitMove → T → DeskRows → Type 0
 IsMoved shown u t desk = IsMovedOf (shown t) u desk
 
 -- a day has the set of an earlier one, and a unit's nets after a change
-pub record IsAfterDay (before after : Day) (u : UnitChange) : Type 0 where
+pub record IsAfterDay (before after : Day) (u : UnitMove) : Type 0 where
   pub version : version_of after ≡ version_of before
   pub set_is : set_of after ≡ set_of before
   pub nets : nets_of after u.unit ≡ moved_nets u.change (nets_of before u.unit)
 
-abbrev pub IsAfter : {T : Type 0} → (T → Day) → UnitChange → T → T → Type 0
+abbrev pub IsAfter : {T : Type 0} → (T → Day) → UnitMove → T → T → Type 0
 IsAfter shown u before after = IsAfterDay (shown before) (shown after) u
 
 -- two changes move the same nets by as much
@@ -55,7 +67,7 @@ pub record SameMoves (a b : Change) : Type 0 where
   pub all : a.all.quantity ≡ b.all.quantity
 
 -- a change is of the unit that was looked at and moves its nets by as much, and the unit has the same nets under the same set
-pub record IsAsSeen {T : Type 0} (shown : T → Day) (day : Day) (now u : UnitChange) (t : T) : Type 0 where
+pub record IsAsSeen {T : Type 0} (shown : T → Day) (day : Day) (now : UnitChange) (u : UnitMove) (t : T) : Type 0 where
   pub unit : now.unit ≡ u.unit
   pub moves : SameMoves now.change u.change
   pub same : SameUnit (shown t) day now.unit

@@ -4,7 +4,7 @@ ghost use Rattle.std.specs.Prelude.{◌≡◌, IsTrue};
 ghost use Rattle.mgn_service.specs.Commits.{Decides};
 ghost use Rattle.mgn_service.specs.UnitDesks.{IsAsSeen, IsMoved, SameMoves};
 
-use crate::sight::Sight;
+use crate::sight::{Sight, UnitMove};
 use crate::unit_desk::UnitDesk;
 use mgn_ledger::{Entered, Image, Ledger, Pass};
 use mgn_machine::{Answer, Command, Reply};
@@ -27,7 +27,7 @@ pub(crate) enum Decided<'a, T: Image, J: SlotNames> {
 }
 
 // Whether two changes are of one unit and move its nets by as much.
-fn moves_same(a: &UnitChange, b: &UnitChange) -> bool
+fn moves_same(a: &UnitChange, b: &UnitMove) -> bool
     ensures unit { IsTrue result → a.now.unit ≡ b.now.unit }
     ensures moves { IsTrue result → SameMoves a.now.change b.now.change }
 {

@@ -3,6 +3,7 @@
 #![tactic(auto)]
 
 mod commits;
+mod foreseen;
 mod gate;
 mod looks;
 mod pairs;
@@ -16,6 +17,6 @@ mod workers;
 
 pub use gate::{Gate, Point, SessionGate, Through};
 pub use service::Service;
-pub use sight::Sight;
+pub use sight::{Sight, UnitMove};
 pub use unit_desk::UnitDesk;
 pub use workers::{Marking, Workers};

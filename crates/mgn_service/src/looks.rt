@@ -5,8 +5,9 @@ ghost use Rattle.mgn_plan.specs.Plans.{CanChange};
 ghost use Rattle.mgn_ledger.specs.Days.{set_of};
 ghost use Rattle.mgn_ledger.specs.Ledgers.{IsUnplaced};
 ghost use Rattle.mgn_service.specs.Commits.{Looks};
+ghost use Rattle.mgn_service.specs.UnitDesks.{moved_in};
 
-use crate::sight::Sight;
+use crate::sight::{Sight, UnitMove};
 use mgn_ledger::{Image, Ledger, Pass};
 use mgn_machine::{Answer, Command, Refusal, Reply};
 use mgn_plan::{Known, Plan, UnitChange};
@@ -35,15 +36,19 @@ pub(crate) fn sight<'a, T: Image, J: TableName + SlotNames>(
     own: &Option<Stamp<'a, T, J>>,
 ) -> Result<Sight<'a, T, J>, Refusal>
     requires { CanChange (set_of ledger.now) ledger.now.book.book.rows change.now }
-    ensures change { IfOk result (λ sight. sight.0 ≡ change.now) }
+    ensures change { IfOk result (λ sight. sight.0 ≡ moved_in change.now) }
     ensures has { IfOk result (λ sight. sight.1.1 ≡ None → own.now ≡ Some sight.1.0) }
     ensures why { IfErr result (λ why. IsUnplaced (Reply.Refused why)) }
 {
     let version = ledger.version();
     let set = ledger.set();
+    let seen = UnitMove {
+        unit: change.unit,
+        change: change.change,
+    };
     if let Some(own) = own {
         if ledger.is_since(change.unit, own) {
-            return Ok(Sight::new(*change, version, set, own.again(), None));
+            return Ok(Sight::new(seen, version, set, own.again(), None));
         }
     }
     let Some(stamp) = ledger.since(change.unit) else {
@@ -52,7 +57,7 @@ pub(crate) fn sight<'a, T: Image, J: TableName + SlotNames>(
     let Ok(nets) = ledger.rows()[change.unit].copy_nets(alloc) else {
         return Err(Refusal::Memory);
     };
-    Ok(Sight::new(*change, version, set, stamp, Some(nets)))
+    Ok(Sight::new(seen, version, set, stamp, Some(nets)))
 }
 
 /// Looks at a command of one unit, whose desk has this stamp. Where the command changes no portfolio it is committed in the

@@ -1,4 +1,4 @@
-ghost use Rattle.std.specs.Prelude.{ℕ, ◌≡◌, ◌<◌, ◌≤◌, List, IfOk, IfSome};
+ghost use Rattle.std.specs.Prelude.{ℕ, ◌≡◌, ◌<◌, ◌≤◌, List, IfOk, IfSome, Some};
 ghost use Rattle.mgn_params.specs.Tables.{Tables};
 ghost use Rattle.mgn_machine.specs.declared.entry.Entry.{Entry};
 ghost use Rattle.mgn_machine.specs.declared.request.Request.TheVariants.{Do, Switch};
@@ -8,6 +8,7 @@ ghost use Rattle.mgn_ledger.specs.Passes.{AreAudited, fresh};
 ghost use Rattle.mgn_service.specs.Commits.{Begins, Tries};
 
 use crate::commits::{Decided, commit};
+use crate::foreseen::keep_order;
 use crate::gate::{Gate, Point, SessionGate};
 use crate::looks::{Looked, look};
 use crate::sight::Sight;
@@ -311,7 +312,14 @@ impl<'a, T: Image, J: TableName + SlotNames> Service<'a, T, J> {
         let Some(place) = self.desks.get(unit) else {
             return self.ledger.lock(rt).exec_plain(rt, pass, command);
         };
-        let mut desk = place.lock(rt);
+        let mut desk = hold(rt, place);
+        if let Some(sight) = desk.foreseen(pass, command) {
+            if let Tried::Answered(answer) = self.try_sight(
+                rt, pass, gate, command, &mut desk, &sight,
+            ) {
+                return answer;
+            }
+        }
         for _look in 0..MOST_LOOKS {
             match self.try_one(rt, pass, gate, command, &mut desk) {
                 Tried::Answered(answer) => return answer,
@@ -323,7 +331,7 @@ impl<'a, T: Image, J: TableName + SlotNames> Service<'a, T, J> {
         self.ledger.lock(rt).exec_plain(rt, pass, command)
     }
 
-    // One look at the book and one commit, between which the desk moves under its unit's lock alone.
+    // One look at the book and one commit.
     fn try_one<R: Wait, G: Gate>(
         &self,
         rt: &R,
@@ -353,12 +361,30 @@ impl<'a, T: Image, J: TableName + SlotNames> Service<'a, T, J> {
             return Tried::Answered(Answer::refused(Refusal::Memory));
         }
         self.count_mark(&sight);
-        desk.apply(&sight);
+        self.try_sight(rt, pass, gate, command, desk, &sight)
+    }
+
+    // One commit, before which the desk moves under its unit's lock alone, as it was looked at or foreseen.
+    fn try_sight<R: Wait, G: Gate>(
+        &self,
+        rt: &R,
+        pass: &mut Pass<'a, T, J>,
+        gate: &G,
+        command: &Command,
+        desk: &mut UnitDesk<'a, T, J>,
+        sight: &Sight<'a, T, J>,
+    ) -> Tried
+        requires unit { desk.old.0.unit ≡ sight.now.0.unit }
+        requires has { desk.old.1 ≡ Some sight.now.1.0 }
+        ensures { Tries pass.old command.now result pass.new }
+    {
+        desk.apply(sight);
         gate.at(Point::Applied, pass.session());
-        let decided = commit(rt, &mut hold(rt, &self.ledger), pass, command, desk, &sight);
+        let decided = commit(rt, &mut hold(rt, &self.ledger), pass, command, desk, sight);
         let tried = match decided {
             Decided::Settled(place, stamp) => {
-                desk.settle(&sight, stamp);
+                desk.settle(sight, stamp);
+                keep_order(pass, command);
                 return Tried::Answered(Answer {
                     place: Some(place),
                     reply: Reply::Done,
@@ -368,7 +394,7 @@ impl<'a, T: Image, J: TableName + SlotNames> Service<'a, T, J> {
             Decided::Stale => Tried::Stale,
             Decided::Apart => Tried::Apart,
         };
-        desk.take_back(&sight);
+        desk.take_back(sight);
         tried
     }
 

@@ -37,8 +37,8 @@ impl<'a, T: Image, J: TableName + SlotNames> Service<'a, T, J> {
         let (Some(lower), Some(higher)) = (lower, higher) else {
             return self.ledger.lock(rt).exec_plain(rt, pass, command);
         };
-        let mut lower = lower.lock(rt);
-        let mut higher = higher.lock(rt);
+        let mut lower = hold(rt, lower);
+        let mut higher = hold(rt, higher);
         if giver < taker {
             self.exec_both(rt, pass, gate, command, &mut lower, &mut higher)
         } else {
@@ -70,7 +70,7 @@ impl<'a, T: Image, J: TableName + SlotNames> Service<'a, T, J> {
         self.ledger.lock(rt).exec_plain(rt, pass, command)
     }
 
-    // One look at the book and one commit, between which both desks move under their units' locks alone.
+    // One look at the book and one commit.
     fn try_both<R: Wait, G: Gate>(
         &self,
         rt: &R,
@@ -99,6 +99,26 @@ impl<'a, T: Image, J: TableName + SlotNames> Service<'a, T, J> {
         if self.ready_both(giver, taker, &sights).is_err() {
             return Tried::Answered(Answer::refused(Refusal::Memory));
         }
+        self.try_sights(rt, pass, gate, command, giver, taker, &sights)
+    }
+
+    // One commit, before which both desks move as they were looked at, under their units' locks alone.
+    fn try_sights<R: Wait, G: Gate>(
+        &self,
+        rt: &R,
+        pass: &mut Pass<'a, T, J>,
+        gate: &G,
+        command: &Command,
+        giver: &mut UnitDesk<'a, T, J>,
+        taker: &mut UnitDesk<'a, T, J>,
+        sights: &Sights<'a, T, J>,
+    ) -> Tried
+        requires giver_unit { giver.old.0.unit ≡ sights.now.giver.0.unit }
+        requires taker_unit { taker.old.0.unit ≡ sights.now.taker.0.unit }
+        requires giver_has { giver.old.1 ≡ Some sights.now.giver.1.0 }
+        requires taker_has { taker.old.1 ≡ Some sights.now.taker.1.0 }
+        ensures { Tries pass.old command.now result pass.new }
+    {
         giver.apply(&sights.giver);
         taker.apply(&sights.taker);
         gate.at(Point::Applied, pass.session());
@@ -109,7 +129,7 @@ impl<'a, T: Image, J: TableName + SlotNames> Service<'a, T, J> {
             command,
             giver,
             taker,
-            &sights,
+            sights,
         );
         let tried = match decided {
             Decided::Settled(place, stamp) => {

@@ -5,11 +5,11 @@ ghost use Rattle.mgn_ledger.specs.Days.{nets_of, set_of};
 ghost use Rattle.mgn_service.specs.UnitDesks.{IsAfter, IsMoved, SameMoves};
 
 use crate::sight::Sight;
-use mgn_desk::{Desk, UnitNets};
+use mgn_desk::Desk;
 use mgn_ledger::Image;
-use mgn_params::Work;
+use mgn_params::{ParamSet, Work};
 use mgn_plan::UnitChange;
-use mgn_pricing::{moves_of, priced};
+use mgn_pricing::{mark, moves_of, priced};
 use mgn_slots::{SlotNames, Stamp};
 use mgn_unit::{Priced, Row};
 use std::alloc::{AllocError, Global};
@@ -20,20 +20,22 @@ use std::marker::Model;
 /// keeps is that of these. A call that has moved it takes the stamp away, until it knows which day it is then of.
 #[derive(Drop)]
 pub struct UnitDesk<'a, T: Image, J: SlotNames> {
-    desk: Desk,
-    at: Option<Stamp<'a, T, J>>,
+    pub(crate) desk: Desk,
+    pub(crate) at: Option<Stamp<'a, T, J>>,
+    // The set of that day, if it was ever marked.
+    pub(crate) set: Option<&'a ParamSet>,
 }
 
 impl<'a, T: Image, J: SlotNames> Model for UnitDesk<'a, T, J> {
     ghost use Rattle.std.specs.Prelude.{ℕ, Option};
     ghost use Rattle.mgn_desk.specs.Desks.{DeskRows};
-    ghost use Rattle.mgn_service.specs.UnitDesks.{IsInStep};
+    ghost use Rattle.mgn_service.specs.UnitDesks.{IsInStep, IsSetAt};
 
     ghost Value = { DeskRows × Option (ℕ × T) };
 
     ghost view = { λ d. (d.desk, d.at) };
 
-    ghost invariant = { λ d. IsInStep T.shown d.desk d.at };
+    ghost invariant = { λ d. IsInStep T.shown d.desk d.at × IsSetAt T.shown d.at d.set };
 }
 
 impl<'a, T: Image, J: SlotNames> UnitDesk<'a, T, J> {
@@ -44,6 +46,7 @@ impl<'a, T: Image, J: SlotNames> UnitDesk<'a, T, J> {
         UnitDesk {
             desk: Desk::empty(unit),
             at: None,
+            set: None,
         }
     }
 
@@ -80,14 +83,10 @@ impl<'a, T: Image, J: SlotNames> UnitDesk<'a, T, J> {
         let Some(copied) = &sight.nets else {
             return Ok(());
         };
-        let nets = UnitNets {
-            lots: copied.lots.as_slice(),
-            buys: copied.buys.as_slice(),
-            sales: copied.sales.as_slice(),
-            all: copied.all.as_slice(),
-        };
-        self.desk.mark(alloc, sight.version, sight.set, &nets)?;
+        let nets = copied.nets();
+        mark(&mut self.desk, alloc, sight.version, sight.set, &nets)?;
         self.at = Some(sight.stamp.again());
+        self.set = Some(sight.set);
         Ok(())
     }
 
@@ -112,6 +111,7 @@ impl<'a, T: Image, J: SlotNames> UnitDesk<'a, T, J> {
     {
         self.desk.take_back(sight.set, &moves_of(&sight.change.change), &mut Work::new());
         self.at = Some(sight.stamp.again());
+        self.set = Some(sight.set);
     }
 
     /// The desk that has moved is of the day that a stamp shows.
@@ -123,6 +123,7 @@ impl<'a, T: Image, J: SlotNames> UnitDesk<'a, T, J> {
         ensures desk { self.new.0 ≡ self.old.0 }
     {
         self.at = Some(stamp);
+        self.set = Some(sight.set);
     }
 
     /// What the unit requires after a change that moves its nets as the desk has moved, where its row has the nets that were

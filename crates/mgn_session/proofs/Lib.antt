@@ -1,4 +1,5 @@
 -- Lemmas of the crate.
+pub mod ByteFacts
 pub mod DeviceFacts
 pub mod LineFacts
 pub mod RunFacts

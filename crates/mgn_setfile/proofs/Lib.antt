@@ -5,3 +5,7 @@ pub mod FileLemmas
 pub mod PlainLemmas
 pub mod LegLemmas
 pub mod RowLemmas
+pub mod ReadLemmas
+pub mod NumberLemmas
+pub mod BodyLemmas
+pub mod ScanLemmas

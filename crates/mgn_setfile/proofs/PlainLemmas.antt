@@ -1,53 +1,28 @@
 -- The records of a plain text: one reader of the whole finds what readers of its lines find.
-use Rattle.std.proofs.Common.{◌≡◌, ◌+◌, ◌-◌, ◌<◌, ℕ, zero, suc, List, [], ◌∷◌, ◌++◌, length, map, Bool, true, false, Option, Some, None, Result, Ok, Err, Bor, refl, sym, ap, subst, take, get_or, ◌∙◌, arith, length-append, append_assoc}
-use Rattle.std.specs.Prelude.{◌==◌, ◌&&◌, if◌then◌else◌, not, IfOk, IfSome}
-use Rattle.std.specs.Result.{result_ok}
+use Rattle.std.proofs.Common.{◌≡◌, ◌+◌, ◌-◌, ◌<◌, ℕ, ◌≤◌, zero, suc, List, [], ◌∷◌, ◌++◌, length, map, Bool, true, false, Option, Some, None, inl, inr, refl, sym, ap, ◌∙◌, arith, length-append}
+use Rattle.std.specs.Prelude.{◌==◌, ◌&&◌, ◌||◌, ◌⊎◌, if◌then◌else◌, not, IfSome}
 use Rattle.std.specs.List.{All, list_all}
-use Rattle.std.specs.Str.Lines.{strip_carriage_return}
 use Rattle.std.proofs.lemmas.Bool.{and_parts, eqb-true}
-use Rattle.std.proofs.lemmas.List.{append-nil}
+use Rattle.std.proofs.lemmas.List.{append-nil, map-append}
 use Rattle.std.proofs.lemmas.List.Elements.{All-cons, All-head, All-nil, All-tail}
 use Rattle.std.proofs.lemmas.List.Splits.{slice_split_at, slice_split_none}
 use Rattle.csv.specs.declared.parser.Action.{Action}
 use Rattle.csv.specs.declared.parser.Action.TheVariants as act
 use Rattle.csv.specs.declared.parser.State.{State}
 use Rattle.csv.specs.declared.parser.State.TheVariants as st
-use Rattle.csv.specs.Machine.{field_after, fields_after, is_end, next_record, step}
-use Rattle.csv.specs.declared.reader.Reader.{Reader}
-use Rattle.csv.specs.declared.reader.Trim.TheVariants as trim
-use Rattle.csv.specs.Reading.{ReadRecord, Reached, ReadsOn, Ready, default_config, records_from, strip_bom}
-use Rattle.csv.proofs.ReadFacts.{rows-end, rows-more}
-use Rattle.mgn_setfile.specs.declared.draft.Draft.{Draft}
-use Rattle.mgn_setfile.specs.declared.draft.SetFile.{SetFile}
-use Rattle.mgn_setfile.specs.declared.fault.SetFault.{SetFault}
-use Rattle.mgn_params.specs.Tables.{Tables}
-use Rattle.mgn_setfile.specs.Fields.{Fault, Fields}
-use Rattle.mgn_setfile.specs.File.{Record, TellsFile, goes_on, judged, outcome, record_of_line, records_of, told}
-use Rattle.mgn_setfile.specs.Plain.{Gives, HasRead, given, is_plain, is_plain_byte, is_plain_line}
-use Rattle.mgn_setfile.proofs.FileLemmas.{no_more, version_of_one}
-use Rattle.mgn_setfile.proofs.LineLemmas.{IsFresh, none_left, reached_first}
-
--- a byte within a line of a plain text
-pub record IsInside (b : ℕ) : Type 0 where
-  pub quote : (b == 34) ≡ false
-  pub return : (b == 13) ≡ false
-  pub mark : (b == 239) ≡ false
-  pub end : (b == 10) ≡ false
-
-none_of : (p q r : Bool) → (not p && not q && not r) ≡ true → (p ≡ false) × (q ≡ false) × (r ≡ false)
-none_of true q r e = cc
-none_of false true r e = cc
-none_of false false true e = cc
-none_of false false false e = (refl, refl, refl)
-
-is_inside : (b : ℕ) → is_plain_byte b ≡ true → (b == 10) ≡ false → IsInside b
-is_inside b plain end =
-    let none = none_of (b == 34) (b == 13) (b == 239) plain in
-    record { quote = none.0; return = none.1; mark = none.2; end = end }
+use Rattle.csv.specs.Machine.{ends_at_end, field_after, fields_after, in_field, is_end, next_record, step}
+use Rattle.csv.specs.Reading.{default_config, records, records_from, records_next, strip_bom}
+use Rattle.mgn_setfile.specs.declared.scan.Shape.{Shape}
+use Rattle.mgn_setfile.specs.declared.scan.Shape.TheVariants.{Closed, Open, Second}
+use Rattle.mgn_setfile.specs.Fields.{Fields}
+use Rattle.mgn_setfile.specs.File.{Record, record_of, record_of_line, records_of}
+use Rattle.mgn_setfile.specs.Lines.{line_records}
+use Rattle.mgn_setfile.specs.Plain.{has_mark, is_closed, is_plain, is_plain_line, shape, shape_of_rest}
+use Rattle.mgn_setfile.proofs.LineLemmas.{none_left}
 
 -- A text is its first line and, after an end of line, the rest.
 
-abbrev end_and : Option (List ℕ) → List ℕ
+abbrev pub end_and : Option (List ℕ) → List ℕ
 end_and None = []
 end_and (Some rest) = 10 ∷ rest
 
@@ -55,17 +30,17 @@ abbrev after : Option (List ℕ) → List ℕ
 after None = []
 after (Some rest) = rest
 
-abbrev NoEnd : List ℕ → Type 0
+abbrev pub NoEnd : List ℕ → Type 0
 NoEnd line = All (λ b. (b == 10) ≡ false) line
 
-record IsCut (text line : List ℕ) (rest : Option (List ℕ)) : Type 0 where
-  parts : text ≡ line ++ end_and rest
-  within : NoEnd line
+pub record IsCut (text line : List ℕ) (rest : Option (List ℕ)) : Type 0 where
+  pub parts : text ≡ line ++ end_and rest
+  pub within : NoEnd line
 
-abbrev Cut : List ℕ → Type 0
+abbrev pub Cut : List ℕ → Type 0
 Cut text = (line : List ℕ) × (rest : Option (List ℕ)) × IsCut text line rest
 
-cut : (text : List ℕ) → Cut text
+pub cut : (text : List ℕ) → Cut text
 cut [] = ([], None, record { parts = refl; within = All-nil (λ b. (b == 10) ≡ false) })
 cut (b ∷ text) = by (b == 10) refl (cut text)
   where
@@ -73,172 +48,234 @@ cut (b ∷ text) = by (b == 10) refl (cut text)
     by true e more = ([], Some text, record { parts = ap (λ (x : ℕ). x ∷ text) (eqb-true b 10 e); within = All-nil (λ x. (x == 10) ≡ false) })
     by false e more = (b ∷ more.0, more.1, record { parts = ap (λ (xs : List ℕ). b ∷ xs) more.2.parts; within = All-cons (λ x. (x == 10) ≡ false) b more.0 e more.2.within })
 
--- A line is what is inside it and, maybe, a carriage return.
+-- A step from within a record stays there, or ends it.
 
-abbrev return_if : Bool → List ℕ → List ℕ
-return_if true tail = 13 ∷ tail
-return_if false tail = tail
+abbrev pub is_within : State → Bool
+is_within st.StartRecord = false
+is_within st.StartField = true
+is_within st.InField = true
+is_within st.InQuoted = true
+is_within st.AfterQuote = true
+is_within st.InEscape = false
+is_within st.InComment = false
+is_within st.AfterCr = false
 
-record IsOpened (line inner : List ℕ) (returned : Bool) : Type 0 where
-  parts : (tail : List ℕ) → line ++ tail ≡ inner ++ return_if returned tail
-  inside : All IsInside inner
+abbrev pub Steps : State × Action → Type 0
+Steps x = ((is_end x.1 ≡ true) × (ends_at_end x.0 ≡ false)) ⊎ ((is_end x.1 ≡ false) × (is_within x.0 ≡ true))
 
-abbrev Opened : List ℕ → Type 0
-Opened line = (inner : List ℕ) × (returned : Bool) × IsOpened line inner returned
+field_picks : (comma return : Bool) → Steps (if comma then (st.StartField, act.EndField) else if return || false then (if return then st.AfterCr else st.StartRecord, act.EndRecord) else (st.InField, act.Copy))
+field_picks true return = inr (refl, refl)
+field_picks false true = inl (refl, refl)
+field_picks false false = inr (refl, refl)
 
-within_inner : (inner tail : List ℕ) → NoEnd (inner ++ tail) → list_all is_plain_byte inner ≡ true → All IsInside inner
-within_inner [] tail end plain = All-nil IsInside
-within_inner (b ∷ inner) tail end plain =
-    let both = and_parts (is_plain_byte b) (list_all is_plain_byte inner) plain in
-    All-cons IsInside b inner (is_inside b both.0 (All-head (λ x. (x == 10) ≡ false) b (inner ++ tail) end)) (within_inner inner tail (All-tail (λ x. (x == 10) ≡ false) b (inner ++ tail) end) both.1)
+field_steps : (c : ℕ) → (c == 10) ≡ false → Steps (in_field default_config c)
+field_steps c end = rw end (field_picks (c == 44) (c == 13))
 
--- the last byte of a line
-last_of : (b : ℕ) (line : List ℕ) → b ∷ line ≡ take (length line) (b ∷ line) ++ get_or (b ∷ line) (length line) 0 ∷ []
-last_of b [] = refl
-last_of b (c ∷ line) = ap (λ (xs : List ℕ). b ∷ xs) (last_of c line)
+start_picks : (quote : Bool) (x : State × Action) → Steps x → Steps (if quote then (st.InQuoted, act.Skip) else x)
+start_picks true x steps = inr (refl, refl)
+start_picks false x steps = steps
 
-stripped : (b : ℕ) (line : List ℕ) (returned : Bool) → (get_or (b ∷ line) (length line) 0 == 13) ≡ returned → strip_carriage_return (b ∷ line) ≡ (if returned then take (length line) (b ∷ line) else b ∷ line)
-stripped b line returned e =
-    let last : length (b ∷ line) - 1 ≡ length line = omega arith in
-    ap (λ (n : ℕ). if get_or (b ∷ line) n 0 == 13 then take n (b ∷ line) else b ∷ line) last ∙ ap (λ (r : Bool). if r then take (length line) (b ∷ line) else b ∷ line) e
+quoted_picks : (quote : Bool) → Steps (if quote then (st.AfterQuote, act.Skip) else (st.InQuoted, act.Copy))
+quoted_picks true = inr (refl, refl)
+quoted_picks false = inr (refl, refl)
 
-plain_inner : (b : ℕ) (line : List ℕ) (returned : Bool) → (get_or (b ∷ line) (length line) 0 == 13) ≡ returned → is_plain_line (b ∷ line) ≡ true
-    → list_all is_plain_byte (if returned then take (length line) (b ∷ line) else b ∷ line) ≡ true
-plain_inner b line returned e plain = ap (λ (xs : List ℕ). list_all is_plain_byte xs) (sym (stripped b line returned e)) ∙ plain
+quote_picks : (quote : Bool) (x : State × Action) → Steps x → Steps (if quote then (st.InQuoted, act.Copy) else x)
+quote_picks true x steps = inr (refl, refl)
+quote_picks false x steps = steps
 
-opened : (line : List ℕ) → NoEnd line → is_plain_line line ≡ true → Opened line
-opened [] end plain = ([], false, record { parts = λ tail. refl; inside = All-nil IsInside })
-opened (b ∷ line) end plain = by (get_or (b ∷ line) (length line) 0 == 13) refl
-  where
-    by : (returned : Bool) → (get_or (b ∷ line) (length line) 0 == 13) ≡ returned → Opened (b ∷ line)
-    by false e = (b ∷ line, false, record { parts = λ tail. refl; inside = within_inner (b ∷ line) [] (subst NoEnd (sym (append-nil (b ∷ line))) end) (plain_inner b line false e plain) })
-    by true e =
-        let inner = take (length line) (b ∷ line) in
-        let whole : b ∷ line ≡ inner ++ 13 ∷ [] = last_of b line ∙ ap (λ (x : ℕ). inner ++ x ∷ []) (eqb-true (get_or (b ∷ line) (length line) 0) 13 e) in
-        (inner, true, record { parts = λ tail. ap (λ (xs : List ℕ). xs ++ tail) whole ∙ append_assoc inner (13 ∷ []) tail; inside = within_inner inner (13 ∷ []) (subst NoEnd whole end) (plain_inner b line true e plain) })
+pub steps_of : (s : State) → is_within s ≡ true → (c : ℕ) → (c == 10) ≡ false → Steps (step default_config s c)
+steps_of st.StartField within c end = start_picks (c == 34) (in_field default_config c) (field_steps c end)
+steps_of st.InField within c end = field_steps c end
+steps_of st.InQuoted within c end = quoted_picks (c == 34)
+steps_of st.AfterQuote within c end = quote_picks (c == 34) (in_field default_config c) (field_steps c end)
+steps_of st.StartRecord within c end = cc
+steps_of st.InEscape within c end = cc
+steps_of st.InComment within c end = cc
+steps_of st.AfterCr within c end = cc
 
--- Within a line each byte ends a field or joins one.
+-- The records of a text that begins with a line: what comes first, and then those of the rest.
 
-abbrev between : Bool → State
-between true = st.StartField
-between false = st.InField
-
-abbrev does : Bool → Action
-does true = act.EndField
-does false = act.Copy
-
-abbrev does_all : Bool → State × Action
-does_all b = (between b, does b)
-
-picked : (b : Bool) → (if b then (st.StartField, act.EndField) else (st.InField, act.Copy)) ≡ does_all b
-picked true = refl
-picked false = refl
-
-step_within : (b : Bool) (c : ℕ) → IsInside c → step default_config (between b) c ≡ does_all (c == 44)
-step_within true c inside = rw (inside.quote, inside.return, inside.end) (picked (c == 44))
-step_within false c inside = rw (inside.return, inside.end) (picked (c == 44))
-
-step_first : (c : ℕ) → IsInside c → step default_config st.StartRecord c ≡ does_all (c == 44)
-step_first c inside = rw (inside.return, inside.end, inside.quote) (picked (c == 44))
-
--- the state after a line
-abbrev state_after : Bool → State
-state_after true = st.AfterCr
-state_after false = st.StartRecord
-
--- what follows a carriage return, or an end of line
-abbrev left_after : Bool → Option (List ℕ) → List ℕ
-left_after true rest = end_and rest
-left_after false rest = after rest
-
--- the rest of a line ends a record, the same one whether a carriage return follows, an end of line does or the text ends
-abbrev Ends : State → Fields → List ℕ → List ℕ → Type 0
-Ends s fields field line = (g : Fields) × ((r : Bool) (rest : Option (List ℕ)) → next_record default_config s fields field (line ++ return_if r (end_and rest)) ≡ Some (g, state_after r, left_after r rest))
-
-not_at_end : (b : Bool) → is_end (does b) ≡ false
-not_at_end true = refl
-not_at_end false = refl
-
-ends_more : (s : State) (c : ℕ) (fields : Fields) (field line : List ℕ) → step default_config s c ≡ does_all (c == 44)
-    → Ends (between (c == 44)) (fields_after (does (c == 44)) fields field) (field_after (does (c == 44)) c field) line → Ends s fields field (c ∷ line)
-unfolding next_record
-ends_more s c fields field line e more = (more.0, λ r rest. rw (e, not_at_end (c == 44)) (more.1 r rest))
-
-ends : (b : Bool) (fields : Fields) (field line : List ℕ) → All IsInside line → Ends (between b) fields field line
-unfolding next_record
-ends b fields field [] inside = (fields ++ field ∷ [], by b)
-  where
-    by : (b r : Bool) (rest : Option (List ℕ)) → next_record default_config (between b) fields field (return_if r (end_and rest)) ≡ Some (fields ++ field ∷ [], state_after r, left_after r rest)
-    by true true rest = refl
-    by true false None = refl
-    by true false (Some rest) = refl
-    by false true rest = refl
-    by false false None = refl
-    by false false (Some rest) = refl
-ends b fields field (c ∷ line) inside =
-    ends_more (between b) c fields field line (step_within b c (All-head IsInside c line inside)) (ends (c == 44) (fields_after (does (c == 44)) fields field) (field_after (does (c == 44)) c field) line (All-tail IsInside c line inside))
-
-line_ends : (c : ℕ) (line : List ℕ) → All IsInside (c ∷ line) → Ends st.StartRecord [] [] (c ∷ line)
-line_ends c line inside =
-    ends_more st.StartRecord c [] [] line (step_first c (All-head IsInside c line inside)) (ends (c == 44) (fields_after (does (c == 44)) [] []) (field_after (does (c == 44)) c []) line (All-tail IsInside c line inside))
-
--- no byte order mark
-unmarked : (b : ℕ) (bs : List ℕ) → (b == 239) ≡ false → strip_bom (b ∷ bs) ≡ b ∷ bs
-unfolding strip_bom
-unmarked b [] e = refl
-unmarked b (c ∷ []) e = refl
-unmarked b (c ∷ d ∷ bs) e = rw e refl
-
-unmarked_inner : (inner tail : List ℕ) → All IsInside inner → (r : Bool) (rest : Option (List ℕ)) → tail ≡ return_if r (end_and rest) → strip_bom (inner ++ tail) ≡ inner ++ tail
-unfolding strip_bom
-unmarked_inner [] tail inside true rest e = rw e (unmarked 13 (end_and rest) refl)
-unmarked_inner [] tail inside false None e = rw e refl
-unmarked_inner [] tail inside false (Some rest) e = rw e (unmarked 10 rest refl)
-unmarked_inner (b ∷ inner) tail inside r rest e = unmarked b (inner ++ tail) (All-head IsInside b inner inside).mark
-
-nothing_left : (n : ℕ) → records_from default_config n st.StartRecord [] ≡ []
+pub nothing_left : (n : ℕ) → records_from default_config n st.StartRecord [] ≡ []
 unfolding next_record
 nothing_left n = none_left n st.StartRecord [] refl
 
--- what comes first of a text, and then the records of the rest
-records_first : (n : ℕ) (text rest : List ℕ) (f : Fields) (s : State) → next_record default_config st.StartRecord [] [] text ≡ Some (f, s, rest)
-    → records_from default_config (suc n) st.StartRecord text ≡ f ∷ records_from default_config n s rest
-unfolding records_from
-records_first n text rest f s e = rw e refl
-
--- an end of line before a record, a carriage return there, and an end of line after a carriage return
-skipped : (n : ℕ) (rest : Option (List ℕ)) → records_from default_config n st.StartRecord (end_and rest) ≡ records_from default_config n st.StartRecord (after rest)
+-- outside of a record a carriage return is passed over, and an end of line too
+returned : (n : ℕ) (s : State) → ends_at_end s ≡ false → (tail : List ℕ) → records_from default_config n s (13 ∷ tail) ≡ records_from default_config n st.StartRecord tail
 unfolding records_from next_record
-skipped n None = refl
-skipped zero (Some rest) = refl
-skipped (suc n) (Some rest) = refl
+returned zero s out tail = refl
+returned (suc n) st.StartRecord out tail = refl
+returned (suc n) st.AfterCr out tail = refl
+returned (suc n) st.StartField out tail = cc
+returned (suc n) st.InField out tail = cc
+returned (suc n) st.InQuoted out tail = cc
+returned (suc n) st.AfterQuote out tail = cc
+returned (suc n) st.InEscape out tail = cc
+returned (suc n) st.InComment out tail = cc
 
-returned_first : (n : ℕ) (r : Bool) (tail : List ℕ) → records_from default_config n st.StartRecord (return_if r tail) ≡ records_from default_config n st.StartRecord tail
+ended : (n : ℕ) (s : State) → ends_at_end s ≡ false → (rest : Option (List ℕ)) → records_from default_config n s (end_and rest) ≡ records_from default_config n st.StartRecord (after rest)
 unfolding records_from next_record
-returned_first n false tail = refl
-returned_first zero true tail = refl
-returned_first (suc n) true tail = refl
+ended zero s out rest = refl
+ended (suc n) st.StartRecord out None = refl
+ended (suc n) st.StartRecord out (Some rest) = refl
+ended (suc n) st.AfterCr out None = refl
+ended (suc n) st.AfterCr out (Some rest) = refl
+ended (suc n) st.StartField out rest = cc
+ended (suc n) st.InField out rest = cc
+ended (suc n) st.InQuoted out rest = cc
+ended (suc n) st.AfterQuote out rest = cc
+ended (suc n) st.InEscape out rest = cc
+ended (suc n) st.InComment out rest = cc
 
-gone_on : (n : ℕ) (r : Bool) (rest : Option (List ℕ)) → records_from default_config n (state_after r) (left_after r rest) ≡ records_from default_config n st.StartRecord (after rest)
+returns_end : (n : ℕ) (s : State) → ends_at_end s ≡ false → (line : List ℕ) → list_all (λ b. b == 13) line ≡ true → (rest : Option (List ℕ))
+    → records_from default_config n s (line ++ end_and rest) ≡ records_from default_config n st.StartRecord (after rest)
+returns_end n s out [] all rest = ended n s out rest
+returns_end n s out (b ∷ line) all rest =
+    let both = and_parts (b == 13) (list_all (λ x. x == 13) line) all in
+    rw (eqb-true b 13 both.0) (returned n s out (line ++ end_and rest) ∙ returns_end n st.StartRecord refl line both.1 rest)
+
+-- what is left of a closed line ends a record, the same one whatever follows
+abbrev Gives1 : State → Fields → List ℕ → List ℕ → Fields → Type 0
+Gives1 s fields field line g =
+    (n : ℕ) (rest : Option (List ℕ)) → records_next (records_from default_config n) (next_record default_config s fields field (line ++ end_and rest)) ≡ g ∷ records_from default_config n st.StartRecord (after rest)
+
+last_field : (s : State) (fields : Fields) (field : List ℕ) → is_within s ≡ true → shape s [] ≡ Closed → Gives1 s fields field [] (fields ++ field ∷ [])
+unfolding next_record
+last_field st.StartField fields field within closed n None = refl
+last_field st.StartField fields field within closed n (Some rest) = refl
+last_field st.InField fields field within closed n None = refl
+last_field st.InField fields field within closed n (Some rest) = refl
+last_field st.AfterQuote fields field within closed n None = refl
+last_field st.AfterQuote fields field within closed n (Some rest) = refl
+last_field st.InQuoted fields field within closed n rest = cc
+last_field st.StartRecord fields field within closed n rest = cc
+last_field st.InEscape fields field within closed n rest = cc
+last_field st.InComment fields field within closed n rest = cc
+last_field st.AfterCr fields field within closed n rest = cc
+
+pub step_ends : (s : State) (c : ℕ) (fields : Fields) (field tail : List ℕ) → is_end (step default_config s c).1 ≡ true
+    → next_record default_config s fields field (c ∷ tail) ≡ Some (fields_after (step default_config s c).1 fields field, (step default_config s c).0, tail)
+unfolding next_record
+step_ends s c fields field tail e = rw e refl
+
+pub step_goes_on : (s : State) (c : ℕ) (fields : Fields) (field tail : List ℕ) → is_end (step default_config s c).1 ≡ false
+    → next_record default_config s fields field (c ∷ tail) ≡ next_record default_config (step default_config s c).0 (fields_after (step default_config s c).1 fields field) (field_after (step default_config s c).1 c field) tail
+unfolding next_record
+step_goes_on s c fields field tail e = rw e refl
+
+closed_rest : (b : Bool) (rest more : Shape) → b ≡ true → (if b then rest else more) ≡ Closed → rest ≡ Closed
+closed_rest true rest more e h = h
+closed_rest false rest more e h = cc
+
+closed_more : (b : Bool) (rest more : Shape) → b ≡ false → (if b then rest else more) ≡ Closed → more ≡ Closed
+closed_more true rest more e h = cc
+closed_more false rest more e h = h
+
+all_returns : (b : Bool) → (if b then Closed else Second) ≡ Closed → b ≡ true
+all_returns true e = refl
+all_returns false e = cc
+
+one : (s : State) (fields : Fields) (field line : List ℕ) → NoEnd line → is_within s ≡ true → shape s line ≡ Closed → (g : Fields) × Gives1 s fields field line g
+one s fields field [] end within closed = (fields ++ field ∷ [], last_field s fields field within closed)
+one s fields field (c ∷ line) end within closed =
+    let x = step default_config s c in
+    elim (steps_of s within c (All-head (λ b. (b == 10) ≡ false) c line end)) as (λ _. (g : Fields) × Gives1 s fields field (c ∷ line) g) [
+      | inl ends ↦
+          let all = all_returns (list_all (λ b. b == 13) line) (closed_rest (is_end x.1) (shape_of_rest line) (shape x.0 line) ends.0 closed) in
+          (fields_after x.1 fields field, λ n rest. rw (step_ends s c fields field (line ++ end_and rest) ends.0) (ap (λ (rs : List Fields). fields_after x.1 fields field ∷ rs) (returns_end n x.0 ends.1 line all rest)))
+      | inr on ↦
+          let left = closed_more (is_end x.1) (shape_of_rest line) (shape x.0 line) on.0 closed in
+          let more = one x.0 (fields_after x.1 fields field) (field_after x.1 c field) line (All-tail (λ b. (b == 10) ≡ false) c line end) on.1 left in
+          (more.0, λ n rest. rw (step_goes_on s c fields field (line ++ end_and rest) on.0) (more.1 n rest))
+    ]
+
+-- a record begins with the first byte of a field
+begins : (g : Fields) (n c : ℕ) (tail : List ℕ) → (c == 13) ≡ false → (c == 10) ≡ false
+    → records_from default_config (length (g ∷ []) + n) st.StartRecord (c ∷ tail) ≡ records_next (records_from default_config n) (next_record default_config st.StartField [] [] (c ∷ tail))
 unfolding records_from next_record
-gone_on n false rest = refl
-gone_on zero true rest = refl
-gone_on (suc n) true None = refl
-gone_on (suc n) true (Some rest) = refl
+begins g n c tail return end =
+    let one : length (g ∷ []) + n ≡ suc n = omega arith in
+    rw (one, return, end) refl
+
+pub shape_begins : (c : ℕ) (line : List ℕ) → (c == 13) ≡ false → (c == 10) ≡ false → shape st.StartRecord (c ∷ line) ≡ shape st.StartField (c ∷ line)
+shape_begins c line return end = rw (return, end) refl
+
+-- a closed line has one record or none
+pub record Spends (line : List ℕ) (found : List Fields) : Type 0 where
+  pub few : length found ≤ 1
+  pub first : (n : ℕ) (rest : Option (List ℕ)) → records_from default_config (length found + n) st.StartRecord (line ++ end_and rest) ≡ found ++ records_from default_config n st.StartRecord (after rest)
+
+abbrev pub Spent : List ℕ → Type 0
+Spent line = (found : List Fields) × Spends line found
+
+spends_return : (c : ℕ) (line : List ℕ) (found : List Fields) → (c == 13) ≡ true → Spends line found → Spends (c ∷ line) found
+spends_return c line found e more =
+    record { few = more.few; first = λ n rest. rw (eqb-true c 13 e) (returned (length found + n) st.StartRecord refl (line ++ end_and rest) ∙ more.first n rest) }
+
+no_more_than : (n : ℕ) → 0 + n ≡ n
+no_more_than n = omega arith
+
+pub spent : (line : List ℕ) → NoEnd line → shape st.StartRecord line ≡ Closed → Spent line
+spent [] end closed = ([], record { few = omega arith; first = λ n rest. ap (λ (k : ℕ). records_from default_config k st.StartRecord (end_and rest)) (no_more_than n) ∙ ended n st.StartRecord refl rest })
+spent (c ∷ line) end closed = by (c == 13) refl (spent line (All-tail (λ b. (b == 10) ≡ false) c line end))
+  where
+    by : (return : Bool) → (c == 13) ≡ return → (shape st.StartRecord line ≡ Closed → Spent line) → Spent (c ∷ line)
+    by true e later =
+        let more = later (rw (eqb-true c 13 e) at closed) in
+        (more.0, spends_return c line more.0 e more.1)
+    by false e later =
+        let head = All-head (λ b. (b == 10) ≡ false) c line end in
+        let first = one st.StartField [] [] (c ∷ line) end refl (sym (shape_begins c line e head) ∙ closed) in
+        (first.0 ∷ [], record { few = omega arith; first = λ n rest. begins first.0 n c (line ++ end_and rest) e head ∙ first.1 n rest })
+
+-- no byte order mark
+
+not_second : (p q : Bool) → (p && false && q) ≡ false
+not_second true q = refl
+not_second false q = refl
+
+not_third : (p q : Bool) → (p && q && false) ≡ false
+not_third true true = refl
+not_third true false = refl
+not_third false q = refl
+
+unmarked : (line : List ℕ) (rest : Option (List ℕ)) → has_mark line ≡ false → strip_bom (line ++ end_and rest) ≡ line ++ end_and rest
+unfolding strip_bom
+unmarked [] None e = refl
+unmarked [] (Some []) e = refl
+unmarked [] (Some (b ∷ [])) e = refl
+unmarked [] (Some (b ∷ c ∷ rest)) e = refl
+unmarked (a ∷ []) None e = refl
+unmarked (a ∷ []) (Some []) e = refl
+unmarked (a ∷ []) (Some (c ∷ rest)) e = rw (not_second (a == 239) (c == 191)) refl
+unmarked (a ∷ b ∷ []) None e = refl
+unmarked (a ∷ b ∷ []) (Some rest) e = rw (not_third (a == 239) (b == 187)) refl
+unmarked (a ∷ b ∷ c ∷ line) rest e = rw e refl
 
 -- a line gives its record
-line_record : (c : ℕ) (inner : List ℕ) (r : Bool) (inside : All IsInside (c ∷ inner)) → record_of_line (c ∷ inner ++ return_if r []) ≡ Some (line_ends c inner inside).0 ∷ []
-unfolding record_of_line
-line_record c inner r inside =
-    let first = line_ends c inner inside in
-    let line = c ∷ inner ++ return_if r [] in
-    let more : length line + 1 ≡ suc (length (inner ++ return_if r []) + 1) = omega arith in
-    rw (unmarked c (inner ++ return_if r []) (All-head IsInside c inner inside).mark, more, records_first (length (inner ++ return_if r []) + 1) line (left_after r None) first.0 (state_after r) (first.1 r None), gone_on (length (inner ++ return_if r []) + 1) r None, nothing_left (length (inner ++ return_if r []) + 1)) refl
 
-no_record : (r : Bool) → record_of_line (return_if r []) ≡ []
-unfolding record_of_line strip_bom records_from next_record
-no_record true = refl
-no_record false = refl
+pub record_of_few : (found : List Fields) → length found ≤ 1 → record_of found ≡ map Some found
+record_of_few [] few = refl
+record_of_few (f ∷ []) few = refl
+record_of_few (f ∷ g ∷ more) few = absurd (omega arith)
+
+-- all records of a line
+pub spent_all : (n : ℕ) (line : List ℕ) (found : List Fields) → Spends line found → length found ≤ n → records_from default_config n st.StartRecord line ≡ found
+spent_all n line found is enough =
+    let m = n - length found in
+    let fuel : n ≡ length found + m = omega arith in
+    ap (λ (k : ℕ). records_from default_config k st.StartRecord line) fuel
+    ∙ ap (λ (xs : List ℕ). records_from default_config (length found + m) st.StartRecord xs) (sym (append-nil line))
+    ∙ is.first m None ∙ ap (λ (rs : List Fields). found ++ rs) (nothing_left m) ∙ append-nil found
+
+line_records_are : (line : List ℕ) (found : List Fields) → has_mark line ≡ false → Spends line found → line_records line ≡ found
+line_records_are line found plain is =
+    let few = is.few in
+    let bare : strip_bom line ≡ line = ap strip_bom (sym (append-nil line)) ∙ unmarked line None plain ∙ append-nil line in
+    ap (λ (xs : List ℕ). records default_config xs) bare ∙ spent_all (length line + 1) line found is (omega arith)
+
+line_gives : (line : List ℕ) (found : List Fields) → has_mark line ≡ false → Spends line found → record_of_line line ≡ map Some found
+unfolding record_of_line
+line_gives line found plain is = ap record_of (line_records_are line found plain is) ∙ record_of_few found is.few
 
 -- what a line gives, and then what the rest of the text does
 abbrev first_of : List (Option Fields) → Option (List ℕ) → List (Option Fields)
@@ -257,110 +294,69 @@ plain_parts line (Some rest) end plain =
     let whole = rw (slice_split_at (λ b. b == 10) line 10 rest end refl) at plain in
     and_parts (is_plain_line line) (is_plain rest) whole
 
-unmarked_text : (text : List ℕ) → is_plain text ≡ true → strip_bom text ≡ text
+-- what is known of a plain line
+record IsPlain (line : List ℕ) : Type 0 where
+  bare : has_mark line ≡ false
+  closed : shape st.StartRecord line ≡ Closed
+
+not_true : (b : Bool) → not b ≡ true → b ≡ false
+not_true true e = cc
+not_true false e = refl
+
+closed_is : (s : Shape) → is_closed s ≡ true → s ≡ Closed
+closed_is Closed e = refl
+closed_is Open e = cc
+closed_is Second e = cc
+
+is_plain_is : (line : List ℕ) → is_plain_line line ≡ true → IsPlain line
+is_plain_is line plain =
+    let both = and_parts (not (has_mark line)) (is_closed (shape st.StartRecord line)) plain in
+    record { bare = not_true (has_mark line) both.0; closed = closed_is (shape st.StartRecord line) both.1 }
+
+pub unmarked_text : (text : List ℕ) → is_plain text ≡ true → strip_bom text ≡ text
 unmarked_text text plain =
     let first = cut text in
-    let line = first.0 in
-    let rest = first.1 in
-    let parts = plain_parts line rest first.2.within (rw first.2.parts at plain) in
-    let split = opened line first.2.within parts.0 in
-    let whole = first.2.parts ∙ split.2.parts (end_and rest) in
-    rw whole (unmarked_inner split.0 (return_if split.1 (end_and rest)) split.2.inside split.1 rest refl)
+    let halves = plain_parts first.0 first.1 first.2.within (rw first.2.parts at plain) in
+    rw first.2.parts (unmarked first.0 first.1 (is_plain_is first.0 halves.0).bare)
 
 abbrev SameUpTo : ℕ → Type 0
 SameUpTo k = (n : ℕ) (text : List ℕ) → is_plain text ≡ true → length text < k → length text < n → records_of text ≡ map Some (records_from default_config n st.StartRecord text)
 
-abbrev SameRest : ℕ → Option (List ℕ) → Type 0
-SameRest n rest = (before : List (Option Fields)) → first_of before rest ≡ before ++ map Some (records_from default_config n st.StartRecord (after rest))
-
-same_rest : (k n : ℕ) (rest : Option (List ℕ)) → IfSome rest (λ ys. is_plain ys ≡ true) → SameUpTo k → length (end_and rest) < suc k → length (end_and rest) < suc n → SameRest n rest
+same_rest : (k n : ℕ) (rest : Option (List ℕ)) → IfSome rest (λ ys. is_plain ys ≡ true) → SameUpTo k → length (end_and rest) < suc k → length (end_and rest) ≤ n → (before : List (Option Fields))
+    → first_of before rest ≡ before ++ map Some (records_from default_config n st.StartRecord (after rest))
 same_rest k n None later same short enough before = rw (nothing_left n) (sym (append-nil before))
 same_rest k n (Some rest) later same short enough before = ap (λ (rs : List (Option Fields)). before ++ rs) (same n rest later (omega arith) (omega arith))
 
-in_turn : (n : ℕ) (inner : List ℕ) (r : Bool) (rest : Option (List ℕ)) → All IsInside inner → SameRest n rest → SameRest (suc n) rest
-    → first_of (record_of_line (inner ++ return_if r [])) rest ≡ map Some (records_from default_config (suc n) st.StartRecord (inner ++ return_if r (end_and rest)))
-in_turn n [] r rest inside same whole = rw (no_record r, returned_first (suc n) r (end_and rest), skipped (suc n) rest) (whole [])
-in_turn n (c ∷ inner) r rest inside same whole =
-    let first = line_ends c inner inside in
-    rw (line_record c inner r inside, records_first n (c ∷ inner ++ return_if r (end_and rest)) (left_after r rest) first.0 (state_after r) (first.1 r rest), gone_on n r rest) (same (Some first.0 ∷ []))
-
 same_up_to : (k : ℕ) → SameUpTo k
 same_up_to zero n text plain short enough = absurd (omega arith)
-same_up_to (suc k) zero text plain short enough = absurd (omega arith)
-same_up_to (suc k) (suc n) text plain short enough =
+same_up_to (suc k) n text plain short enough =
     let first = cut text in
     let line = first.0 in
     let rest = first.1 in
     let parts = first.2.parts in
     let size : length text ≡ length line + length (end_and rest) = ap length parts ∙ length-append line (end_and rest) in
     let halves = plain_parts line rest first.2.within (rw parts at plain) in
-    let split = opened line first.2.within halves.0 in
-    let same = same_rest k n rest halves.1 (same_up_to k) (omega arith) (omega arith) in
-    let whole = same_rest k (suc n) rest halves.1 (same_up_to k) (omega arith) (omega arith) in
-    let alone = sym (append-nil line) ∙ split.2.parts [] in
+    let is = is_plain_is line halves.0 in
+    let given = spent line first.2.within is.closed in
+    let found = given.0 in
+    let few = given.1.few in
+    let m = n - length found in
+    let fuel : n ≡ length found + m = omega arith in
     ap (λ (ys : List ℕ). records_of ys) parts ∙ by_line line rest first.2.within
-    ∙ ap (λ (ys : List ℕ). first_of (record_of_line ys) rest) alone ∙ in_turn n split.0 split.1 rest split.2.inside same whole
-    ∙ ap (λ (ys : List ℕ). map Some (records_from default_config (suc n) st.StartRecord ys)) (sym (parts ∙ split.2.parts (end_and rest)))
+    ∙ ap (λ (rs : List Record). first_of rs rest) (line_gives line found is.bare given.1)
+    ∙ same_rest k m rest halves.1 (same_up_to k) (omega arith) (omega arith) (map Some found)
+    ∙ sym (map-append Some found (records_from default_config m st.StartRecord (after rest)))
+    ∙ ap (λ (rs : List Fields). map Some rs) (sym (given.1.first m rest))
+    ∙ ap (λ (k : ℕ). map Some (records_from default_config k st.StartRecord (line ++ end_and rest))) (sym fuel)
+    ∙ ap (λ (ys : List ℕ). map Some (records_from default_config n st.StartRecord ys)) (sym parts)
 
 -- the records of a plain text are those that a reader of the whole finds
 pub records_of_plain : (n : ℕ) (text : List ℕ) → is_plain text ≡ true → length text < n → records_of text ≡ map Some (records_from default_config n st.StartRecord text)
 records_of_plain n text plain enough = same_up_to (length text + 1) n text plain (omega arith) enough
 
-pub starts : (text : List ℕ) (reader : Reader (Bor (List ℕ))) → is_plain text ≡ true → IsFresh given reader (strip_bom text) → reader.trim ≡ trim.None → Ready reader → HasRead text reader None []
-unfolding Reached
-starts text reader plain fresh trimmed ready' =
-    record {
-      config = fresh.config;
-      trim = trimmed;
-      ready = ready';
-      left = (text, fresh.source ∙ ap Some (unmarked_text text plain), (sym fresh.state, refl));
-      so_far = λ later. refl;
-      version = λ later. refl;
-    }
-
--- a record that passes
-grown : (rows : List Fields) (f : Fields) (later : List Record) → map Some (rows ++ f ∷ []) ++ later ≡ map Some rows ++ Some f ∷ later
-grown [] f later = refl
-grown (r ∷ rows) f later = ap (λ (rs : List Record). Some r ∷ rs) (grown rows f later)
-
-told_next : (later : List Record) (count : ℕ) (before : Option Draft) (f : Fields) (draft : Draft) → judged before (Some f) ≡ Ok draft → told (Some f ∷ later) count before ≡ told later (count + 1) (Some draft)
-told_next later count before f draft j = ap (λ (d : Result Draft Fault). goes_on d (λ k. told later (count + 1) (Some k)) (count + 1)) j
-
-pub reads_on : (text : List ℕ) (reader after : Reader (Bor (List ℕ))) (before : Option Draft) (draft : Draft) (rows : List Fields) (f : Fields)
-    → HasRead text reader before rows → ReadRecord given reader after true f → ReadsOn reader after → judged before (Some f) ≡ Ok draft → HasRead text after (Some draft) (rows ++ f ∷ [])
-reads_on text reader after before draft rows f read more on j =
-    let next = rows-more given reader after f default_config st.StartRecord text read.left.0 rows read.config read.left.1 read.left.2 more in
-    let size : length (rows ++ f ∷ []) ≡ length rows + 1 = length-append rows (f ∷ []) in
-    record {
-      config = on.0 ∙ read.config;
-      trim = on.1 ∙ read.trim;
-      ready = (on.4 read.ready).0;
-      left = next;
-      so_far = λ later. rw (grown rows f later, read.so_far (Some f ∷ later), size) (told_next later (length rows) before f draft j);
-      version = λ later. rw (grown rows f later, read.version (Some f ∷ later)) (version_of_one before f later draft j);
-    }
-
--- the end of a text
-all_told : (text : List ℕ) (reader after : Reader (Bor (List ℕ))) (draft : Option Draft) (rows : List Fields) (f : Fields) → is_plain text ≡ true
-    → HasRead text reader draft rows → ReadRecord given reader after false f → records_of text ≡ map Some rows
-all_told text reader after draft rows f plain read last =
-    let stop = rows-end given reader after f default_config read.left.0 read.config read.left.1 last in
-    let n = length text + 1 in
-    rw (records_of_plain (length rows + n) text plain (omega arith), reached_first n st.StartRecord reader.state text read.left.0 rows read.left.2, none_left n reader.state read.left.0 stop, append-nil rows) refl
-
-pub all_given : (text : List ℕ) (reader after : Reader (Bor (List ℕ))) (draft : Draft) (rows : List Fields) (f : Fields) → is_plain text ≡ true
-    → HasRead text reader (Some draft) rows → ReadRecord given reader after false f → Gives text draft
-unfolding outcome
-all_given text reader after draft rows f plain read last =
-    let whole : records_of text ≡ map Some rows ++ [] = all_told text reader after (Some draft) rows f plain read last ∙ sym (append-nil (map Some rows)) in
-    record { set = rw whole (read.so_far [] ∙ no_more (length rows) (Some draft)); version = rw whole (read.version []) }
-
--- the set and the version, if there are any
-
-pub set_found : (r : Result SetFile SetFault) (said want : Result Tables (ℕ × Fault)) → said ≡ want → TellsFile r want → IfSome (result_ok r) (λ file. said ≡ Ok file.set)
-set_found (Ok file) said want e h = e ∙ h
-set_found (Err fault) said want e h = tt
-
-pub version_found : (r : Result SetFile SetFault) (said want : Option ℕ) → said ≡ want → IfOk r (λ file. want ≡ Some file.version) → IfSome (result_ok r) (λ file. said ≡ Some file.version)
-version_found (Ok file) said want e h = e ∙ h
-version_found (Err fault) said want e h = tt
+pub plain_records : (text : List ℕ) → is_plain text ≡ true → records_of text ≡ map Some (records default_config (strip_bom text)) ++ []
+plain_records text plain =
+    let bare = unmarked_text text plain in
+    records_of_plain (length text + 1) text plain (omega arith)
+    ∙ ap (λ (xs : List ℕ). map Some (records default_config xs)) (sym bare)
+    ∙ sym (append-nil (map Some (records default_config (strip_bom text))))

@@ -1,8 +1,7 @@
 //! Why a file is no parameter set.
 
-ghost use Rattle.std.specs.Prelude.{◌≡◌, None, Some};
-ghost use Rattle.mgn_setfile.specs.Fields.{whole};
-ghost use Rattle.mgn_setfile.specs.Words.{detail_of, sentence};
+ghost use Rattle.std.specs.Prelude.{◌≡◌, Some};
+ghost use Rattle.mgn_setfile.specs.Words.{sentence};
 
 use crate::detail::Detail;
 use crate::place::Field;
@@ -95,36 +94,6 @@ impl fmt::Display for SetFault {
         match self.detail {
             Some(detail) => write!(f, ": {detail}"),
             None => write!(f, ": {}", words_of(self.cause, self.field)),
-        }
-    }
-}
-
-/// Why a line gives no record.
-#[derive(Clone, Copy, PartialEq, Eq, Debug)]
-pub(crate) enum LineFault {
-    /// A growth was refused.
-    Memory,
-    /// The line has a second record.
-    Second,
-}
-
-impl LineFault {
-    ghost use Rattle.mgn_setfile.specs.Lines.{line_cause};
-
-    // The fault of the file, where the line and its record have these numbers.
-    pub(crate) fn at(self, number: u64, line: u64) -> SetFault
-        ensures { result ≡ record { number = number; line = line; field = None; cause = line_cause self; detail = detail_of None (whole (line_cause self)) } }
-    {
-        let (cause, detail) = match self {
-            LineFault::Memory => (Cause::Memory, None),
-            LineFault::Second => (Cause::Fields, Some(Detail::Second)),
-        };
-        SetFault {
-            number,
-            line,
-            field: None,
-            cause,
-            detail,
         }
     }
 }

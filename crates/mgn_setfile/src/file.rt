@@ -12,9 +12,10 @@ use crate::detail::{Detail, misfit_of};
 use crate::draft::{Draft, SetFile};
 use crate::fault::{Cause, RecordFault, SetFault};
 use crate::fields::read_set_name;
-use crate::line::{cut_line, fields, read_record};
+use crate::line::fields;
 use crate::place::Field;
-use crate::plain::{is_plain, read_plain};
+use crate::plain::is_plain;
+use crate::read::{read_body, read_closed};
 use crate::records::{read_class, read_commodity, read_month};
 use crate::rows::Rows;
 use crate::spreads::{read_spot, read_spread};
@@ -238,47 +239,8 @@ pub(crate) fn add_next(
     add_later(alloc, draft.version, &mut draft.set, words.as_slice())
 }
 
-// A record after those that gave this much, or as the first.
-fn add(alloc: Global, before: Option<Draft>, row: &ByteRecord) -> Result<Draft, RecordFault>
-    ensures ok { IfOk result (λ draft. judged before (Some (fields_of row.now)) ≡ Ok draft) }
-    ensures err { IfErr result (λ e. (e.cause ≡ Cause.Memory) ⊎ (judged before (Some (fields_of row.now)) ≡ Err e)) }
-{
-    match before {
-        None => add_first(alloc, row),
-        Some(mut draft) => {
-            add_next(alloc, &mut draft, row)?;
-            Ok(draft)
-        }
-    }
-}
-
-// The same of the record of a number in a line, both from 1.
-fn add_at(
-    alloc: Global,
-    before: Option<Draft>,
-    row: &ByteRecord,
-    number: u64,
-    line: u64,
-) -> Result<Draft, SetFault>
-    ensures ok { IfOk result (λ draft. judged before (Some (fields_of row.now)) ≡ Ok draft) }
-    ensures err { IfErr result (λ e. (e.cause ≡ Cause.Memory) ⊎ (judged before (Some (fields_of row.now)) ≡ Err (fault_in e))) }
-    ensures place { IfErr result (λ e. (e.number ≡ number) × (e.line ≡ line)) }
-    ensures detail { IfErr result (λ e. e.detail ≡ detail_of (Some (fields_of row.now)) (fault_in e)) }
-{
-    match add(alloc, before, row) {
-        Ok(draft) => Ok(draft),
-        Err(RecordFault { field, cause }) => Err(SetFault {
-            number,
-            line,
-            field,
-            cause,
-            detail: detail_of(row, cause, field),
-        }),
-    }
-}
-
 // What is wrong with the fields of a record as a whole, where its fault is one of all fields.
-fn detail_of(row: &ByteRecord, cause: Cause, field: Option<Field>) -> Option<Detail>
+pub(crate) fn detail_of(row: &ByteRecord, cause: Cause, field: Option<Field>) -> Option<Detail>
     ensures { result ≡ detail_by cause field (Some (fields_of row.now)) }
 {
     match (cause, field) {
@@ -309,35 +271,6 @@ pub(crate) fn file_of(draft: Option<Draft>) -> Result<SetFile, SetFault>
     }
 }
 
-// What `read_file` promises, of any file, by a reader for each line.
-fn read_lines(alloc: Global, text: &[u8]) -> Result<SetFile, SetFault>
-    ensures fault { TellsFile result (outcome (records_of text.now)) }
-    ensures version { IfOk result (λ file. version_told (records_of text.now) ≡ Some file.version) }
-    ensures line { IfErr result (λ e. (e.cause ≡ Cause.Memory) ⊎ (e.line ≡ line_of_record text.now e.number)) }
-    ensures detail { IfErr result (λ e. e.detail ≡ detail_of (numbered_record (records_of text.now) e.number) (fault_in e)) }
-{
-    let mut draft: Option<Draft> = None;
-    let mut count = 0u64;
-    let mut lines = 0u64;
-    let mut rest = Some(text);
-    while let Some(left) = rest {
-        let (line, more) = cut_line(left);
-        rest = more;
-        lines += 1;
-        let number = count + 1;
-        match read_record(alloc, line) {
-            Ok(None) => {}
-            Ok(Some(row)) => {
-                let next = add_at(alloc, draft, &row, number, lines)?;
-                draft = Some(next);
-                count = number;
-            }
-            Err(fault) => return Err(fault.at(number, lines)),
-        }
-    }
-    file_of(draft)
-}
-
 /// The set of a file of at most 2^64 - 2 bytes, with the version of its format: lines of comma-separated fields, each
 /// line read on its own, of the records `H` (header), `G` (commodity), `M` (month), `K` (contract), `S` (spread within a
 /// commodity), `I` (spread between commodities), `V` (collateral class) and, in version 2, `T` (spot month charge). A
@@ -352,11 +285,10 @@ pub fn read_file(alloc: Global, text: &[u8]) -> Result<SetFile, SetFault>
     ensures detail { IfErr result (λ e. e.detail ≡ detail_of (numbered_record (records_of text.now) e.number) (fault_in e)) }
 {
     if is_plain(text) {
-        if let Some(file) = read_plain(alloc, text) {
-            return Ok(file);
-        }
+        read_body(alloc, text, text, false)
+    } else {
+        read_closed(alloc, text)
     }
-    read_lines(alloc, text)
 }
 
 /// The same without the version.

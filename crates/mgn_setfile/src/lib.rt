@@ -1,6 +1,7 @@
 //! The files of parameter sets: their records, and the set or the first fault of a file.
 #![tactic(auto)]
 
+mod body;
 mod contracts;
 mod credits;
 mod detail;
@@ -11,8 +12,10 @@ mod file;
 mod line;
 mod place;
 mod plain;
+mod read;
 mod records;
 mod rows;
+mod scan;
 mod spreads;
 mod words;
 

@@ -1,13 +1,13 @@
-//! One line of a file, read by a reader of its own.
+//! The lines of a file, and the fields of a record.
 
 ghost use Rattle.std.specs.Prelude.{◌≡◌, ◌<◌, ◌∷◌, ◌==◌, length, map, option_map, position, IfOk, IfSome};
 ghost use Rattle.std.specs.List.{slice_split};
 ghost use Rattle.csv.specs.Records.{fields_of};
 ghost use Rattle.csv.specs.Reading.{strip_bom};
-ghost use Rattle.mgn_setfile.specs.Lines.{Gives, is_blank, line_records, lines_left, single};
+ghost use Rattle.mgn_setfile.specs.File.{line_of_record};
+ghost use Rattle.mgn_setfile.specs.Lines.{is_blank, lines_left};
 
-use crate::fault::LineFault;
-use csv::{ByteRecord, ReaderBuilder};
+use csv::ByteRecord;
 use std::alloc::{AllocError, Global};
 
 // Where the first end of line stands.
@@ -31,7 +31,7 @@ pub(crate) fn cut_line(text: &[u8]) -> (&[u8], Option<&[u8]>)
 
 // A line without the byte order mark that it may begin with.
 #[tactic(auto, unfolding(csv::specs::Reading::strip_bom))]
-fn unmarked(line: &[u8]) -> &[u8]
+pub(crate) fn unmarked(line: &[u8]) -> &[u8]
     ensures { result.now ≡ strip_bom line.now }
 {
     match line {
@@ -47,40 +47,27 @@ fn is_blank(line: &[u8]) -> bool
     unmarked(line).iter().all(|byte| *byte == b'\r')
 }
 
-// The record of a line, or `None` where the line has none. Blank lines need no reader: making one takes longer than most lines
-// do.
-pub(crate) fn read_record(alloc: Global, line: &[u8]) -> Result<Option<ByteRecord>, LineFault>
-    ensures { Gives (option_map fields_of) result (single (line_records line.now)) }
+// The line of the record of a number, both from 1: each line that is not blank has one. It is line 1 where no line has it.
+pub(crate) fn line_of(text: &[u8], number: u64) -> u64
+    requires { 0 < number }
+    ensures { result ≡ line_of_record text.now number }
 {
-    if is_blank(line) {
-        return Ok(None);
+    let mut lines = 0u64;
+    let mut count = 0u64;
+    let mut rest = Some(text);
+    while let Some(left) = rest {
+        let (line, more) = cut_line(left);
+        rest = more;
+        lines += 1;
+        if is_blank(line) {
+            continue;
+        }
+        count += 1;
+        if count == number {
+            return lines;
+        }
     }
-    read_row(alloc, line)
-}
-
-// The same of any line, by a reader.
-fn read_row(alloc: Global, line: &[u8]) -> Result<Option<ByteRecord>, LineFault>
-    ensures { Gives (option_map fields_of) result (single (line_records line.now)) }
-{
-    let mut reader = ReaderBuilder::new()
-        .has_headers(false)
-        .flexible(true)
-        .from_reader(alloc, line);
-    let mut row = ByteRecord::new(alloc);
-    let Ok(found) = reader.read_byte_record(&mut row) else {
-        return Err(LineFault::Memory);
-    };
-    if !found {
-        return Ok(None);
-    }
-    let mut second = ByteRecord::new(alloc);
-    let Ok(more) = reader.read_byte_record(&mut second) else {
-        return Err(LineFault::Memory);
-    };
-    if more {
-        return Err(LineFault::Second);
-    }
-    Ok(Some(row))
+    1
 }
 
 // The fields of a record.

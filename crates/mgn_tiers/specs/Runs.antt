@@ -1,5 +1,5 @@
 -- What the legs of one commodity start with, and what its stages, formed one after another, and its spot month then charge.
-use Rattle.std.specs.Prelude.{ℕ, ◌≡◌, ◌*◌, ◌<◌, ◌≤◌, ◌^◌, List, length, slice_index, Option, All}
+use Rattle.std.specs.Prelude.{ℕ, ◌≡◌, ◌+◌, ◌*◌, ◌<◌, ◌≤◌, ◌^◌, List, length, slice_index, Option, All}
 use Rattle.mgn_params.specs.declared.tables.SpotCharge.{SpotCharge}
 use Rattle.mgn_params.specs.declared.tables.Spread.{Spread}
 use Rattle.mgn_params.specs.Limits.{IsSpread}
@@ -21,6 +21,17 @@ run_from starts stages spot = record {
   charged = charges_of starts stages;
   spot_charged = spot_charge_from starts (left_by starts stages) spot;
 }
+
+-- the stages of a spread: the first tier long and the second short, and the other way round
+abbrev pub there_of : Spread → Stage
+there_of s = record { first_leg = s.first_tier; first_ratio = s.first_ratio; second_leg = 8 + s.second_tier; second_ratio = s.second_ratio; charge = s.charge }
+
+abbrev pub back_of : Spread → Stage
+back_of s = record { first_leg = s.second_tier; first_ratio = s.second_ratio; second_leg = 8 + s.first_tier; second_ratio = s.first_ratio; charge = s.charge }
+
+-- a stage of ratios of 1
+abbrev pub even_stage : ℕ → ℕ → ℕ → Stage
+even_stage first second each = record { first_leg = first; first_ratio = 10000; second_leg = second; second_ratio = 10000; charge = each }
 
 -- the limits on the numbers of a run
 pub record IsRun (run : Run) : Type 0 where

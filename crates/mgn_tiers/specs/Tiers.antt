@@ -32,6 +32,12 @@ run_of set g starts = run_from starts (stages_of set.spreads g) (spot_of set.spo
 abbrev pub run_by : Tables → List ℤ → ℕ → Run
 run_by set deltas g = run_of set g (starts_by set.months deltas g)
 
+-- as many rows as a set has months and commodities
+pub record AreTierRows (set : Tables) (t : Tiers) : Type 0 where
+  pub deltas : length t.deltas ≡ length set.months
+  pub net_deltas : length t.net_deltas ≡ length set.commodities
+  pub runs : length t.runs ≡ length set.commodities
+
 -- everything is kept for a set: one delta for each of its months, and for each of its commodities what these come to
 pub record AreTiersOf (set : Tables) (t : Tiers) : Type 0 where
   pub one_delta_each : length t.deltas ≡ length set.months

@@ -19,6 +19,15 @@ pub(crate) fn filled<T: Copy>(alloc: Global, count: usize, value: T) -> Result<V
     Ok(row)
 }
 
+// Writes one value at each place.
+pub(crate) fn fill<T: Copy>(row: &mut Vec<T>, value: T)
+    ensures { row.new.items ≡ replicate (length row.old.items) value }
+{
+    for place in row.iter_mut() {
+        *place = value;
+    }
+}
+
 // The delta at a place.
 pub(crate) fn delta_at(deltas: &[Delta], place: usize) -> Delta
     requires { place < length deltas.now }

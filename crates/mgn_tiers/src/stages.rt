@@ -2,6 +2,7 @@ ghost use Rattle.std.specs.Prelude.{◌≡◌, ◌*◌, ◌/◌, ◌<◌, ◌≤
 ghost use Rattle.std.specs.Int.{div_ceil};
 ghost use Rattle.mgn_span.specs.Stages.{amount_of, IsStage, left_after, used};
 ghost use Rattle.mgn_span.specs.Words.{charge_of};
+ghost use Rattle.mgn_tiers.specs.Runs.{even_stage};
 ghost use Rattle.mgn_tiers.specs.Sizes.{IsStart};
 
 use mgn_span::Stage;
@@ -86,4 +87,18 @@ pub(crate) fn form_stage(left: &mut [u64; 16], stage: &Stage) -> u128
     left[stage.first_leg] -= used(amount, stage.first_ratio);
     left[stage.second_leg] -= used(amount, stage.second_ratio);
     charge(amount, stage.charge)
+}
+
+/// The same of a stage of ratios of 1, which most are: it forms as many spreads as the leg that has less has left.
+pub(crate) fn form_even(left: &mut [u64; 16], first: usize, second: usize, each: u64) -> u128
+    requires stage { IsStage (even_stage first second each) }
+    requires left { (k : ℕ) → IsStart (slice_index left.old k) }
+    ensures charge { result ≡ charge_of left.old (even_stage first second each) }
+    ensures left { left.new ≡ left_after left.old (even_stage first second each) }
+    ensures small_charge { result ≤ 2 * 10 ^ 25 }
+{
+    let amount = left[first].min(left[second]);
+    left[first] -= amount;
+    left[second] -= amount;
+    charge(u128::from(amount), each)
 }

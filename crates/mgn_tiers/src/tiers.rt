@@ -1,12 +1,12 @@
-ghost use Rattle.std.specs.Prelude.{◌≡◌, ◌*◌, ◌<◌, ◌≤◌, ◌^◌, ◌+ℤ◌, unsigned_abs, pos, length, replicate, slice_set, IfOk};
+ghost use Rattle.std.specs.Prelude.{◌≡◌, ◌*◌, ◌<◌, ◌≤◌, ◌^◌, ◌+ℤ◌, unsigned_abs, pos, length, replicate, slice_set, IfOk, IsTrue, ◌↔◌};
 ghost use Rattle.mgn_span.specs.MonthDeltas.{intra_charge_by, net_delta_by, spot_charge_by};
 ghost use Rattle.mgn_span.specs.Scan.{value_at};
 ghost use Rattle.mgn_params.specs.Tables.{month_at, Tables};
-ghost use Rattle.mgn_tiers.specs.Tiers.{AreTiersOf};
+ghost use Rattle.mgn_tiers.specs.Tiers.{AreTiersOf, AreTierRows};
 ghost use Rattle.mgn_span.specs.Sizes.{IsDelta};
 
 use crate::delta::Delta;
-use crate::rows::{delta_at, filled, move_delta};
+use crate::rows::{delta_at, fill, filled, move_delta};
 use crate::run::StageRun;
 use mgn_num::{Cents, TenThousandths};
 use mgn_params::ParamSet;
@@ -49,6 +49,26 @@ impl TierStages {
         })
     }
 
+    /// Whether there is one delta for each month of a set, and one row of each kind for each of its commodities.
+    pub fn fits(&self, set: &ParamSet) -> bool
+        ensures { IsTrue result ↔ AreTierRows set.now self.now }
+    {
+        let count = set.commodity_count();
+        self.deltas.len() == set.month_count()
+            && self.net_deltas.len() == count
+            && self.runs.len() == count
+    }
+
+    /// Nothing held in place of what was kept, under each set that the rows fit. Takes no memory.
+    pub fn flatten(&mut self)
+        ensures of_set { (set : Tables) → AreTierRows set self.old → AreTiersOf set self.new }
+        ensures none { self.new.deltas ≡ replicate (length self.old.deltas) (pos 0) }
+    {
+        fill(&mut self.deltas, Delta::ZERO);
+        fill(&mut self.net_deltas, Delta::ZERO);
+        fill(&mut self.runs, StageRun::NOTHING);
+    }
+
     /// Adds to the delta of the month at a place, in ten-thousandths. The stages of its commodity are formed again
     /// where that changes what a leg starts with. The resulting month delta and net delta are at most 2.56 * 10^14 in size.
     pub fn add(&mut self, set: &ParamSet, month: usize, delta: TenThousandths)
@@ -69,9 +89,9 @@ impl TierStages {
         move_delta(&mut self.runs[place.commodity], set, place, old, new);
     }
 
-    /// Takes over what is kept for the same set under other deltas. Takes no memory.
+    /// Takes over what is kept for a set that the rows fit. Takes no memory.
     pub fn copy_from(&mut self, others: &TierStages)
-        requires { (set : Tables) × AreTiersOf set self.old × AreTiersOf set others.now }
+        requires { (set : Tables) × AreTierRows set self.old × AreTierRows set others.now }
         ensures { self.new ≡ others.now }
     {
         self.deltas.copy_from_slice(&others.deltas);

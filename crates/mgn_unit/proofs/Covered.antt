@@ -14,6 +14,7 @@ use Rattle.std.proofs.lemmas.List.FromFn.{get_or-range_with_len, length-range_wi
 use Rattle.std.proofs.lemmas.List.Quantifiers.{position-Some}
 use Rattle.std.proofs.lemmas.List.Sums.{AllPass-from_list_all, list_all-from_AllPass}
 use Rattle.mgn_num.proofs.SignedLemmas.{signed_sum_by-cons}
+use Rattle.mgn_span.specs.Scan.{value_at}
 use Rattle.mgn_params.specs.declared.tables.Contract.{Contract}
 use Rattle.mgn_params.specs.Limits.{contract_names}
 use Rattle.mgn_params.specs.Tables.{Tables, contract_at, no_contract}
@@ -43,6 +44,10 @@ all-covered old new sizes covered =
   where
     at : (i d : ℕ) → i < length old.contracts → is_covered_at old new sizes (get_or (range_with_len 0 (length old.contracts)) i d) ≡ true
     at i d inside = subst (λ (k : ℕ). is_covered_at old new sizes k ≡ true) (sym (number-at (length old.contracts) i d inside)) (covered i inside)
+
+-- nothing is held there
+pub flat-covered : (old new : Tables) (sizes : List ℤ) (i : ℕ) → value_at sizes i ≡ pos 0 → is_covered_at old new sizes i ≡ true
+flat-covered old new sizes i flat = ap (λ (z : ℤ). int_eq z (pos 0) || has_contract new (contract_at old.contracts i).name) flat
 
 pub one-lacks : (old new : Tables) (sizes : List ℤ) (i : ℕ) → i < length old.contracts → is_covered_at old new sizes i ≡ false → is_covered old new sizes ≡ false
 one-lacks old new sizes i inside lacks =

@@ -15,4 +15,5 @@ pub mod Covered
 pub mod Gains
 pub mod InPlace
 pub mod Places
+pub mod Paged
 pub mod Parts

@@ -1,12 +1,12 @@
 -- What was prepared of a unit, portfolio by portfolio.
 use Rattle.std.proofs.Common.{◌≡◌, List, subst, sym}
-use Rattle.std.specs.Prelude.{IsSomeAnd, None, Option, Some, ℤ}
+use Rattle.std.specs.Prelude.{IfSome, IsSomeAnd, None, Option, Some, ℤ}
 use Rattle.std.specs.Option.{option_map}
 use Rattle.mgn_params.specs.Tables.{Tables}
 use Rattle.mgn_unit.specs.declared.row.PreparedPortfolio.{PreparedPortfolio}
 use Rattle.mgn_unit.specs.declared.row.PreparedUnit.{PreparedUnit}
 use Rattle.mgn_unit.specs.declared.row.Row.{Row}
-use Rattle.mgn_unit.specs.NewSets.{carried}
+use Rattle.mgn_unit.specs.NewSets.{IsPrepared, IsPreparedPortfolio, carried}
 use Rattle.mgn_unit.specs.Prepared.{AreCarried, copied}
 
 -- a part is for these nets
@@ -40,3 +40,7 @@ all-carried old new row p part is are = subst (IsFor (carried old new row.all.ne
     by : (p : Option PreparedUnit) → IsSomeAnd p (AreCarried old new (copied row)) → IsFor (carried old new row.all.nets) (option_map (λ (it : PreparedUnit). it.all) p)
     by None are = are
     by (Some it) are = are.all
+
+pub all-prepared : (set : Tables) (p : Option PreparedUnit) → IfSome p (IsPrepared set) → IfSome (option_map (λ (it : PreparedUnit). it.all) p) (IsPreparedPortfolio set)
+all-prepared set None are = are
+all-prepared set (Some it) are = are.all

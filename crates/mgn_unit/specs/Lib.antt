@@ -3,4 +3,5 @@ pub mod Rows
 pub mod Changes
 pub mod Laws
 pub mod NewSets
+pub mod Pages
 pub mod Prepared

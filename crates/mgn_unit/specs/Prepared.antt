@@ -3,6 +3,7 @@ use Rattle.std.specs.Prelude.{ℕ, ◌≡◌, ◌<◌, ℤ, IsSomeAnd, List, Non
 use Rattle.mgn_params.specs.Tables.{Tables}
 use Rattle.mgn_span.specs.Positions.{IsNet}
 use Rattle.mgn_unit.specs.declared.prepared.CopiedNets.{CopiedNets}
+use Rattle.mgn_unit.specs.declared.prepared.KeptNets.{KeptNets}
 use Rattle.mgn_unit.specs.declared.row.PreparedUnit.{PreparedUnit}
 use Rattle.mgn_unit.specs.declared.row.Row.{Row}
 use Rattle.mgn_unit.specs.NewSets.{carried}
@@ -10,6 +11,10 @@ use Rattle.mgn_unit.specs.NewSets.{carried}
 -- the nets of a row
 abbrev pub copied : Row → CopiedNets
 copied row = record { lots = row.lots.nets; buys = row.buys.nets; sales = row.sales.nets; all = row.all.nets }
+
+-- nets where they are kept
+abbrev pub kept_nets : KeptNets → CopiedNets
+kept_nets nets = record { lots = nets.lots.now; buys = nets.buys.now; sales = nets.sales.now; all = nets.all.now }
 
 -- one net for each contract of a set, within its limit
 pub record IsCopied (set : Tables) (nets : List ℤ) : Type 0 where

@@ -1,48 +1,91 @@
-ghost use Rattle.std.specs.Prelude.{◌≡◌, ◌<◌, ◌+ℤ◌, pos, length, map, replicate, slice_set, IfOk, IsTrue, ◌↔◌};
+ghost use Rattle.std.specs.Prelude.{◌≡◌, ◌<◌, ◌≤◌, ◌+ℤ◌, pos, length, map, replicate, slice_set, IfOk, IfSome, IsTrue, ◌↔◌, ℕ, None};
+ghost use Rattle.std.specs.Int.{div_ceil};
 ghost use Rattle.mgn_num.specs.Amount.{IsQuantity};
 ghost use Rattle.mgn_span.specs.Scan.{value_at};
 ghost use Rattle.mgn_unit.specs.NewSets.{number_at};
 
+use crate::pages::{
+    PAGE, add_to, are_same, cell_at, cell_count, page_count, with_room, write_out, zeros,
+};
 use mgn_num::Quantity;
 use std::alloc::{AllocError, Global};
 use std::marker::Model;
 
 /// One quantity for each contract of a set. Contracts see the list.
+///
+/// They stand in pages of 16, of which those are kept that were written to, so that a copy and a comparison cost what is
+/// held and not what the set has. There is room for all of them from the start.
 #[derive(Drop)]
 pub struct Nets {
+    count: usize,
+    // Where the page of each 16 contracts begins in `cells`; 0, where a page of zeros stands, for one that is not kept.
+    starts: Vec<u16>,
     cells: Vec<Quantity>,
 }
 
 impl Model for Nets {
     ghost use Rattle.std.specs.Prelude.{List, ℤ};
+    ghost use Rattle.std.specs.Vec.{vec_capacity};
+    ghost use Rattle.mgn_unit.specs.Pages.{ArePages, listed};
 
     ghost Value = { List ℤ };
 
-    ghost view = { λ n. n.cells.items };
+    ghost view = { λ n. listed n.count n.starts.items n.cells.items };
+
+    ghost invariant = { λ n. ArePages n.count n.starts.items n.cells.items (vec_capacity n.cells) };
 }
 
 impl Nets {
-    /// As many quantities of 0.
+    /// As many quantities of 0. An error says that memory was refused.
     pub fn flat(alloc: Global, count: usize) -> Result<Nets, AllocError>
+        requires { count ≤ 4096 }
         ensures { IfOk result (λ nets. nets ≡ replicate count (pos 0)) }
     {
-        let cells = vec![in alloc; Quantity::ZERO; count]?;
-        Ok(Nets { cells })
+        Nets::of_pages(alloc, count, page_count(count))
+    }
+
+    // The same in so many pages, of which none is kept.
+    fn of_pages(alloc: Global, count: usize, pages: usize) -> Result<Nets, AllocError>
+        requires few { count ≤ 4096 }
+        requires pages { pages ≡ div_ceil count 16 }
+        ensures { IfOk result (λ nets. nets ≡ replicate count (pos 0)) }
+    {
+        let starts = vec![in alloc; 0; pages]?;
+        let cells = with_room(alloc, &[Quantity::ZERO; PAGE], cell_count(pages))?;
+        Ok(Nets {
+            count,
+            starts,
+            cells,
+        })
     }
 
     /// An equal list. An error says that memory was refused.
     pub fn copy(&self, alloc: Global) -> Result<Nets, AllocError>
         ensures { IfOk result (λ nets. nets ≡ self.now) }
     {
-        let cells = self.cells.as_slice().to_vec(alloc)?;
-        Ok(Nets { cells })
+        let starts = self.starts.as_slice().to_vec(alloc)?;
+        let cells = with_room(alloc, &self.cells, cell_count(starts.len()))?;
+        Ok(Nets {
+            count: self.count,
+            starts,
+            cells,
+        })
     }
 
-    /// All quantities, in the order of the set's contracts.
-    pub fn as_slice(&self) -> &[Quantity]
-        ensures { result.now ≡ self.now }
+    /// How many quantities there are.
+    pub fn len(&self) -> usize
+        ensures { result ≡ length self.now }
     {
-        self.cells.as_slice()
+        self.count
+    }
+
+    /// All quantities, in the order of the set's contracts. An error says that memory was refused.
+    pub fn to_vec(&self, alloc: Global) -> Result<Vec<Quantity>, AllocError>
+        ensures { IfOk result (λ list. list.items ≡ self.now) }
+    {
+        let mut list = zeros(alloc, self.count)?;
+        write_out(&self.starts, &self.cells, &mut list);
+        Ok(list)
     }
 
     /// The quantity at a place.
@@ -50,25 +93,30 @@ impl Nets {
         requires { contract < length self.now }
         ensures { result ≡ value_at self.now contract }
     {
-        self.cells[contract]
+        cell_at(&self.starts, &self.cells, contract)
     }
 
-    /// The quantities at these places, in their order, and 0 where there is no place.
+    /// The quantities at these places, in their order, and 0 where there is no place. An error says that memory was
+    /// refused.
     pub fn at_places(&self, alloc: Global, places: &[Option<usize>]) -> Result<Nets, AllocError>
+        requires { length places.now ≤ 4096 }
         ensures { IfOk result (λ nets. nets ≡ map (number_at self.now) places.now) }
     {
-        let mut cells = Vec::with_capacity(alloc, places.len())?;
-        for place in places {
-            cells.push_reserved(self.at_place(*place));
+        let mut nets = Nets::flat(alloc, places.len())?;
+        for i in 0..places.len() {
+            let quantity = self.at_place(places[i]);
+            if quantity != Quantity::ZERO {
+                nets.add(i, quantity);
+            }
         }
-        Ok(Nets { cells })
+        Ok(nets)
     }
 
     /// Whether these are the quantities of another list at these places, in their order, and 0 where there is no place.
     pub(crate) fn are_at_places(&self, other: &Nets, places: &[Option<usize>]) -> bool
         ensures { IsTrue result ↔ (self.now ≡ map (number_at other.now) places.now) }
     {
-        if self.cells.len() != places.len() {
+        if self.len() != places.len() {
             return false;
         }
         for i in 0..places.len() {
@@ -83,12 +131,28 @@ impl Nets {
         ensures { result ≡ number_at self.now place }
     {
         match place {
-            Some(contract) => match self.cells.get(contract) {
-                Some(quantity) => *quantity,
-                None => Quantity::ZERO,
-            },
-            None => Quantity::ZERO,
+            Some(contract) if contract < self.len() => self.at(contract),
+            _ => Quantity::ZERO,
         }
+    }
+
+    /// The first contract from one on with a quantity that is not 0.
+    pub fn next_held(&self, from: usize) -> Option<usize>
+        ensures found { IfSome result (λ c. (from ≤ c) × (c < length self.now)) }
+        ensures before { IfSome result (λ c. (k : ℕ) → from ≤ k → k < c → value_at self.now k ≡ pos 0) }
+        ensures none { result ≡ None → (k : ℕ) → from ≤ k → value_at self.now k ≡ pos 0 }
+    {
+        let mut contract = from;
+        while contract < self.len() {
+            if self.starts[contract / PAGE] == 0 {
+                contract = (contract / PAGE + 1) * PAGE;
+            } else if self.at(contract) == Quantity::ZERO {
+                contract += 1;
+            } else {
+                return Some(contract);
+            }
+        }
+        None
     }
 
     /// The quantity at a place, with another added.
@@ -97,14 +161,14 @@ impl Nets {
         requires small { IsQuantity (value_at self.old contract +ℤ quantity) }
         ensures { self.new ≡ slice_set self.old contract (value_at self.old contract +ℤ quantity) }
     {
-        let cell = self.at(contract);
-        self.cells[contract] = cell.plus(quantity);
+        add_to(&mut self.starts, &mut self.cells, contract, quantity);
     }
 
     /// Whether each quantity is the other's.
     pub fn is_same(&self, other: &Nets) -> bool
         ensures { IsTrue result ↔ (self.now ≡ other.now) }
     {
-        self.cells.as_slice() == other.cells.as_slice()
+        self.count == other.count
+            && are_same(&self.starts, &self.cells, &other.starts, &other.cells)
     }
 }

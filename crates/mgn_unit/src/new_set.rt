@@ -164,6 +164,7 @@ impl<'a> Switch<'a> {
         if self.keeps_places {
             return row.copy(alloc);
         }
+        self.new.limits();
         row.at_places(alloc, self.places.as_slice())
     }
 }
@@ -182,10 +183,13 @@ impl Nets {
         requires one_each { length self.now ≡ length old.now.contracts }
         ensures { result ≡ is_covered old.now new.now self.now }
     {
-        for contract in 0..old.contract_count() {
+        old.limits();
+        let mut from = 0;
+        while let Some(contract) = self.next_held(from) {
             if !self.is_covered_in(contract, old, new) {
                 return false;
             }
+            from = contract + 1;
         }
         true
     }

@@ -1,8 +1,8 @@
 //! What units require under a set, worked out before that set comes into force.
 
-ghost use Rattle.std.specs.Prelude.{◌≡◌, ◌&&◌, IfOk};
+ghost use Rattle.std.specs.Prelude.{◌≡◌, ◌&&◌, IfOk, Ok};
 ghost use Rattle.mgn_unit.specs.NewSets.{IsPrepared, IsPreparedPortfolio, IsRequired, carried, is_covered};
-ghost use Rattle.mgn_unit.specs.Prepared.{AreCarried, AreCopied, IsCopied, copied};
+ghost use Rattle.mgn_unit.specs.Prepared.{AreCarried, AreCopied, IsCopied, copied, kept_nets};
 
 use crate::nets::Nets;
 use crate::new_set::Switch;
@@ -25,7 +25,32 @@ pub struct CopiedNets {
     pub all: Nets,
 }
 
+/// The nets of the four portfolios of a margin unit where they are kept.
+#[derive(Clone, Copy)]
+pub struct KeptNets<'a> {
+    /// The lots.
+    pub lots: &'a Nets,
+    /// The lots and the held buys.
+    pub buys: &'a Nets,
+    /// The lots and the held sales.
+    pub sales: &'a Nets,
+    /// The lots and all holds.
+    pub all: &'a Nets,
+}
+
 impl Row {
+    /// The nets, as they are kept.
+    pub fn nets(&self) -> KeptNets<'_>
+        ensures { kept_nets result ≡ copied self.now }
+    {
+        KeptNets {
+            lots: &self.lots.nets,
+            buys: &self.buys.nets,
+            sales: &self.sales.nets,
+            all: &self.all.nets,
+        }
+    }
+
     /// A copy of the nets. An error says that memory was refused.
     pub fn copy_nets(&self, alloc: Global) -> Result<CopiedNets, AllocError>
         ensures { IfOk result (λ nets. nets ≡ copied self.now) }
@@ -37,6 +62,20 @@ impl Row {
             all: self.all.nets.copy(alloc)?,
         })
     }
+}
+
+// What nets require under a set. An error says that memory was refused.
+pub(crate) fn required(
+    alloc: Global,
+    set: &ParamSet,
+    nets: &Nets,
+    work: &mut Work,
+) -> Result<Cents, AllocError>
+    requires { IsCopied set.now nets.now }
+    ensures { IfOk result (IsRequired set.now nets.now) }
+{
+    let list = nets.to_vec(alloc)?;
+    requirement(alloc, set, &list, work)
 }
 
 // What nets under the old set of a switch require under the new one. An error says that memory was refused.
@@ -52,42 +91,71 @@ pub(crate) fn prepare(
     ensures limits { IfOk result (λ side. IsCopied switch.now.new side.nets) }
 {
     let carried = switch.carry(alloc, nets)?;
-    let required = requirement(alloc, switch.new_set(), carried.as_slice(), work)?;
+    let requirement = required(alloc, switch.new_set(), &carried, work)?;
     Ok(PreparedPortfolio {
         nets: carried,
-        requirement: required,
+        requirement,
     })
 }
 
-// The same beside nets under the new set for which it was worked out already: equal nets require as much.
+// What nets require under a set, beside others for which it was worked out already: equal nets require as much.
+fn required_beside(
+    alloc: Global,
+    set: &ParamSet,
+    nets: &Nets,
+    other: &Nets,
+    known: Cents,
+    work: &mut Work,
+) -> Result<Cents, AllocError>
+    requires nets { IsCopied set.now nets.now }
+    requires other { IsRequired set.now other.now known }
+    ensures required { IfOk result (IsRequired set.now nets.now) }
+    ensures taken { other.now ≡ nets.now → result ≡ Ok known }
+    ensures alike { other.now ≡ nets.now → work.new ≡ work.old }
+{
+    if nets.is_same(other) {
+        return Ok(known);
+    }
+    required(alloc, set, nets, work)
+}
+
+// The same as `prepare` beside nets under the new set for which it was worked out already.
 pub(crate) fn prepare_beside(
     alloc: Global,
     switch: &Switch,
     nets: &Nets,
     other: &Nets,
-    required: Cents,
+    known: Cents,
     work: &mut Work,
 ) -> Result<PreparedPortfolio, AllocError>
     requires nets { IsCopied switch.now.old nets.now }
-    requires other { IsRequired switch.now.new other.now required }
+    requires other { IsRequired switch.now.new other.now known }
     ensures prepared { IfOk result (IsPreparedPortfolio switch.now.new) }
     ensures nets { IfOk result (λ side. side.nets ≡ carried switch.now.old switch.now.new nets.now) }
     ensures limits { IfOk result (λ side. IsCopied switch.now.new side.nets) }
     ensures alike { other.now ≡ carried switch.now.old switch.now.new nets.now → work.new ≡ work.old }
 {
     let carried = switch.carry(alloc, nets)?;
-    let required = if carried.is_same(other) {
-        required
-    } else {
-        requirement(alloc, switch.new_set(), carried.as_slice(), work)?
-    };
+    let requirement = required_beside(alloc, switch.new_set(), &carried, other, known, work)?;
     Ok(PreparedPortfolio {
         nets: carried,
-        requirement: required,
+        requirement,
     })
 }
 
 impl CopiedNets {
+    /// The nets, as they are kept.
+    pub fn nets(&self) -> KeptNets<'_>
+        ensures { kept_nets result ≡ self.now }
+    {
+        KeptNets {
+            lots: &self.lots,
+            buys: &self.buys,
+            sales: &self.sales,
+            all: &self.all,
+        }
+    }
+
     /// Whether the new set has each contract of the old one in which a net is not 0.
     pub fn are_covered_by(&self, old: &ParamSet, new: &ParamSet) -> bool
         requires { AreCopied old.now self.now }

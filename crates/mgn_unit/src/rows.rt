@@ -7,11 +7,11 @@ ghost use Rattle.mgn_unit.specs.Rows.{GainsAlike, IsRow, IsPortfolioRow, IsGain,
 
 use crate::change::{Change, Gain};
 use crate::nets::Nets;
+use crate::prepared::required;
 use crate::row::{PortfolioRow, Priced, Row};
 use mgn_machine::Figures;
 use mgn_num::Cents;
 use mgn_params::{ParamSet, Work};
-use mgn_plain::requirement;
 use std::alloc::{AllocError, Global};
 
 impl PortfolioRow {
@@ -19,6 +19,7 @@ impl PortfolioRow {
     pub fn flat(alloc: Global, set: &ParamSet) -> Result<PortfolioRow, AllocError>
         ensures { IfOk result (λ side. side ≡ no_portfolio set.now) }
     {
+        set.limits();
         let nets = Nets::flat(alloc, set.contract_count())?;
         Ok(PortfolioRow {
             nets,
@@ -44,7 +45,7 @@ impl PortfolioRow {
         ensures requirement { IfOk result (λ r. PricesPortfolio set.now contract gain.now self.old r) }
     {
         self.nets.add(contract, gain.quantity);
-        let priced = requirement(alloc, set, self.nets.as_slice(), work);
+        let priced = required(alloc, set, &self.nets, work);
         self.nets.add(contract, gain.quantity.negated());
         priced
     }
@@ -124,6 +125,7 @@ impl Row {
     pub fn flat(alloc: Global, set: &ParamSet) -> Result<Row, AllocError>
         ensures { IfOk result (λ row. row ≡ no_row set.now) }
     {
+        set.limits();
         let sizes = Nets::flat(alloc, set.contract_count())?;
         let lots = PortfolioRow::flat(alloc, set)?;
         let buys = PortfolioRow::flat(alloc, set)?;

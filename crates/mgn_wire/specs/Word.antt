@@ -1,5 +1,5 @@
 -- The words of a line (own format).
-use Rattle.std.specs.Prelude.{ℕ, ◌==◌, List, [], if◌then◌else◌, Option, Some, None, Result, Ok, Err, codes}
+use Rattle.std.specs.Prelude.{ℕ, ◌==◌, List, if◌then◌else◌, Result, Ok, Err, codes}
 use Rattle.std.specs.List.{slice_split}
 use Rattle.std.specs.Str.{bytes_eq}
 use Rattle.mgn_ids.specs.declared.fault.IdFault.{IdFault}
@@ -10,11 +10,6 @@ use Rattle.mgn_machine.specs.declared.command.Mode.TheVariants.{Gross, Net}
 -- the words of a line: its parts between spaces
 abbrev pub words_of : List ℕ → List (List ℕ)
 words_of line = slice_split (λ b. b == 32) line
-
--- the words of what is left, if anything is
-abbrev pub words_left : Option (List ℕ) → List (List ℕ)
-words_left None = []
-words_left (Some rest) = words_of rest
 
 -- how an origin is margined
 unfoldable pub mode_in : List ℕ → Result Mode IdFault

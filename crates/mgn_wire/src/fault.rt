@@ -1,3 +1,4 @@
+use mgn_ids::IdFault;
 use std::alloc::AllocError;
 
 /// Why a line asks for nothing.
@@ -9,6 +10,21 @@ pub enum LineFault {
     Syntax,
     /// A name on it is too long, or a number outside its range.
     Range,
+}
+
+// What is wrong with a word is wrong with its line.
+impl From<IdFault> for LineFault {
+    ghost use Rattle.std.specs.Prelude.{◌≡◌, ℕ, Err};
+    ghost use Rattle.mgn_wire.specs.Line.{of_words};
+
+    ghost from_gives = { λ fault line_fault. of_words {A = ℕ} (Err fault) ≡ Err line_fault };
+
+    fn from(fault: IdFault) -> LineFault {
+        match fault {
+            IdFault::Syntax => LineFault::Syntax,
+            IdFault::Range => LineFault::Range,
+        }
+    }
 }
 
 /// Memory could not be had.

@@ -1,5 +1,4 @@
-ghost use Rattle.std.specs.Prelude.{◌≡◌, map, nat_lt, length, Ok};
-ghost use Rattle.std.specs.List.{list_all};
+ghost use Rattle.std.specs.Prelude.{◌≡◌, map, Ok};
 ghost use Rattle.mgn_ids.specs.Amounts.{premium_in, quantity_in, units_in};
 ghost use Rattle.mgn_ids.specs.Name.{name_in};
 ghost use Rattle.mgn_ids.specs.Number.{number_in};
@@ -10,8 +9,8 @@ ghost use Rattle.mgn_wire.specs.Line.{◌<*>◌, fill_of, hold_of, line_in, line
 use crate::fault::LineFault;
 use crate::words::{read_mode, split_words};
 use mgn_ids::{
-    AccountName, ClassName, ContractName, IdFault, LotId, LotQuantity, OrderId, OriginName,
-    Premium, SetName, Units,
+    AccountName, ClassName, ContractName, LotId, LotQuantity, OrderId, OriginName, Premium,
+    SetName, Units,
 };
 use mgn_machine::{Command, Fill, Hold, Trade, Transfer};
 
@@ -28,54 +27,54 @@ pub enum Line {
 
 // Each command by its words, from left to right.
 
-fn read_open(account: &[u8], origin: &[u8]) -> Result<Command, IdFault>
-    ensures { result ≡ reads2 command.NewAccount (name_in account.now) (name_in origin.now) }
+fn read_open(account: &[u8], origin: &[u8]) -> Result<Line, LineFault>
+    ensures { result ≡ of_words (Ok Line.Do <*> reads2 command.NewAccount (name_in account.now) (name_in origin.now)) }
 {
     let account = AccountName::read(account)?;
     let origin = OriginName::read(origin)?;
-    Ok(Command::NewAccount(account, origin))
+    Ok(Line::Do(Command::NewAccount(account, origin)))
 }
 
-fn read_bust(account: &[u8], lot: &[u8]) -> Result<Command, IdFault>
-    ensures { result ≡ reads2 command.Bust (name_in account.now) (number_in lot.now) }
+fn read_bust(account: &[u8], lot: &[u8]) -> Result<Line, LineFault>
+    ensures { result ≡ of_words (Ok Line.Do <*> reads2 command.Bust (name_in account.now) (number_in lot.now)) }
 {
     let account = AccountName::read(account)?;
     let lot = LotId::read(lot)?;
-    Ok(Command::Bust(account, lot))
+    Ok(Line::Do(Command::Bust(account, lot)))
 }
 
-fn read_origin(origin: &[u8], mode: &[u8]) -> Result<Command, IdFault>
-    ensures { result ≡ reads2 command.NewOrigin (name_in origin.now) (mode_in mode.now) }
+fn read_origin(origin: &[u8], mode: &[u8]) -> Result<Line, LineFault>
+    ensures { result ≡ of_words (Ok Line.Do <*> reads2 command.NewOrigin (name_in origin.now) (mode_in mode.now)) }
 {
     let origin = OriginName::read(origin)?;
     let mode = read_mode(mode)?;
-    Ok(Command::NewOrigin(origin, mode))
+    Ok(Line::Do(Command::NewOrigin(origin, mode)))
 }
 
-fn read_release(account: &[u8], order: &[u8]) -> Result<Command, IdFault>
-    ensures { result ≡ reads2 command.Release (name_in account.now) (number_in order.now) }
+fn read_release(account: &[u8], order: &[u8]) -> Result<Line, LineFault>
+    ensures { result ≡ of_words (Ok Line.Do <*> reads2 command.Release (name_in account.now) (number_in order.now)) }
 {
     let account = AccountName::read(account)?;
     let order = OrderId::read(order)?;
-    Ok(Command::Release(account, order))
+    Ok(Line::Do(Command::Release(account, order)))
 }
 
-fn read_draw(account: &[u8], class: &[u8], units: &[u8]) -> Result<Command, IdFault>
-    ensures { result ≡ reads3 command.Draw (name_in account.now) (name_in class.now) (units_in units.now) }
+fn read_draw(account: &[u8], class: &[u8], units: &[u8]) -> Result<Line, LineFault>
+    ensures { result ≡ of_words (Ok Line.Do <*> reads3 command.Draw (name_in account.now) (name_in class.now) (units_in units.now)) }
 {
     let account = AccountName::read(account)?;
     let class = ClassName::read(class)?;
     let units = Units::read(units)?;
-    Ok(Command::Draw(account, class, units))
+    Ok(Line::Do(Command::Draw(account, class, units)))
 }
 
-fn read_post(account: &[u8], class: &[u8], units: &[u8]) -> Result<Command, IdFault>
-    ensures { result ≡ reads3 command.Post (name_in account.now) (name_in class.now) (units_in units.now) }
+fn read_post(account: &[u8], class: &[u8], units: &[u8]) -> Result<Line, LineFault>
+    ensures { result ≡ of_words (Ok Line.Do <*> reads3 command.Post (name_in account.now) (name_in class.now) (units_in units.now)) }
 {
     let account = AccountName::read(account)?;
     let class = ClassName::read(class)?;
     let units = Units::read(units)?;
-    Ok(Command::Post(account, class, units))
+    Ok(Line::Do(Command::Post(account, class, units)))
 }
 
 fn read_trade(
@@ -84,22 +83,22 @@ fn read_trade(
     contract: &[u8],
     quantity: &[u8],
     premium: &[u8],
-) -> Result<Command, IdFault>
-    ensures { result ≡ reads5 trade_of (name_in account.now) (number_in lot.now) (name_in contract.now)
-        (quantity_in quantity.now) (premium_in premium.now) }
+) -> Result<Line, LineFault>
+    ensures { result ≡ of_words (Ok Line.Do <*> reads5 trade_of (name_in account.now) (number_in lot.now) (name_in contract.now)
+        (quantity_in quantity.now) (premium_in premium.now)) }
 {
     let account = AccountName::read(account)?;
     let lot = LotId::read(lot)?;
     let contract = ContractName::read(contract)?;
     let quantity = LotQuantity::read(quantity)?;
     let premium = Premium::read(premium)?;
-    Ok(Command::Trade(Trade {
+    Ok(Line::Do(Command::Trade(Trade {
         account,
         lot,
         contract,
         quantity,
         premium,
-    }))
+    })))
 }
 
 fn read_hold(
@@ -108,22 +107,22 @@ fn read_hold(
     contract: &[u8],
     quantity: &[u8],
     limit: &[u8],
-) -> Result<Command, IdFault>
-    ensures { result ≡ reads5 hold_of (name_in account.now) (number_in order.now) (name_in contract.now)
-        (quantity_in quantity.now) (premium_in limit.now) }
+) -> Result<Line, LineFault>
+    ensures { result ≡ of_words (Ok Line.Do <*> reads5 hold_of (name_in account.now) (number_in order.now) (name_in contract.now)
+        (quantity_in quantity.now) (premium_in limit.now)) }
 {
     let account = AccountName::read(account)?;
     let order = OrderId::read(order)?;
     let contract = ContractName::read(contract)?;
     let quantity = LotQuantity::read(quantity)?;
     let limit = Premium::read(limit)?;
-    Ok(Command::Hold(Hold {
+    Ok(Line::Do(Command::Hold(Hold {
         account,
         order,
         contract,
         quantity,
         limit,
-    }))
+    })))
 }
 
 fn read_fill(
@@ -132,22 +131,22 @@ fn read_fill(
     lot: &[u8],
     quantity: &[u8],
     premium: &[u8],
-) -> Result<Command, IdFault>
-    ensures { result ≡ reads5 fill_of (name_in account.now) (number_in order.now) (number_in lot.now)
-        (quantity_in quantity.now) (premium_in premium.now) }
+) -> Result<Line, LineFault>
+    ensures { result ≡ of_words (Ok Line.Do <*> reads5 fill_of (name_in account.now) (number_in order.now) (number_in lot.now)
+        (quantity_in quantity.now) (premium_in premium.now)) }
 {
     let account = AccountName::read(account)?;
     let order = OrderId::read(order)?;
     let lot = LotId::read(lot)?;
     let quantity = LotQuantity::read(quantity)?;
     let premium = Premium::read(premium)?;
-    Ok(Command::Fill(Fill {
+    Ok(Line::Do(Command::Fill(Fill {
         account,
         order,
         lot,
         quantity,
         premium,
-    }))
+    })))
 }
 
 fn read_transfer(
@@ -156,40 +155,40 @@ fn read_transfer(
     to: &[u8],
     contract: &[u8],
     quantity: &[u8],
-) -> Result<Command, IdFault>
-    ensures { result ≡ reads5 transfer_of (number_in lot.now) (name_in from.now) (name_in to.now)
-        (name_in contract.now) (quantity_in quantity.now) }
+) -> Result<Line, LineFault>
+    ensures { result ≡ of_words (Ok Line.Do <*> reads5 transfer_of (number_in lot.now) (name_in from.now) (name_in to.now)
+        (name_in contract.now) (quantity_in quantity.now)) }
 {
     let lot = LotId::read(lot)?;
     let from = AccountName::read(from)?;
     let to = AccountName::read(to)?;
     let contract = ContractName::read(contract)?;
     let quantity = LotQuantity::read(quantity)?;
-    Ok(Command::Transfer(Transfer {
+    Ok(Line::Do(Command::Transfer(Transfer {
         lot,
         from,
         to,
         contract,
         quantity,
-    }))
+    })))
 }
 
 // The commands of no word, one, two, three and five words after the verb.
 
 #[tactic(auto, unfolding(crate::specs::Line::with_none))]
-fn read_none(verb: &[u8]) -> Result<Command, IdFault>
-    ensures { result ≡ with_none verb.now }
+fn read_none(verb: &[u8]) -> Result<Line, LineFault>
+    ensures { result ≡ of_words (Ok Line.Do <*> with_none verb.now) }
 {
     if verb == b"END".as_slice() {
-        Ok(Command::EndDay)
+        Ok(Line::Do(Command::EndDay))
     } else {
-        Err(IdFault::Syntax)
+        Err(LineFault::Syntax)
     }
 }
 
 #[tactic(auto, unfolding(crate::specs::Line::with_one))]
-fn read_one(verb: &[u8], a: &[u8]) -> Result<Line, IdFault>
-    ensures { result ≡ with_one verb.now a.now }
+fn read_one(verb: &[u8], a: &[u8]) -> Result<Line, LineFault>
+    ensures { result ≡ of_words (with_one verb.now a.now) }
 {
     if verb == b"ASK".as_slice() {
         let account = AccountName::read(a)?;
@@ -204,13 +203,13 @@ fn read_one(verb: &[u8], a: &[u8]) -> Result<Line, IdFault>
         let set = SetName::read(a)?;
         Ok(Line::Switch(set))
     } else {
-        Err(IdFault::Syntax)
+        Err(LineFault::Syntax)
     }
 }
 
 #[tactic(auto, unfolding(crate::specs::Line::with_two))]
-fn read_two(verb: &[u8], a: &[u8], b: &[u8]) -> Result<Command, IdFault>
-    ensures { result ≡ with_two verb.now a.now b.now }
+fn read_two(verb: &[u8], a: &[u8], b: &[u8]) -> Result<Line, LineFault>
+    ensures { result ≡ of_words (Ok Line.Do <*> with_two verb.now a.now b.now) }
 {
     if verb == b"BUST".as_slice() {
         read_bust(a, b)
@@ -221,20 +220,20 @@ fn read_two(verb: &[u8], a: &[u8], b: &[u8]) -> Result<Command, IdFault>
     } else if verb == b"RELEASE".as_slice() {
         read_release(a, b)
     } else {
-        Err(IdFault::Syntax)
+        Err(LineFault::Syntax)
     }
 }
 
 #[tactic(auto, unfolding(crate::specs::Line::with_three))]
-fn read_three(verb: &[u8], a: &[u8], b: &[u8], c: &[u8]) -> Result<Command, IdFault>
-    ensures { result ≡ with_three verb.now a.now b.now c.now }
+fn read_three(verb: &[u8], a: &[u8], b: &[u8], c: &[u8]) -> Result<Line, LineFault>
+    ensures { result ≡ of_words (Ok Line.Do <*> with_three verb.now a.now b.now c.now) }
 {
     if verb == b"POST".as_slice() {
         read_post(a, b, c)
     } else if verb == b"DRAW".as_slice() {
         read_draw(a, b, c)
     } else {
-        Err(IdFault::Syntax)
+        Err(LineFault::Syntax)
     }
 }
 
@@ -246,8 +245,8 @@ fn read_five(
     c: &[u8],
     d: &[u8],
     e: &[u8],
-) -> Result<Command, IdFault>
-    ensures { result ≡ with_five verb.now a.now b.now c.now d.now e.now }
+) -> Result<Line, LineFault>
+    ensures { result ≡ of_words (Ok Line.Do <*> with_five verb.now a.now b.now c.now d.now e.now) }
 {
     if verb == b"TRADE".as_slice() {
         read_trade(a, b, c, d, e)
@@ -258,61 +257,31 @@ fn read_five(
     } else if verb == b"MOVE".as_slice() {
         read_transfer(a, b, c, d, e)
     } else {
-        Err(IdFault::Syntax)
+        Err(LineFault::Syntax)
     }
-}
-
-fn as_line(command: Result<Command, IdFault>) -> Result<Line, IdFault>
-    ensures { result ≡ Ok Line.Do <*> command }
-{
-    Ok(Line::Do(command?))
-}
-
-#[tactic(auto, unfolding(crate::specs::Line::line_in))]
-fn read_words(words: &[&[u8]]) -> Result<Line, IdFault>
-    ensures { result ≡ line_in (map (λ s. s.now) words.now) }
-{
-    match *words {
-        [verb] => as_line(read_none(verb)),
-        [verb, a] => read_one(verb, a),
-        [verb, a, b] => as_line(read_two(verb, a, b)),
-        [verb, a, b, c] => as_line(read_three(verb, a, b, c)),
-        [verb, a, b, c, d, e] => as_line(read_five(verb, a, b, c, d, e)),
-        _ => Err(IdFault::Syntax),
-    }
-}
-
-// What is wrong with a word is wrong with its line.
-fn of_words(read: Result<Line, IdFault>) -> Result<Line, LineFault>
-    ensures { result ≡ of_words read }
-{
-    match read {
-        Ok(line) => Ok(line),
-        Err(IdFault::Syntax) => Err(LineFault::Syntax),
-        Err(IdFault::Range) => Err(LineFault::Range),
-    }
-}
-
-fn are_filled(words: &[&[u8]]) -> bool
-    ensures { result ≡ list_all (λ s. nat_lt 0 (length s.now)) words.now }
-{
-    words.iter().all(|word| 0 < word.len())
 }
 
 /// What a line, without its line feed, asks for. `Long` where it has more than 256 bytes; else `Syntax` where it is not
 /// words by single spaces, the first of them a command's and as many as the command has; else the fault of the leftmost
 /// word that is wrong: `Syntax` where it is not spelled rightly, `Range` where a name is too long or a number outside its
 /// range. Takes no memory.
+#[tactic(auto, unfolding(crate::specs::Line::line_in))]
 pub fn read_line(line: &[u8]) -> Result<Line, LineFault>
     ensures { result ≡ line_of line.now }
 {
     if line.len() > LONGEST_LINE {
         return Err(LineFault::Long);
     }
-    let words = split_words(line);
-    let words = &words.items[..words.count];
-    if !are_filled(words) {
+    let Some(words) = split_words(line) else {
         return Err(LineFault::Syntax);
+    };
+    let words = &words.items[..words.count];
+    match *words {
+        [verb] => read_none(verb),
+        [verb, a] => read_one(verb, a),
+        [verb, a, b] => read_two(verb, a, b),
+        [verb, a, b, c] => read_three(verb, a, b, c),
+        [verb, a, b, c, d, e] => read_five(verb, a, b, c, d, e),
+        _ => Err(LineFault::Syntax),
     }
-    of_words(read_words(words))
 }

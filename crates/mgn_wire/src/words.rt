@@ -1,56 +1,50 @@
-ghost use Rattle.std.specs.Prelude.{◌≡◌, ◌==◌, ◌≤◌, position, length, take, map, option_map, ◌∷◌};
-ghost use Rattle.mgn_wire.specs.Word.{words_of, words_left, mode_in};
+ghost use Rattle.std.specs.Prelude.{◌≡◌, ◌≤◌, ◌<◌, ◌⊎◌, MatchOption, true, false, length, take, map};
+ghost use Rattle.mgn_wire.specs.Word.{words_of, mode_in};
+ghost use Rattle.mgn_wire.specs.Line.{all_filled};
 
-use memchr::memchr;
 use mgn_ids::IdFault;
 use mgn_machine::Mode;
 
-fn find_space(text: &[u8]) -> Option<usize>
-    ensures { result ≡ position (λ b. b == 32) text.now }
-{
-    memchr(b' ', text)
-}
+// As many as the longest command has.
+const MOST_WORDS: usize = 6;
 
-// The first word, and what stands behind the space after it.
-fn first_word(text: &[u8]) -> (&[u8], Option<&[u8]>)
-    ensures { words_of text.now ≡ result.0.now ∷ words_left (option_map (λ s. s.now) result.1) }
-{
-    match find_space(text) {
-        None => (text, None),
-        Some(at) => (&text[..at], Some(&text[at + 1..])),
-    }
-}
-
-// One more word than any command has.
-const MOST_WORDS: usize = 7;
-
-/// The first words of a line.
+/// The words of a line.
 #[derive(Clone, Copy)]
 pub(crate) struct Words<'a> {
-    pub items: [&'a [u8]; 7],
+    pub items: [&'a [u8]; MOST_WORDS],
     pub count: usize,
 }
 
-/// The words of a line, the first seven where there are more.
-#[tactic(auto, using(crate::proofs::WordFacts::first_of))]
-pub(crate) fn split_words(line: &[u8]) -> Words<'_>
-    ensures count { result.count ≤ 7 }
-    ensures words { map (λ s. s.now) (take result.count result.items) ≡ take 7 (words_of line.now) }
+/// The words of a line, or `None` where one is empty or there are more than six.
+#[tactic(auto, using(crate::proofs::WordFacts::cut_last))]
+pub(crate) fn split_words(line: &[u8]) -> Option<Words<'_>>
+    ensures { MatchOption result
+        ((all_filled (words_of line.now) ≡ false) ⊎ (6 < length (words_of line.now)))
+        (λ words. (words.count ≤ 6)
+        × (map (λ s. s.now) (take words.count words.items) ≡ words_of line.now)
+        × (all_filled (words_of line.now) ≡ true)) }
 {
     let mut items = [line; MOST_WORDS];
-    let mut rest = Some(line);
-    for i in 0..MOST_WORDS {
-        let Some(text) = rest else {
-            return Words { items, count: i };
-        };
-        let (word, more) = first_word(text);
-        items[i] = word;
-        rest = more;
+    let mut count = 0;
+    let mut start = 0;
+    for (i, byte) in line.iter().enumerate() {
+        if *byte == b' ' {
+            if i == start || count == MOST_WORDS - 1 {
+                return None;
+            }
+            items[count] = &line[start..i];
+            count += 1;
+            start = i + 1;
+        }
     }
-    Words {
+    if start == line.len() {
+        return None;
+    }
+    items[count] = &line[start..];
+    Some(Words {
         items,
-        count: MOST_WORDS,
-    }
+        count: count + 1,
+    })
 }
 
 /// How an origin is margined: `GROSS` or `NET`.

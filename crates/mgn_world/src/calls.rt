@@ -1,6 +1,6 @@
 //! The steps of a call.
 
-ghost use Rattle.std.specs.Prelude.{◌≡◌, ◌<◌, if◌then◌else◌, All, IfOk, OnOk, length, map};
+ghost use Rattle.std.specs.Prelude.{◌≡◌, ◌<◌, ◌∷◌, [], if◌then◌else◌, All, IfOk, OnOk, length, map};
 ghost use Rattle.mgn_world.specs.declared.stages.Stage.TheVariants.{Ended, Held};
 ghost use Rattle.mgn_world.specs.Standing.{Good};
 ghost use Rattle.mgn_world.specs.World.{applies, backs, begins, ends, looks, marks, plan_units, stage_at};
@@ -26,26 +26,44 @@ fn see_one(alloc: Global, rows: &[Row], change: &UnitChange) -> Result<Seen, All
     })
 }
 
+// Two units with their nets.
+fn see_both(
+    alloc: Global,
+    rows: &[Row],
+    first: &UnitChange,
+    second: &UnitChange,
+) -> Result<Vec<Seen>, AllocError>
+    requires first { first.now.unit < length rows.now }
+    requires second { second.now.unit < length rows.now }
+    ensures { IfOk result (λ seen. seen.items
+        ≡ seen_in rows.now first.now.unit ∷ seen_in rows.now second.now.unit ∷ []) }
+{
+    let mut seen = Vec::with_capacity(alloc, 2)?;
+    seen.push_reserved(see_one(alloc, rows, first)?);
+    seen.push_reserved(see_one(alloc, rows, second)?);
+    Ok(seen)
+}
+
 // The units of a plan with their nets, in order of their numbers.
 fn see(alloc: Global, rows: &[Row], plan: &Plan) -> Result<Vec<Seen>, AllocError>
     requires { All (λ u. u < length rows.now) (plan_units plan.now) }
     ensures { IfOk result (λ seen. seen.items ≡ map (seen_in rows.now) (plan_units plan.now)) }
 {
-    let mut seen = Vec::with_capacity(alloc, 2)?;
     match plan {
-        Plan::Nothing => {}
-        Plan::One(change) => seen.push_reserved(see_one(alloc, rows, change)?),
+        Plan::Nothing => Ok(Vec::new(alloc)),
+        Plan::One(change) => {
+            let mut seen = Vec::with_capacity(alloc, 1)?;
+            seen.push_reserved(see_one(alloc, rows, change)?);
+            Ok(seen)
+        }
         Plan::Two(giver, taker) => {
-            let (first, second) = if taker.unit < giver.unit {
-                (taker, giver)
+            if taker.unit < giver.unit {
+                see_both(alloc, rows, taker, giver)
             } else {
-                (giver, taker)
-            };
-            seen.push_reserved(see_one(alloc, rows, first)?);
-            seen.push_reserved(see_one(alloc, rows, second)?);
+                see_both(alloc, rows, giver, taker)
+            }
         }
     }
-    Ok(seen)
 }
 
 // The stage of a failed call once its plan is taken back.

@@ -9,7 +9,7 @@ ghost use Rattle.mgn_world.specs.Stages.{Seen as SeenNets};
 ghost use Rattle.mgn_world.specs.World.{are_of, desks_with, desks_without, mark_first, planned_desks, unplanned_desks};
 
 use crate::stages::Seen;
-use mgn_desk::{Desk, UnitNets};
+use mgn_desk::Desk;
 use mgn_params::{SetList, Shelf, Version, Work};
 use mgn_plan::{Plan, UnitChange};
 use mgn_pricing::{is_of, moves_of};
@@ -48,13 +48,8 @@ fn mark(
     let Some(set) = shelf.get(version) else {
         unreachable!();
     };
-    let nets = UnitNets {
-        lots: seen.nets.lots.as_slice(),
-        buys: seen.nets.buys.as_slice(),
-        sales: seen.nets.sales.as_slice(),
-        all: seen.nets.all.as_slice(),
-    };
-    desks[seen.unit].mark(alloc, version, set, &nets)
+    let nets = seen.nets.nets();
+    mgn_pricing::mark(&mut desks[seen.unit], alloc, version, set, &nets)
 }
 
 /// Marks the first desk, of those of the units that were looked at, that is not of the version. An error says that memory

@@ -11,6 +11,6 @@ fn nets_are_added_to(rt: HostRuntime) -> Result<(), Fail> {
     assert!(rt; nets.is_same(&flat));
     nets.add(1, Quantity::new(-4));
     assert_eq!(rt; (nets.at(0).contracts(), nets.at(1).contracts()), (0, -4));
-    assert_eq!(rt; (nets.is_same(&flat), nets.as_slice().len()), (false, 2));
+    assert_eq!(rt; (nets.is_same(&flat), nets.len()), (false, 2));
     Ok(())
 }

@@ -89,6 +89,23 @@ const TURNS: [Answered; 11] = [
     ("ASK C3", "OK 11 600 600 0 0 -600\n"),
 ];
 
+// An order that is filled in part before what is left of it is released, and its number held again. What the session keeps of
+// the order is then no longer what the book holds.
+const PARTS: [Answered; 12] = [
+    ("ORIGIN CUST GROSS", "OK 1\n"),
+    ("OPEN A1 CUST", "OK 2\n"),
+    ("POST A1 CASH 900", "OK 3\n"),
+    ("HOLD A1 1 AAA1 3 0", "OK 4\n"),
+    ("FILL A1 1 1 2 0", "OK 5\n"),
+    ("ASK A1", "OK 6 600 900 900 900 0\n"),
+    ("RELEASE A1 1", "OK 7\n"),
+    ("ASK A1", "OK 8 600 600 900 900 300\n"),
+    ("HOLD A1 1 AAA1 1 0", "OK 9\n"),
+    ("FILL A1 1 2 1 0", "OK 10\n"),
+    ("RELEASE A1 1", "ERR 11 25 NOORDER\n"),
+    ("ASK A1", "OK 12 900 900 900 900 0\n"),
+];
+
 // The desks of so many units are kept from call to call, also over a refused order, and nothing is worked out in the book.
 fn keeps_desks<T: Image, J: TableName + SlotNames, R: Wait + Abort>(
     rt: &R,
@@ -123,6 +140,13 @@ fn accounts_take_turns(rt: HostRuntime) -> Result<(), Fail> {
     let slots = Slots::<DayImage>::new(rt.alloc(), 20)?;
     let table = SetTable::new(rt.alloc())?;
     keeps_desks::<_, Brand, _>(&rt, rt.alloc(), &slots, &table, &TURNS, 2)
+}
+
+#[test]
+fn an_order_goes_in_parts(rt: HostRuntime) -> Result<(), Fail> {
+    let slots = Slots::<DayImage>::new(rt.alloc(), 20)?;
+    let table = SetTable::new(rt.alloc())?;
+    keeps_desks::<_, Brand, _>(&rt, rt.alloc(), &slots, &table, &PARTS, 1)
 }
 
 /// A service before its first command.

@@ -1,7 +1,7 @@
 //! Files whose lines end otherwise than in LF, and carriage returns elsewhere.
 
-use crate::texts::{ended_by, fault_of};
-use mgn_setfile::{Cause, Field, SetFault, read_set};
+use crate::texts::{ended_by, fault_of, place_of};
+use mgn_setfile::{Cause, Field, read_set};
 use std::alloc::{AllocError, Global};
 use std::process::Abort;
 use std::test::Fail;
@@ -59,21 +59,6 @@ fn reads_carriage_returns_within_the_last_line(rt: HostRuntime) -> Result<(), Fa
         assert_eq!(rt; fault_of(rt.alloc(), &text), want);
     }
     Ok(())
-}
-
-// The number of the faulty record, its line and its field.
-fn place_of(alloc: Global, text: &[u8]) -> Option<(u64, u64, Option<Field>)> {
-    match read_set(alloc, text) {
-        Ok(_) => None,
-        Err(
-            SetFault {
-                number,
-                line,
-                field,
-                ..
-            },
-        ) => Some((number, line, field)),
-    }
 }
 
 // Where the fault stands in the first set with these ends of lines and one line more.

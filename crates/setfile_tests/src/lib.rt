@@ -8,6 +8,8 @@ mod ends;
 #[cfg(test)]
 mod faults;
 #[cfg(test)]
+mod quotes;
+#[cfg(test)]
 mod rows;
 #[cfg(test)]
 mod shelf;

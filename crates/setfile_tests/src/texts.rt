@@ -1,6 +1,6 @@
 //! Texts of sets, and what is wrong with them.
 
-use mgn_setfile::{Cause, SetFault, read_set};
+use mgn_setfile::{Cause, Field, SetFault, read_set};
 use std::alloc::{AllocError, Global};
 
 /// The fault of a text, if it has one.
@@ -8,6 +8,21 @@ pub(crate) fn fault_of(alloc: Global, text: &[u8]) -> Option<(u64, Cause)> {
     match read_set(alloc, text) {
         Ok(_) => None,
         Err(SetFault { number, cause, .. }) => Some((number, cause)),
+    }
+}
+
+/// The number of the faulty record, its line and its field.
+pub(crate) fn place_of(alloc: Global, text: &[u8]) -> Option<(u64, u64, Option<Field>)> {
+    match read_set(alloc, text) {
+        Ok(_) => None,
+        Err(
+            SetFault {
+                number,
+                line,
+                field,
+                ..
+            },
+        ) => Some((number, line, field)),
     }
 }
 

@@ -20,11 +20,13 @@ use_rests-requires-clause-products c =
 
 pub returns-then-not-spread_forms-clause-kept : goal.returns-then-not-spread_forms-clause-kept
 returns-then-not-spread_forms-clause-kept c =
+    λ before after was now.
     let no : forms c.args.rests.now (legs_of c.args.spread.now) ≡ false = sym c.spread_forms.ensures ∙ c.if-not-spread_forms.true in
-    kept_no c.args.deltas.now c.args.risks.now c.args.rests.now c.args.spread.now _ no c.rests_of-before.ensures.long c.rests_of-before.ensures.rests refl refl
+    kept_no c.args.deltas.now c.args.risks.now c.args.rests.now c.args.spread.now _ no was.long now.long was.are now.are refl
 
 pub returns-clause-kept : goal.returns-clause-kept
 returns-clause-kept c =
+    λ before after was now.
     let s = c.args.spread.now in
     let legs = legs_of s in
     let rests = c.args.rests.now in
@@ -32,4 +34,4 @@ returns-clause-kept c =
     let few : length legs ≤ 4 = omega (arith, length-take s.count s.legs, c.requires.spread.few) in
     let there : All (λ leg. leg.commodity < length c.args.deltas.now) legs = λ k d inside. (c.requires.spread.legs k d inside).commodity in
     let used = c.use_rests.ensures ∙ ap (λ (n : ℕ). rests_after rests n legs) c.amount_of_legs-amount.ensures in
-    kept_yes c.args.deltas.now c.args.risks.now rests s _ there few yes c.rests_of-before.ensures.long c.rests_of.ensures.long c.credits_of_legs-credits.ensures.long c.rests_of-before.ensures.rests (λ j h. c.rests_of.ensures.rests j h ∙ ap (λ (row : List ℤ). value_at row (leg_at legs j).commodity) used) (rw c.amount_of_legs-amount.ensures at c.credits_of_legs-credits.ensures.credits)
+    kept_yes c.args.deltas.now c.args.risks.now rests s _ there few yes was.long now.long c.credits_of_legs-credits.ensures.long was.are (λ j h. now.are j h ∙ ap (λ (row : List ℤ). value_at row (leg_at legs j).commodity) used) (rw c.amount_of_legs-amount.ensures at c.credits_of_legs-credits.ensures.credits)

@@ -1,4 +1,4 @@
-use Rattle.mgn_wire.proofs.ByteFacts.{first_is_position}
+use Rattle.mgn_session.proofs.ByteFacts.{first_is_position}
 use Rattle.mgn_session.proofs.ends.find_end.Goals as goal
 
 pub returns : goal.returns

@@ -15,6 +15,6 @@ apply-requires-clause-nets g c =
     let day = g.T.Image.shown s.stamp.1 in
     let has : c.self.inside.at ≡ Some s.stamp = ap (λ p. p.1) c.self.view_is ∙ c.requires.has ∙ ap (λ p. Some p.1.0) (sym c.sight.view_is) in
     let unit : d.unit ≡ s.change.unit = ap (λ p. p.0.unit) c.self.view_is ∙ c.requires.unit ∙ ap (λ p. p.0.unit) (sym c.sight.view_is) in
-    let of = subst (λ o. IsInStep g.T.Image.shown d o) has c.self.invariant in
+    let of = subst (λ o. IsInStep g.T.Image.shown d o) has c.self.invariant.0 in
     subst (λ (m : Moves). CanMoveMarked m d.marked) (sym c.moves_of.ensures)
     (can_move s.set.now s.version (nets_of day s.change.unit) s.change.change d.marked is.can (ready_of day s.set.now s.version s.change d is.set_is is.version_is unit of))

@@ -1,0 +1,143 @@
+-- The pass over the positions: what one more counts for, and how large sums are.
+use Rattle.std.proofs.Common.{◌≡◌, ◌≢◌, ℕ, Bool, true, false, set, sym, get_or-set_same, get_or-set_other, zero, suc, ◌+◌, ◌-◌, ◌*◌, ◌<◌, ◌≤◌, ◌^◌, List, length, take, replicate, pos, ℤ, ap, ◌∙◌, arith, add-one, unsigned_abs, ⊎_elim}
+use Rattle.std.specs.Prelude.{slice_index}
+use Rattle.std.specs.List.{sum_by}
+use Rattle.std.proofs.lemmas.Bool.{cases_eq, cases_lt, true≢false}
+use Rattle.std.proofs.lemmas.Int.{ints}
+use Rattle.std.proofs.lemmas.List.{get_or-replicate, length-replicate}
+use Rattle.mgn_params.specs.Limits.{IsWithinLimits}
+use Rattle.mgn_params.specs.declared.tables.Contract.{Contract}
+use Rattle.mgn_params.specs.Tables.{Tables, commodity_at, contract_at, no_commodity, no_contract}
+use Rattle.mgn_span.specs.Positions.{Position, positions}
+use Rattle.mgn_span.specs.Scan.{value_at}
+use Rattle.mgn_span.specs.Words.{month_share, scenario_share, short_share_of, total_of, value_share}
+use Rattle.mgn_span.proofs.FlatLemmas.{month_share_flat, share_flat, short_share_flat, value_share_flat}
+use Rattle.mgn_span.proofs.PositionLemmas.{position_count_all, position_count_more, position_sum_all, position_sum_more}
+use Rattle.mgn_span.proofs.ShareLemmas.{month_share_small, scenario_share_small, share_sum_small, short_share_small, value_share_small}
+use Rattle.mgn_plain.specs.declared.sums.Sums.{Sums}
+use Rattle.mgn_plain.specs.Kept.{mark_at}
+use Rattle.mgn_plain.specs.Parts.{AreNets, AreSums}
+use Rattle.mgn_plain.specs.Sums.{AreSumsTo}
+
+-- no position comes to nothing
+pub sums_none : (t : Tables) (nets : List ℤ) (sums : Sums) → AreNets t nets → sums.totals.items ≡ replicate (length t.commodities) (replicate 16 (pos 0)) → sums.deltas.items ≡ replicate (length t.months) (pos 0) → sums.minimums.items ≡ replicate (length t.commodities) 0 → length sums.held.items ≡ length t.commodities → sums.option_value ≡ pos 0 → AreSumsTo t nets 0 sums
+sums_none t nets sums of_nets totals deltas minimums marks value = record {
+  of_nets = of_nets;
+  one_row_each = ap length totals ∙ length-replicate {A = List ℤ} (length t.commodities) (replicate 16 (pos 0));
+  one_delta_each = ap length deltas ∙ length-replicate {A = ℤ} (length t.months) (pos 0);
+  one_minimum_each = ap length minimums ∙ length-replicate {A = ℕ} (length t.commodities) 0;
+  one_mark_each = marks;
+  totals = λ g s h k. rw (totals, get_or-replicate {A = List ℤ} (length t.commodities) g (replicate 16 (pos 0)) _ h) (get_or-replicate {A = ℤ} 16 s (pos 0) (pos 0) k);
+  deltas = λ m h. rw deltas (get_or-replicate {A = ℤ} (length t.months) m (pos 0) (pos 0) h);
+  minimums = λ g h. rw minimums (get_or-replicate {A = ℕ} (length t.commodities) g 0 0 h);
+  value = value;
+  flat = λ g k mark h same. absurd (omega (arith, h));
+}
+
+-- a net of 0 counts for nothing
+pub sums_flat : (t : Tables) (nets : List ℤ) (i : ℕ) (sums : Sums) → i < length t.contracts → value_at nets i ≡ pos 0 → AreSumsTo t nets i sums → AreSumsTo t nets (i + 1) sums
+sums_flat t nets i sums inside none are =
+    let p : Position = (contract_at t.contracts i, value_at nets i) in
+    record {
+      of_nets = are.of_nets;
+      one_row_each = are.one_row_each;
+      one_delta_each = are.one_delta_each;
+      one_minimum_each = are.one_minimum_each;
+      one_mark_each = are.one_mark_each;
+      totals = λ g s h k. omega (arith, ints, are.totals g s h k, share_flat g s p none, position_sum_more (scenario_share g s) t.contracts nets i inside are.of_nets.one_each);
+      deltas = λ m h. omega (arith, ints, are.deltas m h, month_share_flat m p none, position_sum_more (month_share m) t.contracts nets i inside are.of_nets.one_each);
+      minimums = λ g h.
+          let charge = (commodity_at t.commodities g).short_option_charge in
+          omega (arith, are.minimums g h, short_share_flat g charge p none, position_count_more (short_share_of g charge) t.contracts nets i inside are.of_nets.one_each);
+      value = omega (arith, ints, are.value, value_share_flat p none, position_sum_more value_share t.contracts nets i inside are.of_nets.one_each);
+      flat = λ g k mark h same. ⊎_elim (λ (below : k < i). are.flat g k mark below same) (λ past. let e : k ≡ i = omega (arith, h, past) in rw e none) (cases_lt k i);
+    }
+
+flat_run : (t : Tables) (nets : List ℤ) (i n : ℕ) (sums : Sums) → i + n ≤ length t.contracts → ((k : ℕ) → i ≤ k → k < i + n → value_at nets k ≡ pos 0) → AreSumsTo t nets i sums → AreSumsTo t nets (i + n) sums
+flat_run t nets i zero sums inside none are = let e : i + 0 ≡ i = omega arith in rw e are
+flat_run t nets i (suc n) sums inside none are =
+    let before = flat_run t nets i n sums (omega arith) (λ k low h. none k low (omega (arith, h))) are in
+    let e : i + suc n ≡ (i + n) + 1 = omega arith in
+    rw e (sums_flat t nets (i + n) sums (omega arith) (none (i + n) (omega arith) (omega arith)) before)
+
+-- nor do several nets of 0
+pub sums_run : (t : Tables) (nets : List ℤ) (i j : ℕ) (sums : Sums) → i ≤ j → j ≤ length t.contracts → ((k : ℕ) → i ≤ k → k < j → value_at nets k ≡ pos 0) → AreSumsTo t nets i sums → AreSumsTo t nets j sums
+sums_run t nets i j sums low inside none are =
+    let e : i + (j - i) ≡ j = omega arith in
+    let all = flat_run t nets i (j - i) sums (omega arith) (λ k h p. none k h (omega (arith, p, low))) are in
+    rw e at all
+
+-- one position more, whose commodity is marked
+pub flat_more : (t : Tables) (nets : List ℤ) (i own : ℕ) (marks : List Bool) → own ≡ (contract_at t.contracts i).commodity → own < length marks → ((g k : ℕ) → mark_at marks g ≡ false → k < i → (contract_at t.contracts k).commodity ≡ g → value_at nets k ≡ pos 0) → (g k : ℕ) → mark_at (set marks own true) g ≡ false → k < i + 1 → (contract_at t.contracts k).commodity ≡ g → value_at nets k ≡ pos 0
+flat_more t nets i own marks is inside was g k mark h same =
+    ⊎_elim
+    (λ (here : g ≡ own). absurd (true≢false (sym (get_or-set_same marks own true true inside) ∙ ap (mark_at (set marks own true)) (sym here) ∙ mark)))
+    (λ (other : g ≢ own).
+    let old : mark_at marks g ≡ false = sym (get_or-set_other marks own g true true other) ∙ mark in
+    ⊎_elim
+    (λ (below : k < i). was g k old below same)
+    (λ past.
+    let e : k ≡ i = omega (arith, h, past) in
+    absurd (other (sym same ∙ ap (λ (j : ℕ). (contract_at t.contracts j).commodity) e ∙ sym is)))
+    (cases_lt k i))
+    (cases_eq g own)
+
+-- what each position counts for at most `most` comes to no more than that for each
+pub count_small : (f : Position → ℕ) (most : ℕ) (cs : List Contract) (ns : List ℤ) (i : ℕ) → length ns ≡ length cs → ((k : ℕ) → k < length cs → f (contract_at cs k, value_at ns k) ≤ most) → i ≤ length cs → sum_by f (take i (positions cs ns)) ≤ i * most
+count_small f most cs ns zero e small h = omega arith
+count_small f most cs ns (suc i) e small h =
+    let before = count_small f most cs ns i e small (omega arith) in
+    let more = rw add-one at (position_count_more f cs ns i (omega arith) e) in
+    let share = small i (omega arith) in
+    omega (arith, before, more, share)
+
+-- how large the sums up to a contract are
+pub totals_small : (t : Tables) (nets : List ℤ) (i : ℕ) (sums : Sums) (g s : ℕ) → IsWithinLimits t → AreSumsTo t nets i sums → i ≤ length t.contracts → g < length t.commodities → s < 16 → unsigned_abs (total_of sums.totals.items g s) ≤ i * 10 ^ 15
+totals_small t nets i sums g s limits are h low k =
+    let small = share_sum_small (scenario_share g s) (10 ^ 15) t.contracts nets i are.of_nets.one_each (λ j p. scenario_share_small (length t.commodities) t.months g s (contract_at t.contracts j) (value_at nets j) (limits.contracts j no_contract p) (are.of_nets.small j (pos 0) (omega (arith, are.of_nets.one_each)))) h in
+    rw (are.totals g s low k) small
+
+pub deltas_small : (t : Tables) (nets : List ℤ) (i : ℕ) (sums : Sums) (m : ℕ) → IsWithinLimits t → AreSumsTo t nets i sums → i ≤ length t.contracts → m < length t.months → unsigned_abs (value_at sums.deltas.items m) ≤ i * 10 ^ 12
+deltas_small t nets i sums m limits are h low =
+    let small = share_sum_small (month_share m) (10 ^ 12) t.contracts nets i are.of_nets.one_each (λ j p. month_share_small (length t.commodities) t.months m (contract_at t.contracts j) (value_at nets j) (limits.contracts j no_contract p) (are.of_nets.small j (pos 0) (omega (arith, are.of_nets.one_each)))) h in
+    rw (are.deltas m low) small
+
+pub minimums_small : (t : Tables) (nets : List ℤ) (i : ℕ) (sums : Sums) (g : ℕ) → IsWithinLimits t → AreSumsTo t nets i sums → i ≤ length t.contracts → g < length t.commodities → slice_index sums.minimums.items g ≤ i * 10 ^ 16
+minimums_small t nets i sums g limits are h low =
+    let charge = (commodity_at t.commodities g).short_option_charge in
+    let few : charge ≤ 10 ^ 9 = (limits.commodities g no_commodity low).charge in
+    let small = count_small (short_share_of g charge) (10 ^ 16) t.contracts nets i are.of_nets.one_each (λ j p. short_share_small g charge (contract_at t.contracts j) (value_at nets j) few (are.of_nets.small j (pos 0) (omega (arith, are.of_nets.one_each)))) h in
+    rw (are.minimums g low) small
+
+pub value_small : (t : Tables) (nets : List ℤ) (i : ℕ) (sums : Sums) → IsWithinLimits t → AreSumsTo t nets i sums → i ≤ length t.contracts → unsigned_abs sums.option_value ≤ i * 10 ^ 15
+value_small t nets i sums limits are h =
+    let small = share_sum_small value_share (10 ^ 15) t.contracts nets i are.of_nets.one_each (λ j p. value_share_small (length t.commodities) t.months (contract_at t.contracts j) (value_at nets j) (limits.contracts j no_contract p) (are.of_nets.small j (pos 0) (omega (arith, are.of_nets.one_each)))) h in
+    rw are.value small
+
+-- the sums of all positions
+pub sums_all : (t : Tables) (nets : List ℤ) (sums : Sums) → IsWithinLimits t → AreSumsTo t nets (length t.contracts) sums → AreSums t nets sums
+sums_all t nets sums limits are =
+    let n = length t.contracts in
+    let one_each = are.of_nets.one_each in
+    let few = limits.few_contracts in
+    record {
+      totals = record {
+        of_nets = are.of_nets;
+        one_row_each = are.one_row_each;
+        each = λ g s h k. are.totals g s h k ∙ position_sum_all (scenario_share g s) t.contracts nets n (omega arith) one_each;
+      };
+      deltas = record {
+        of_nets = are.of_nets;
+        one_delta_each = are.one_delta_each;
+        each = λ m h. are.deltas m h ∙ position_sum_all (month_share m) t.contracts nets n (omega arith) one_each;
+      };
+      small_deltas = λ m h. let low = deltas_small t nets n sums m limits are (omega arith) (omega (arith, are.one_delta_each)) in omega (arith, low, few);
+      minimums = record {
+        one_each = are.one_minimum_each;
+        each = λ g h. are.minimums g h ∙ position_count_all (short_share_of g (commodity_at t.commodities g).short_option_charge) t.contracts nets n (omega arith) one_each;
+        small = λ g h. let low = minimums_small t nets n sums g limits are (omega arith) h in omega (arith, low, few);
+      };
+      held = record { one_each = are.one_mark_each; flat = are.flat };
+      value = are.value ∙ position_sum_all value_share t.contracts nets n (omega arith) one_each;
+      small_value = let low = value_small t nets n sums limits are (omega arith) in omega (arith, low, few);
+    }

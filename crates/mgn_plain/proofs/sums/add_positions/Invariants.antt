@@ -1,0 +1,12 @@
+use Rattle.std.proofs.Common.{◌≤◌, ◌-◌, length}
+use Rattle.mgn_plain.specs.Sums.{AreSumsTo}
+use Rattle.mgn_plain.proofs.sums.add_positions.Given as goal
+
+abbrev pub invariant-loop-i : goal.invariant-loop-i
+invariant-loop-i l = record {
+  within : l.i ≤ length l.nets;
+  so_far : AreSumsTo l.set l.nets l.i l.sums;
+}
+
+abbrev pub decreases-loop-i : goal.decreases-loop-i
+decreases-loop-i l = length l.nets - l.i

@@ -1,0 +1,86 @@
+ghost use Rattle.std.specs.Prelude.{◌≡◌, ◌<◌, ◌+◌, ℤ, List, length, IfOk};
+ghost use Rattle.mgn_plain.specs.Parts.{AreNets, AreSums};
+ghost use Rattle.mgn_plain.specs.Sums.{AreSumsTo};
+
+use crate::delta::Delta;
+use crate::held::next_held;
+use crate::rows::{filled, net_at};
+use crate::total::Total;
+use crate::{deltas, options, scan};
+use mgn_num::{Cents, Quantity};
+use mgn_params::{ParamSet, Work};
+use std::alloc::{AllocError, Global};
+
+// What positions come to.
+#[derive(Drop)]
+pub(crate) struct Sums {
+    // The totals of the 16 scenarios, a row for each commodity.
+    pub totals: Vec<[Total; 16]>,
+    // The deltas of the months.
+    pub deltas: Vec<Delta>,
+    // The short option minimums of the commodities.
+    pub minimums: Vec<u128>,
+    // Whether a commodity has a net other than 0.
+    pub held: Vec<bool>,
+    // The net option value.
+    pub option_value: Cents,
+}
+
+// What no position comes to.
+fn nothing(alloc: Global, set: &ParamSet) -> Result<Sums, AllocError>
+    ensures { IfOk result (λ sums. (nets : List ℤ) → AreNets set.now nets → AreSumsTo set.now nets 0 sums) }
+{
+    Ok(Sums {
+        totals: filled(alloc, set.commodity_count(), [Total::ZERO; 16])?,
+        deltas: filled(alloc, set.month_count(), Delta::ZERO)?,
+        minimums: filled(alloc, set.commodity_count(), 0)?,
+        held: filled(alloc, set.commodity_count(), false)?,
+        option_value: Cents::ZERO,
+    })
+}
+
+// Adds what the position in the contract at `i` counts for, after all those before it.
+fn add_position(sums: &mut Sums, set: &ParamSet, nets: &[Quantity], i: usize, work: &mut Work)
+    requires contract { i < length set.now.contracts }
+    requires sums { AreSumsTo set.now nets.now i sums.old }
+    ensures { AreSumsTo set.now nets.now (i + 1) sums.new }
+{
+    set.limits();
+    let net = net_at(nets, i);
+    let contract = set.contract_at(i);
+    scan::add_position(&mut sums.totals, set, i, net, work);
+    deltas::add_position(&mut sums.deltas, contract, net);
+    options::add_minimum(&mut sums.minimums, set, i, net);
+    sums.held[contract.commodity] = true;
+    sums.option_value = sums
+        .option_value
+        .plus(options::share_of_value(contract, net));
+}
+
+// Adds what all positions count for. Nothing is read of a contract where the net is 0, as most are.
+fn add_positions(sums: &mut Sums, set: &ParamSet, nets: &[Quantity], work: &mut Work)
+    requires sums { AreSumsTo set.now nets.now 0 sums.old }
+    ensures { AreSumsTo set.now nets.now (length set.now.contracts) sums.new }
+{
+    let mut i = next_held(nets, 0);
+    while i < nets.len() {
+        add_position(sums, set, nets, i, work);
+        i = next_held(nets, i + 1);
+    }
+}
+
+// What the positions come to, in one pass over the contracts.
+pub(crate) fn sums_of(
+    alloc: Global,
+    set: &ParamSet,
+    nets: &[Quantity],
+    work: &mut Work,
+) -> Result<Sums, AllocError>
+    requires { AreNets set.now nets.now }
+    ensures { IfOk result (AreSums set.now nets.now) }
+{
+    set.limits();
+    let mut sums = nothing(alloc, set)?;
+    add_positions(&mut sums, set, nets, work);
+    Ok(sums)
+}
