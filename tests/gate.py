@@ -25,6 +25,9 @@ SEAT = "seat_script"
 # After so many minutes the short run begins with the edits of no further crate, and names those that it leaves out.
 SHORT = 135
 COUNTS = r"(\d+) passed, (\d+) failed"
+# How the parts mark a line that tells of a failure. At its end the gate says again so many such lines of a part that failed.
+MARKS = re.compile(r"\b(FAIL(ED)?|WRONG|DIFFERS?|OTHERWISE|NOT (PROVED|REFUSED|TRIED|CAUGHT)|BAD EDIT)\b")
+AGAIN = 10
 # (kit_selftest.py first: where another toolchain has other modules, it says so before all else)
 ITSELF = ("kit_selftest.py", "edits_selftest.py", "caught_selftest.py", "gate_selftest.py")
 
@@ -64,7 +67,7 @@ class Gate:
     """A run over a copy of the repository `top`, which stands in `room`."""
 
     def __init__(self, top, room):
-        self.top, self.room, self.passed, self.failed = top, room, 0, 0
+        self.top, self.room, self.passed, self.failed, self.faults = top, room, 0, 0, []
         copy_of(green.Repository(top), room)
         self.repository = green.Repository(room)
 
@@ -72,17 +75,21 @@ class Gate:
         """Runs a part of the gate, shows what it says, counts what its last line does, and returns whether it passed."""
         say(f"gate: == {name}")
         how = {"stdin": subprocess.DEVNULL, "stdout": subprocess.PIPE, "stderr": subprocess.STDOUT, "text": True}
-        line = ""
+        line, marked = "", []
         with subprocess.Popen(words, cwd=self.room, **how, errors="replace") as ran:
             for line in ran.stdout:
                 print(line, end="", flush=True)
                 hear(line)
+                if len(marked) < AGAIN and MARKS.search(line):
+                    marked.append(line)
         found = re.search(counts, line)
         passed, failed = (int(found[1]), int(found[2])) if found else (0, 0)
         failed = failed or int(ran.returncode != 0 or not found)
         self.passed, self.failed = self.passed + passed, self.failed + failed
         if failed:
-            say(f"gate: FAILED: {name}: status {ran.returncode}")
+            fault = f"gate: FAILED: {name}: status {ran.returncode}"
+            say(fault)
+            self.faults += [fault, *(it.rstrip("\n") for it in marked or [line])]
         return not failed
 
     def script(self, name, *words):
@@ -149,6 +156,12 @@ class Gate:
             say(f"gate: NO TIME LEFT: edits not tried: of {' '.join(late)}")
 
 
+    def tell_faults(self):
+        """Says once more what failed: who reads a long run's end has it there."""
+        if self.faults:
+            say("\n".join(["gate: what failed:", *self.faults]))
+
+
 def run(mode, names):
     began, repository = time.time(), green.Repository(source.TOP)
     proved, tried = chosen(repository, mode, names)
@@ -164,6 +177,7 @@ def run(mode, names):
         is_proved = gate.crates(proved, tried, began + SHORT * 60 if not mode else math.inf)
         if is_proved and mode == "--all":
             gate.script("caught.py")
+    gate.tell_faults()
     say(f"gate: {(time.time() - began) / 60:.0f} minutes on {len(os.sched_getaffinity(0))} processors")
     say(f"{gate.passed} passed, {gate.failed} failed")
     return 1 if gate.failed else 0

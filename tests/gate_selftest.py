@@ -116,6 +116,7 @@ def run(top, until=math.inf):
     with tempfile.TemporaryDirectory(prefix="gate-") as room, contextlib.redirect_stdout(io.StringIO()) as said:
         made = gate.Gate(top, room)
         made.crates(*gate.chosen(repository, "", ()), until)
+        made.tell_faults()
     return made.failed, said.getvalue()
 
 
@@ -167,6 +168,8 @@ def runs(top):
     lost = re.findall(r"(?m)^rt: FAILED: (.*)$", said)
     yield f"a renamed lemma, for all that is written by hand\n{said}", failed and any("high" in it for it in lost)
     yield f"another text, for all that is written by hand\n{said}", failed and any("texts_tests (tests)" in it for it in lost)
+    again = said.rpartition("gate: what failed:\n")[2]
+    yield f"what failed, again at the end\n{said}", again.startswith("gate: FAILED: rt ci") and "rt: FAILED: high" in again
 
 
 def main():
