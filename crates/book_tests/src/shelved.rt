@@ -4,6 +4,7 @@ use mgn_book::{Book, Outcome};
 use mgn_ids::{AccountName, SessionNo};
 use mgn_machine::{Answer, Command, Request};
 use mgn_params::{ParamSet, SetList, Work};
+use mgn_unit::PreparedUnits;
 use mgn_wire::{LineReply, reply_text, statement_text};
 use std::alloc::{AllocError, Global};
 use std::marker::Model;
@@ -55,7 +56,7 @@ impl Shelved {
                     number,
                     set,
                     &mut self.shelf,
-                    &mut [],
+                    &mut PreparedUnits::none(alloc),
                     &mut Work::new(),
                 )
             }

@@ -6,7 +6,7 @@ ghost use Rattle.mgn_machine.specs.Refusals.{place_of};
 ghost use Rattle.mgn_machine.specs.declared.request.Request.TheVariants.{Do, Switch};
 ghost use Rattle.mgn_machine.specs.History.{calls};
 ghost use Rattle.mgn_unit.specs.NewSets.{ArePrepared};
-ghost use Rattle.mgn_unit.specs.Prepared.{ArePreparedFor};
+ghost use Rattle.mgn_unit.specs.Prepared.{AreCurrent, ArePreparedFor};
 ghost use Rattle.mgn_register.specs.BookStates.{account_unit, statement_found};
 ghost use Rattle.mgn_plan.specs.Plans.{Foresees, IsIdle, IsPossible, plan_of};
 ghost use Rattle.mgn_book.specs.BookViews.{Committed, Leaves, LeavesRows, Shelves, Stands, command_at, opening, reply_at, session_at};
@@ -18,7 +18,7 @@ use mgn_machine::{Command, Reply, Statement};
 use mgn_params::{ParamSet, Shelf, Version, Work};
 use mgn_plan::{Known, Plan};
 use mgn_register::{Fault, Register, step};
-use mgn_unit::{PreparedUnit, Row};
+use mgn_unit::{PreparedUnits, Row};
 use std::alloc::{AllocError, Global};
 use std::marker::Model;
 
@@ -272,7 +272,8 @@ impl Book {
     /// on the shelf.
     ///
     /// What units require under the set may have been prepared, by their numbers. It is taken where a unit's nets are
-    /// still the same; any other unit is worked out here. Where it is so of all units, no risk array is read.
+    /// still the same, which is looked at unless it is known; any other unit is worked out here. Where it is so of all
+    /// units, no risk array is read. The rows before a set that comes into force are handed out.
     pub fn commit_switch<S: Shelf>(
         &mut self,
         alloc: Global,
@@ -280,19 +281,21 @@ impl Book {
         number: u64,
         set: ParamSet,
         shelf: &mut S,
-        prepared: &mut [Option<PreparedUnit>],
+        prepared: &mut PreparedUnits,
         work: &mut Work,
     ) -> Outcome
         requires stands { Stands (S.sets shelf.old) self.old }
         requires number { number ≡ calls session self.old.history + 1 }
-        requires prepared { ArePrepared set prepared.old }
+        requires prepared { ArePrepared set prepared.old.units.items }
+        requires current { let old = set_at (S.sets shelf.old) self.old.book.state.version in
+            AreCurrent old set self.old.book.rows prepared.old.units.items prepared.old.current.items }
         ensures place { S.place shelf.new ≡ S.place shelf.old }
         ensures stands { Stands (S.sets shelf.new) self.new }
         ensures committed { Committed (S.sets shelf.new) self.old session number (Switch set) result self.new }
         ensures sets { Shelves (S.sets shelf.old) (Switch set) result (S.sets shelf.new) }
         ensures rows { LeavesRows self.old.book.rows result self.new.book.rows }
         ensures idle { let old = set_at (S.sets shelf.old) self.old.book.state.version in
-            ArePreparedFor old set self.old.book.rows prepared.old → work.new ≡ work.old }
+            ArePreparedFor old set self.old.book.rows prepared.old.units.items → work.new ≡ work.old }
     {
         if MOST_ENTRIES <= self.history.len() {
             return Outcome::Full;

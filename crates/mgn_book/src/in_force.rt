@@ -4,7 +4,7 @@ ghost use Rattle.mgn_machine.specs.declared.request.Recorded.TheVariants.{InForc
 ghost use Rattle.mgn_machine.specs.declared.request.Request.TheVariants.{Switch};
 ghost use Rattle.mgn_machine.specs.History.{entry, recorded};
 ghost use Rattle.mgn_unit.specs.NewSets.{ArePrepared, row_on_call};
-ghost use Rattle.mgn_unit.specs.Prepared.{ArePreparedFor};
+ghost use Rattle.mgn_unit.specs.Prepared.{AreCurrent, ArePreparedFor};
 ghost use Rattle.mgn_register.specs.BookStates.{IsKept, book_state};
 ghost use Rattle.mgn_book.specs.Switches.{IsSwitched};
 
@@ -13,7 +13,7 @@ use mgn_ids::SessionNo;
 use mgn_machine::{NewSet, Refusal, Reply};
 use mgn_params::{ParamSet, PutFault, Shelf, Work};
 use mgn_register::{Fault, Register};
-use mgn_unit::{PreparedUnit, Row};
+use mgn_unit::{PreparedUnits, Row};
 use std::alloc::Global;
 
 // Puts a set on the shelf, which is the last growth, and brings it into force with the rows under it.
@@ -24,6 +24,7 @@ fn enter_set<S: Shelf>(
     number: u64,
     set: ParamSet,
     rows: Vec<Row>,
+    spent: &mut Vec<Row>,
     shelf: &mut S,
 ) -> Result<Reply, Fault>
     requires reserved { history.old.reserved ≡ true }
@@ -56,7 +57,7 @@ fn enter_set<S: Shelf>(
     };
     let told = NewSet {
         version: version.number(),
-        on_call: register.put_in_force(rows, version),
+        on_call: register.put_in_force(rows, version, spent),
     };
     history.push_in_force(session, number, version, told);
     Ok(Reply::NewSet(told))
@@ -93,15 +94,17 @@ pub(crate) fn switch_set<S: Shelf>(
     number: u64,
     set: ParamSet,
     shelf: &mut S,
-    prepared: &mut [Option<PreparedUnit>],
+    prepared: &mut PreparedUnits,
     work: &mut Work,
 ) -> Result<Reply, Fault>
     requires reserved { history.old.reserved ≡ true }
     requires few_entries { length history.old.entries < 1000000 }
     requires number { number ≤ 1000000 }
     requires shown { length (S.sets shelf.old) ≡ register.old.state.version + 1 }
-    requires prepared { ArePrepared set prepared.old }
     requires kept { IsKept (set_at (S.sets shelf.old) register.old.state.version) register.old }
+    requires prepared { ArePrepared set prepared.old.units.items }
+    requires current { let old = set_at (S.sets shelf.old) register.old.state.version in
+        AreCurrent old set register.old.rows prepared.old.units.items prepared.old.current.items }
     ensures place { S.place shelf.new ≡ S.place shelf.old }
     ensures switched { IfOk result (λ reply.
         IsSwitched (S.sets shelf.old) (S.sets shelf.new) register.old register.new set reply) }
@@ -113,13 +116,22 @@ pub(crate) fn switch_set<S: Shelf>(
     ensures same_history { OnErr result (history.new.entries ≡ history.old.entries) }
     ensures same_sets { OnErr result (S.sets shelf.new ≡ S.sets shelf.old) }
     ensures idle { let old = set_at (S.sets shelf.old) register.old.state.version in
-        ArePreparedFor old set register.old.rows prepared.old → work.new ≡ work.old }
+        ArePreparedFor old set register.old.rows prepared.old.units.items → work.new ≡ work.old }
 {
     let Some(old) = shelf.get(register.version()) else {
         unreachable!();
     };
     match register.rows_under(alloc, old, &set, prepared, work) {
-        Ok(rows) => enter_set(register, history, session, number, set, rows, shelf),
+        Ok(rows) => enter_set(
+            register,
+            history,
+            session,
+            number,
+            set,
+            rows,
+            &mut prepared.spent,
+            shelf,
+        ),
         Err(Fault::Refused(why)) => refuse_set(history, session, number, set, why),
         Err(Fault::Memory) => Err(Fault::Memory),
     }

@@ -1,6 +1,6 @@
 -- The ledger with one entry more.
 use Rattle.std.specs.Prelude.{slice_index_or}
-use Rattle.std.proofs.Common.{Result, Ok, Err, ◌≡◌, ℕ, ◌+◌, ◌<◌, ◌≤◌, ◌∙◌, Bool, false, List, [], ◌∷◌, ◌++◌, length, take, sym, ap, subst, arith, ⊎_elim, length-append}
+use Rattle.std.proofs.Common.{Result, Ok, Err, ◌≡◌, ℕ, ◌+◌, ◌<◌, ◌≤◌, ◌∙◌, Bool, List, [], ◌∷◌, ◌++◌, length, take, sym, ap, subst, arith, ⊎_elim, length-append}
 use Rattle.std.proofs.lemmas.List.{take-append-le, take_all, get_or_append_left, get_or_push}
 use Rattle.std.proofs.lemmas.Bool.{cases_lt}
 use Rattle.mgn_params.specs.Shelves.{set_at}
@@ -12,7 +12,7 @@ use Rattle.mgn_machine.specs.declared.request.Request.{Request}
 use Rattle.mgn_machine.specs.declared.request.Request.TheVariants.{Do, Switch}
 use Rattle.mgn_machine.specs.declared.reply.Refusal.{Refusal}
 use Rattle.mgn_machine.specs.NewSet.{on_call, set_fits}
-use Rattle.mgn_machine.specs.History.{entry, recorded, request_of}
+use Rattle.mgn_machine.specs.History.{entry, recorded}
 use Rattle.mgn_machine.specs.State.{State}
 use Rattle.mgn_machine.specs.Step.{step, switched}
 use Rattle.mgn_machine.proofs.Versions.{keeps_version}

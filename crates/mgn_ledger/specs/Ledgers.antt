@@ -1,5 +1,5 @@
 -- What lies under the lock of the book, and what a call does there (own profile).
-use Rattle.std.specs.Prelude.{ℕ, ◌≡◌, ◌⊎◌, ◌+◌, ◌<◌, ◌≤◌, Bool, false, List, length, take, slice_index_or, Option, Some, None, Result, Ok, Err}
+use Rattle.std.specs.Prelude.{ℕ, ◌≡◌, ◌⊎◌, ◌+◌, ◌<◌, ◌≤◌, Bool, false, List, length, take, slice_index_or, Option, Some, None}
 use Rattle.mgn_machine.specs.declared.command.Command.{Command}
 use Rattle.mgn_machine.specs.declared.reply.Refusal.TheVariants.{Memory, Full, Broken}
 use Rattle.mgn_machine.specs.declared.reply.Reply.{Reply}

@@ -1,27 +1,29 @@
 //! What a switch is prepared from, and which units it finds changed since.
 
-ghost use Rattle.std.specs.Prelude.{◌≡◌, length, map, All, IfOk};
-ghost use Rattle.mgn_unit.specs.Prepared.{AreCopied, copied};
+ghost use Rattle.std.specs.Prelude.{◌≡◌, ◌<◌, ◌≤◌, ℕ, length, map, false, slice_index_or, true, All, IfOk, IsTrue};
+ghost use Rattle.mgn_unit.specs.Prepared.{AreCopied, AreCurrent, copied};
+ghost use Rattle.mgn_ledger.specs.Changes.{SameUnit};
 ghost use Rattle.mgn_ledger.specs.Days.{set_of};
+ghost use Rattle.mgn_ledger.specs.Gathering.{AreReady, AreSeen, IsUnchanged};
 
 use crate::image::Image;
 use crate::ledger::Ledger;
 use mgn_num::Quantity;
 use mgn_params::ParamSet;
-use mgn_slots::SlotNames;
+use mgn_slots::{SlotNames, Stamp};
 use mgn_table::TableName;
-use mgn_unit::{CopiedNets, Nets, PreparedUnit, Row};
+use mgn_unit::{CopiedNets, Nets, PreparedUnit, PreparedUnits, Row};
 use std::alloc::{AllocError, Global};
 
 /// What a switch is prepared from.
 #[derive(Drop)]
-pub struct Gathered<'a> {
+pub struct Gathered<'a, T: Image, J: SlotNames> {
     /// The set that was in force.
     pub set: &'a ParamSet,
     /// A copy of the nets of each unit under it, in order of the units' numbers.
     pub nets: Vec<CopiedNets>,
-    /// How many entries the history had.
-    pub entries: usize,
+    /// What shows since when each unit has these nets; none where the ledger is broken.
+    pub since: Vec<Stamp<'a, T, J>>,
 }
 
 // A copy of the nets of each row. An error says that memory was refused.
@@ -36,45 +38,88 @@ fn copies_of(alloc: Global, rows: &[Row]) -> Result<Vec<CopiedNets>, AllocError>
 }
 
 impl<'a, T: Image, J: TableName + SlotNames> Ledger<'a, T, J> {
-    /// The set in force, and a copy of the nets of all units. An error says that memory was refused.
-    pub fn gather(&self, alloc: Global) -> Result<Gathered<'a>, AllocError>
+    /// The set in force, and a copy of the nets of all units, with what shows since when each has them. An error says that
+    /// memory was refused.
+    pub fn gather(&self, alloc: Global) -> Result<Gathered<'a, T, J>, AllocError>
         ensures set { IfOk result (λ gathered. gathered.set.now ≡ set_of self.now) }
         ensures nets { IfOk result (λ gathered. gathered.nets.items ≡ map copied self.now.book.book.rows) }
         ensures copied { IfOk result (λ gathered. All (AreCopied gathered.set.now) gathered.nets.items) }
-        ensures entries { IfOk result (λ gathered. gathered.entries ≡ length self.now.book.history) }
+        ensures seen { IfOk result (λ gathered.
+            AreSeen T.shown gathered.set.now gathered.nets.items gathered.since.items) }
     {
         Ok(Gathered {
             set: self.set(),
             nets: copies_of(alloc, self.rows())?,
-            entries: self.entries(),
+            since: self.stamps_of_units(alloc)?,
         })
     }
 
-    // How many units a switch has to work out itself.
-    pub(crate) fn late_units(
+    // What shows since when each unit has its nets; none where the ledger is broken. An error says that memory was refused.
+    fn stamps_of_units(&self, alloc: Global) -> Result<Vec<Stamp<'a, T, J>>, AllocError>
+        ensures few { IfOk result (λ since. length since.items ≤ length self.now.book.book.rows) }
+        ensures since { IfOk result (λ since. (u : ℕ) (s : _) → u < length since.items →
+            SameUnit (T.shown (slice_index_or since.items u s).1) self.now u) }
+    {
+        let units = self.rows().len();
+        let mut since = Vec::with_capacity(alloc, units)?;
+        for unit in 0..units {
+            let Some(stamp) = self.since(unit) else {
+                return Ok(Vec::new(alloc));
+            };
+            since.push_reserved(stamp);
+        }
+        Ok(since)
+    }
+
+    // Notes of which units it is known that they have the nets that they were prepared for: those whose nets, and the set in force,
+    // have not changed since. Two numbers are compared for each.
+    pub(crate) fn note_current(
         &self,
         set: &ParamSet,
-        prepared: &[Option<PreparedUnit>],
-        entries: usize,
-    ) -> u64 {
+        prepared: &mut PreparedUnits,
+        since: &[Stamp<'a, T, J>],
+    )
+        requires { AreReady T.shown set.now prepared.old.units.items since.now }
+        ensures units { prepared.new.units.items ≡ prepared.old.units.items }
+        ensures current { AreCurrent (set_of self.now) set.now self.now.book.book.rows
+            prepared.new.units.items prepared.new.current.items }
+    {
+        self.note(&mut prepared.current, since);
+    }
+
+    // Notes of each unit whether it has its nets since the entry that its stamp shows.
+    fn note(&self, current: &mut Vec<bool>, since: &[Stamp<'a, T, J>])
+        ensures long { length current.new.items ≡ length current.old.items }
+        ensures noted { (u : ℕ) → slice_index_or current.new.items u false ≡ true → IsUnchanged T.shown self.now since.now u }
+    {
+        for unit in 0..current.len() {
+            current[unit] = self.is_unchanged(unit, since);
+        }
+    }
+
+    // Whether a unit has its nets, under the set in force, since the entry that its stamp shows.
+    fn is_unchanged(&self, unit: usize, since: &[Stamp<'a, T, J>]) -> bool
+        ensures { IsTrue result → IsUnchanged T.shown self.now since.now unit }
+    {
+        match since.get(unit) {
+            Some(stamp) => self.is_since(unit, stamp),
+            None => false,
+        }
+    }
+
+    // How many units a switch has to work out itself.
+    pub(crate) fn late_units(&self, set: &ParamSet, prepared: &PreparedUnits) -> u64 {
         (0..self.rows().len())
-            .filter(|unit| self.is_late(*unit, set, prepared, entries))
+            .filter(|unit| self.is_late(*unit, set, prepared))
             .count() as u64
     }
 
-    // Whether nothing was prepared of a unit, or for other nets than it has. One without a change since so many entries has
-    // those that were gathered then.
-    fn is_late(
-        &self,
-        unit: usize,
-        set: &ParamSet,
-        prepared: &[Option<PreparedUnit>],
-        entries: usize,
-    ) -> bool {
-        let (Some(row), Some(Some(one))) = (self.rows().get(unit), prepared.get(unit)) else {
+    // Whether nothing was prepared of a unit, or for other nets than it has.
+    fn is_late(&self, unit: usize, set: &ParamSet, prepared: &PreparedUnits) -> bool {
+        let (Some(row), Some(Some(one))) = (self.rows().get(unit), prepared.units.get(unit)) else {
             return true;
         };
-        self.has_changed(unit, entries) && !has_nets(one, row, self.set(), set)
+        prepared.current.get(unit) != Some(&true) && !has_nets(one, row, self.set(), set)
     }
 }
 

@@ -7,6 +7,7 @@ ghost use Rattle.mgn_register.specs.BookStates.{IsKept, account_unit};
 ghost use Rattle.mgn_book.specs.BookViews.{Stands, opening};
 ghost use Rattle.mgn_ledger.specs.Changes.{SameUnit};
 ghost use Rattle.mgn_ledger.specs.Days.{set_of, version_of};
+ghost use Rattle.mgn_ledger.specs.Gathering.{AreReady};
 ghost use Rattle.mgn_ledger.specs.Ledgers.{Answers, Enters};
 ghost use Rattle.mgn_ledger.specs.Passes.{AreAudited, IsBeside, fresh};
 
@@ -21,7 +22,7 @@ use mgn_params::{ParamSet, Shelf, Version, Work};
 use mgn_plan::{Known, Plan};
 use mgn_slots::{SlotNames, Slots, Stamp, Stamps};
 use mgn_table::{SetTable, TableName, TableShelf, Tokens};
-use mgn_unit::{PreparedUnit, Row};
+use mgn_unit::{PreparedUnits, Row};
 use std::alloc::{AllocError, Global};
 use std::marker::Model;
 use std::sync::Wait;
@@ -155,21 +156,6 @@ impl<'a, T: Image, J: TableName + SlotNames> Ledger<'a, T, J> {
         self.late
     }
 
-    // How many entries the history has.
-    pub(crate) fn entries(&self) -> usize
-        ensures { result ≡ length self.now.book.history }
-    {
-        self.book.len()
-    }
-
-    // Whether a unit's nets, or the set in force, have changed since so many entries.
-    pub(crate) fn has_changed(&self, unit: usize, entries: usize) -> bool {
-        match self.places.get(unit) {
-            Some(place) => entries < *place,
-            None => true,
-        }
-    }
-
     /// The rows of all margin units, in order of their numbers: each right under the set in force.
     pub fn rows(&self) -> &[Row]
         ensures rows { result.now ≡ self.now.book.book.rows }
@@ -301,18 +287,19 @@ impl<'a, T: Image, J: TableName + SlotNames> Ledger<'a, T, J> {
     }
 
     /// One switch of a pass to a set, as `enter` has it for a command. What units require under the set may have been prepared,
-    /// by their numbers, from what was gathered when the history had so many entries; it is used where a unit's nets are still
-    /// the same, and any other unit is worked out here.
+    /// by their numbers, for the nets that their stamps show. It is used where a unit's nets are still the same, which a stamp
+    /// shows where they have not changed since; any other unit is worked out here. The rows before are handed out.
     #[inline(never)]
     pub fn enter_switch<R: Wait>(
         &mut self,
         rt: &R,
         pass: &mut Pass<'a, T, J>,
         set: ParamSet,
-        prepared: &mut [Option<PreparedUnit>],
-        entries: usize,
+        prepared: &mut PreparedUnits,
+        since: &[Stamp<'a, T, J>],
     ) -> Answer
-        requires { ArePrepared set prepared.old }
+        requires prepared { ArePrepared set prepared.old.units.items }
+        requires ready { AreReady T.shown set prepared.old.units.items since.now }
         ensures { Answers pass.old (Switch set) result pass.new }
     {
         if self.broken {
@@ -329,7 +316,8 @@ impl<'a, T: Image, J: TableName + SlotNames> Ledger<'a, T, J> {
             self.broken = true;
             return Answer::refused(Refusal::Broken);
         }
-        let late = self.late_units(&set, prepared, entries);
+        self.note_current(&set, prepared, since);
+        let late = self.late_units(&set, prepared);
         let number = self.book.calls(pass.session) + 1;
         let place = self.stamps.len() + 1;
         let mut shelf = TableShelf::new(rt, self.table, &mut self.tokens);

@@ -1,5 +1,5 @@
 -- Rows and refusals where another set comes into force.
-use Rattle.std.proofs.Common.{IfSome, ◌≡◌, ◌+◌, ◌-◌, ◌<◌, ◌≤◌, ◌∙◌, ℕ, Bool, List, [], ◌∷◌, ◌++◌, length, get_or, sym, ap, arith, subst, filter, ⊎_elim}
+use Rattle.std.proofs.Common.{IfSome, ◌≡◌, ◌+◌, ◌-◌, ◌<◌, ◌≤◌, ◌∙◌, ℕ, Bool, true, false, List, [], ◌∷◌, ◌++◌, length, get_or, sym, ap, arith, subst, filter, ⊎_elim}
 use Rattle.std.specs.Prelude.{◌&&◌, ℤ, IsSomeAnd, None, Option, Some}
 use Rattle.std.specs.List.{list_all}
 use Rattle.std.proofs.lemmas.List.Sums.{length-filter}
@@ -13,7 +13,7 @@ use Rattle.mgn_machine.specs.State.{AccountState}
 use Rattle.mgn_unit.specs.declared.row.PreparedUnit.{PreparedUnit}
 use Rattle.mgn_unit.specs.declared.row.Row.{Row}
 use Rattle.mgn_unit.specs.NewSets.{ArePrepared, AreWorths, IsPrepared, is_covered, row_on_call, row_under, unit_gain}
-use Rattle.mgn_unit.specs.Prepared.{AreCarried, ArePreparedFor, copied}
+use Rattle.mgn_unit.specs.Prepared.{AreCarried, AreCurrent, ArePreparedFor, copied}
 use Rattle.mgn_unit.specs.Rows.{IsRow, row_with_worth}
 use Rattle.mgn_unit.proofs.Carried.{on_call-by_rows, row-under, worths-under}
 use Rattle.mgn_unit.proofs.Covered.{AreRowsOf, covers-by_rows}
@@ -79,3 +79,12 @@ found-carried old new s t rows units u row r s_is t_is inside is found ready =
     (subst (λ (x : Tables). IsSomeAnd (get_or units u None) (AreCarried x t (copied row))) (sym s_is)
     (subst (λ (x : Tables). IsSomeAnd (get_or units u None) (AreCarried old x (copied row))) (sym t_is)
     (subst (λ (x : Row). IsSomeAnd (get_or units u None) (AreCarried old new (copied x))) (sym is) (ready u row inside))))
+
+-- and where it is known to be for the nets that the unit has, it is for those that the row carries over
+pub found-current : (old new s t : Tables) (rows : List Row) (units : List (Option PreparedUnit)) (current : List Bool) (u : ℕ) (row : Row) (r : Option PreparedUnit) (b : Bool) → s ≡ old → t ≡ new → u < length rows → row ≡ get_or rows u row → r ≡ get_or units u None
+    → b ≡ get_or current u false → AreCurrent old new rows units current → b ≡ true → IfSome r (AreCarried s t (copied row))
+found-current old new s t rows units current u row None b s_is t_is inside is found noted known current_is = tt
+found-current old new s t rows units current u row (Some one) b s_is t_is inside is found noted known current_is =
+    subst (λ (x : Tables). AreCarried x t (copied row) one) (sym s_is)
+    (subst (λ (x : Tables). AreCarried old x (copied row) one) (sym t_is)
+    (subst (λ (x : Row). AreCarried old new (copied x) one) (sym is) (known u row one inside (sym noted ∙ current_is) (sym found))))

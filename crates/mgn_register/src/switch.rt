@@ -1,12 +1,13 @@
-ghost use Rattle.std.specs.Prelude.{◌≡◌, ◌≢◌, ◌<◌, ◌≤◌, ℕ, length, filter, slice_index_or, IfOk, IfSome, None, OnOk, true};
+ghost use Rattle.std.specs.Prelude.{◌≡◌, ◌≢◌, ◌<◌, ◌≤◌, ℕ, false, length, filter, slice_index_or, IfOk, IfSome, IsSomeAnd, IsTrue, None, OnOk, true};
 ghost use Rattle.std.specs.List.{list_all};
 ghost use Rattle.mgn_coll.specs.Posted.{is_priced_by};
 ghost use Rattle.mgn_machine.specs.NewSet.{covers, set_fits};
 ghost use Rattle.mgn_machine.specs.State.{AccountState};
 ghost use Rattle.mgn_params.specs.Tables.{Tables};
 ghost use Rattle.mgn_span.specs.Scan.{value_at};
-ghost use Rattle.mgn_unit.specs.NewSets.{ArePrepared, IsPrepared, is_covered, row_on_call};
-ghost use Rattle.mgn_unit.specs.Prepared.{ArePreparedFor};
+ghost use Rattle.mgn_unit.specs.NewSets.{ArePrepared, AreWorths, IsPrepared, is_covered, row_on_call, row_under};
+ghost use Rattle.mgn_unit.specs.Prepared.{AreCarried, AreCurrent, ArePreparedFor, copied};
+ghost use Rattle.mgn_unit.specs.Rows.{IsRow, row_with_worth};
 ghost use Rattle.mgn_unit.specs.declared.row.Row.{Row as UnitRow};
 ghost use Rattle.mgn_register.specs.BookStates.{IsKept, IsUnitRow, book_state};
 ghost use Rattle.mgn_register.specs.Fits.{Fits};
@@ -16,8 +17,9 @@ use crate::register::{Register, refuse_if};
 use mgn_machine::Refusal;
 use mgn_num::Cents;
 use mgn_params::{ParamSet, Version, Work};
-use mgn_unit::{PreparedUnit, Row, Switch};
+use mgn_unit::{PreparedUnit, PreparedUnits, Row, Switch, has_all_contracts};
 use std::alloc::{AllocError, Global};
+use std::mem;
 
 /// How many sets may come into force after the first.
 const MOST_SWITCHES: u8 = 64;
@@ -34,6 +36,13 @@ fn take_prepared(prepared: &mut [Option<PreparedUnit>], unit: usize) -> Option<P
     }
 }
 
+// Whether what was prepared of a unit is known to be for the nets that it has.
+fn is_current(current: &[bool], unit: usize) -> bool
+    ensures { result ≡ slice_index_or current.now unit false }
+{
+    unit < current.len() && current[unit]
+}
+
 // What the accounts of a unit gain.
 fn gain_of(gains: &[Cents], unit: usize) -> Cents
     requires { unit < length gains.now }
@@ -42,12 +51,41 @@ fn gain_of(gains: &[Cents], unit: usize) -> Cents
     gains[unit]
 }
 
+// The row of a unit under the new set of a switch, with what was prepared of it, if anything was. That is not compared where
+// it is known to be for the nets that the unit has.
+fn row_by(
+    alloc: Global,
+    row: &Row,
+    switch: &Switch,
+    gain: Cents,
+    prepared: Option<PreparedUnit>,
+    is_current: bool,
+    work: &mut Work,
+) -> Result<Row, AllocError>
+    requires row { IsRow switch.now.old row.now }
+    requires prepared { IfSome prepared (IsPrepared switch.now.new) }
+    requires current { IsTrue is_current → IfSome prepared (AreCarried switch.now.old switch.now.new (copied row.now)) }
+    requires worths { AreWorths (row_with_worth gain row.now) }
+    ensures row { IfOk result (λ it. it ≡ row_under switch.now.old switch.now.new gain row.now) }
+    ensures limits { IfOk result (λ it. IsRow switch.now.new it) }
+    ensures idle { IsSomeAnd prepared (AreCarried switch.now.old switch.now.new (copied row.now))
+        → work.new ≡ work.old }
+{
+    match prepared {
+        Some(one) if is_current => row.taking(alloc, switch, gain, one),
+        other => row.under(alloc, switch, gain, other, work),
+    }
+}
+
 impl Register {
     // Whether a set has the contract of each live lot and each hold, by the sizes of the units.
     fn has_contracts(&self, old: &ParamSet, new: &ParamSet) -> bool
         requires kept { IsKept old.now self.now }
         ensures { result ≡ list_all (λ (row : UnitRow). is_covered old.now new.now row.sizes) self.now.rows }
     {
+        if has_all_contracts(old, new) {
+            return true;
+        }
         for unit in 0..self.rows.len() {
             if !self.rows[unit].is_covered_by(old, new) {
                 return false;
@@ -94,11 +132,13 @@ impl Register {
         old: &ParamSet,
         new: &ParamSet,
         prepared: &mut [Option<PreparedUnit>],
+        current: &[bool],
         work: &mut Work,
     ) -> Result<Vec<Row>, AllocError>
         requires kept { IsKept old.now self.now }
         requires covers { covers new.now self.now.state.accounts ≡ true }
         requires prepared { ArePrepared new.now prepared.old }
+        requires current { AreCurrent old.now new.now self.now.rows prepared.old current.now }
         ensures long { IfOk result (λ rows. length rows.items ≡ length self.now.rows) }
         ensures rows { IfOk result (λ rows. (u : ℕ) (d : UnitRow) → u < length rows.items →
             IsUnitRow new.now self.now.state.accounts u (slice_index_or rows.items u d)) }
@@ -111,7 +151,16 @@ impl Register {
         for unit in 0..self.rows.len() {
             let gain = gain_of(&gains, unit);
             let ready = take_prepared(prepared, unit);
-            let row = self.rows[unit].under(alloc, &switch, gain, ready, work)?;
+            let is_current = is_current(current, unit);
+            let row = row_by(
+                alloc,
+                &self.rows[unit],
+                &switch,
+                gain,
+                ready,
+                is_current,
+                work,
+            )?;
             rows.push_reserved(row);
         }
         Ok(rows)
@@ -119,37 +168,44 @@ impl Register {
 
     /// The rows of all units under another set, or why it may not come into force. Nothing changes. Memory is asked for
     /// only where it may. What was prepared of units under that set, by their numbers, is taken where a
-    /// unit's nets are still the same; any other unit is worked out anew. Where it is so of all units no risk array is read.
+    /// unit's nets are still the same, which is looked at unless it is known; any other unit is worked out anew. Where it is so of
+    /// all units no risk array is read.
     pub fn rows_under(
         &self,
         alloc: Global,
         old: &ParamSet,
         new: &ParamSet,
-        prepared: &mut [Option<PreparedUnit>],
+        prepared: &mut PreparedUnits,
         work: &mut Work,
     ) -> Result<Vec<Row>, Fault>
         requires kept { IsKept old.now self.now }
-        requires prepared { ArePrepared new.now prepared.old }
+        requires prepared { ArePrepared new.now prepared.old.units.items }
+        requires current { let ready = prepared.old in
+            AreCurrent old.now new.now self.now.rows ready.units.items ready.current.items }
         ensures fits { Fits (set_fits new.now self.now.state) result }
         ensures covers { OnOk result (covers new.now self.now.state.accounts ≡ true) }
         ensures few { OnOk result (self.now.state.version < 64) }
         ensures long { IfOk result (λ rows. length rows.items ≡ length self.now.rows) }
         ensures rows { IfOk result (λ rows. (u : ℕ) (d : UnitRow) → u < length rows.items →
             IsUnitRow new.now self.now.state.accounts u (slice_index_or rows.items u d)) }
-        ensures idle { ArePreparedFor old.now new.now self.now.rows prepared.old → work.new ≡ work.old }
+        ensures idle { ArePreparedFor old.now new.now self.now.rows prepared.old.units.items → work.new ≡ work.old }
     {
         self.set_fits(old, new)?;
-        Ok(self.rows_of(alloc, old, new, prepared, work)?)
+        let units = prepared.units.as_mut_slice();
+        let current = prepared.current.as_slice();
+        Ok(self.rows_of(alloc, old, new, units, current, work)?)
     }
 
-    /// Another set is in force, under which these are the rows of all units. Gives how many of these are on call.
-    pub fn put_in_force(&mut self, rows: Vec<Row>, version: Version) -> u32
+    /// Another set is in force, under which these are the rows of all units; those before are handed out. Gives how many units
+    /// are on call.
+    pub fn put_in_force(&mut self, rows: Vec<Row>, version: Version, spent: &mut Vec<Row>) -> u32
         requires few { length rows.items ≤ 1024 }
         ensures state { let old = self.old.state in
             self.new ≡ book_state old.origins old.accounts rows.items old.closed version }
         ensures on_call { result ≡ length (filter row_on_call rows.items) }
+        ensures spent { spent.new.items ≡ self.old.rows }
     {
-        self.rows = rows;
+        *spent = mem::replace(&mut self.rows, rows);
         self.version = version;
         self.rows.iter().filter(|row| row.is_on_call()).count() as u32
     }

@@ -1,19 +1,12 @@
 -- A session over a book of one session is a run of the machine, under the sets that there are in the end.
-use Rattle.std.proofs.Common.{◌≡◌, ◌+◌, ◌-◌, ◌∙◌, ◌<◌, ℕ, List, [], ◌∷◌, ◌++◌, length, Option, Some, None, Result, Ok, Err, IfOk, OnErr, refl, sym, ap, subst, arith, append_assoc, length-append, inl, inr}
-use Rattle.std.proofs.lemmas.List.{append-nil, get_or_append_left, get_or-append_right}
-use Rattle.mgn_params.specs.Shelves.{set_at}
-use Rattle.mgn_params.specs.Tables.{Tables, no_tables}
-use Rattle.mgn_machine.specs.History.{entry, items_of, recorded, replay, request_of}
-use Rattle.mgn_machine.specs.NewSet.{on_call, set_fits}
+use Rattle.std.proofs.Common.{◌≡◌, ◌+◌, ◌∙◌, ◌<◌, ℕ, List, [], length, Option, Some, None, Result, Ok, Err, IfOk, OnErr, refl, sym, ap, subst, arith, length-append, inl, inr}
+use Rattle.mgn_params.specs.Tables.{Tables}
+use Rattle.mgn_machine.specs.History.{entry, items_of, recorded, replay}
 use Rattle.mgn_machine.specs.State.{State, start}
-use Rattle.mgn_machine.specs.Step.{step, step_under, switched}
+use Rattle.mgn_machine.specs.Step.{step}
 use Rattle.mgn_machine.specs.declared.request.Request.{Request}
-use Rattle.mgn_machine.specs.declared.request.Request.TheVariants.{Do, Switch}
 use Rattle.mgn_machine.proofs.Histories.{replay-push}
-use Rattle.mgn_machine.proofs.Versions.{keeps_version}
-use Rattle.mgn_machine.specs.declared.reply.Refusal.{Refusal}
 use Rattle.mgn_machine.specs.declared.reply.Reply.{Reply}
-use Rattle.mgn_machine.specs.declared.reply.Reply.TheVariants.{Done, Figures, NewSet, Statement, Totals, Refused}
 use Rattle.mgn_book.specs.BookViews.{Begins, BookView, opening, sets_after}
 use Rattle.mgn_book.proofs.Begun.{begins_after, begins_before, begins_itself, kept_so, step_begun}
 use Rattle.mgn_session.specs.Conversation.{ConversationView}

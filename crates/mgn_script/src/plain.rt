@@ -10,6 +10,7 @@ use mgn_machine::{Answer, Command, Refusal};
 use mgn_params::{ParamSet, SetList, Work};
 use mgn_pricing::Desks;
 use mgn_session::Exec;
+use mgn_unit::PreparedUnits;
 use std::alloc::{AllocError, Global};
 use std::marker::Model;
 
@@ -114,7 +115,7 @@ impl Plain {
             number,
             set,
             &mut self.shelf,
-            &mut [],
+            &mut PreparedUnits::none(self.alloc),
             &mut Work::new(),
         )
     }

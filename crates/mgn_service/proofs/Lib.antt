@@ -1,2 +1,3 @@
 -- Lemmas of the crate.
+pub mod Prepares
 pub mod Steps

@@ -7,6 +7,7 @@ mod foreseen;
 mod gate;
 mod looks;
 mod pairs;
+mod prepared;
 mod service;
 mod sight;
 mod transfers;

@@ -3,27 +3,27 @@ ghost use Rattle.mgn_params.specs.Tables.{Tables};
 ghost use Rattle.mgn_machine.specs.declared.entry.Entry.{Entry};
 ghost use Rattle.mgn_machine.specs.declared.request.Request.TheVariants.{Do, Switch};
 ghost use Rattle.mgn_unit.specs.NewSets.{ArePrepared};
+ghost use Rattle.mgn_ledger.specs.Gathering.{AreReady};
 ghost use Rattle.mgn_ledger.specs.Ledgers.{Answers};
 ghost use Rattle.mgn_ledger.specs.Passes.{AreAudited, fresh};
 ghost use Rattle.mgn_service.specs.Commits.{Begins, Tries};
 
 use crate::commits::{Decided, commit};
 use crate::foreseen::keep_order;
-use crate::gate::{Gate, Point, SessionGate};
+use crate::gate::{Gate, Point};
 use crate::looks::{Looked, look};
+use crate::prepared::Prepared;
 use crate::sight::Sight;
 use crate::unit_desk::UnitDesk;
 use crate::units::{Units, keep_unit, known_unit, units_of};
 use crate::waits::hold;
 use crate::workers::Workers;
 use mgn_ids::SessionNo;
-use mgn_ledger::{AuditFault, Gathered, Image, Ledger, Pass};
+use mgn_ledger::{AuditFault, Image, Ledger, Pass};
 use mgn_machine::{Answer, Command, Refusal, Reply};
 use mgn_params::ParamSet;
-use mgn_prepare::{mark_all, mark_alone};
 use mgn_slots::{SlotNames, Slots};
 use mgn_table::{SetTable, TableName};
-use mgn_unit::PreparedUnit;
 use std::alloc::{AllocError, Global};
 use std::sync::atomic::{AtomicU64, Ordering};
 use std::sync::{Mutex, Wait};
@@ -43,7 +43,7 @@ pub struct Service<'a, T: Image, J: TableName + SlotNames> {
     pub(crate) ledger: Mutex<Ledger<'a, T, J>>,
     pub(crate) desks: Vec<Mutex<UnitDesk<'a, T, J>>>,
     marks: AtomicU64,
-    workers: usize,
+    pub(crate) workers: usize,
     ghost some: { 0 < workers },
     ghost few: { workers ≤ 64 },
 }
@@ -55,13 +55,6 @@ pub(crate) enum Begun {
     One(usize),
     /// The giver's unit and the taker's.
     Two(usize, usize),
-}
-
-/// What was worked out for a switch before its commit, and how many entries the history had when its nets were gathered.
-#[derive(Drop)]
-struct Prepared {
-    units: Vec<Option<PreparedUnit>>,
-    entries: usize,
 }
 
 /// What one look and commit did.
@@ -220,82 +213,17 @@ impl<'a, T: Image, J: TableName + SlotNames> Service<'a, T, J> {
         pass: &mut Pass<'a, T, J>,
         gate: &G,
         set: ParamSet,
-        prepared: &mut Prepared,
+        prepared: &mut Prepared<'a, T, J>,
     ) -> Answer
-        requires { ArePrepared set prepared.old.units.items }
+        requires prepared { ArePrepared set prepared.old.units.units.items }
+        requires ready { AreReady T.shown set prepared.old.units.units.items prepared.old.since.items }
         ensures { Answers pass.old (Switch set) result pass.new }
     {
         gate.at(Point::Prepared, pass.session());
-        let units = prepared.units.as_mut_slice();
+        let since = prepared.since.as_slice();
         self.ledger
             .lock(rt)
-            .enter_switch(rt, pass, set, units, prepared.entries)
-    }
-
-    // What all units require under a set. An error says that memory was refused.
-    fn prepare<R: Threads + Wait + Sync, G: Gate + Sync>(
-        &self,
-        rt: &R,
-        session: SessionNo,
-        gate: &G,
-        set: &ParamSet,
-    ) -> Result<Prepared, AllocError>
-        ensures { IfOk result (λ prepared. ArePrepared set.now prepared.units.items) }
-    {
-        let gathered = self.ledger.lock(rt).gather(self.alloc)?;
-        let Gathered {
-            set: old,
-            nets,
-            entries,
-        } = gathered;
-        let gate = SessionGate { gate, session };
-        let units = mark_all(rt, self.alloc, old, set, nets, self.workers, &gate)?;
-        Ok(Prepared { units, entries })
-    }
-
-    // The same, by workers that are lent.
-    fn prepare_by<R: Wait>(
-        &self,
-        rt: &R,
-        session: SessionNo,
-        workers: &Workers,
-        set: &ParamSet,
-    ) -> Result<Prepared, AllocError>
-        ensures { IfOk result (λ prepared. ArePrepared set.now prepared.units.items) }
-    {
-        let gathered = self.ledger.lock(rt).gather(self.alloc)?;
-        let Gathered {
-            set: old,
-            nets,
-            entries,
-        } = gathered;
-        let units = workers.mark(session, old, set, nets)?;
-        Ok(Prepared { units, entries })
-    }
-
-    // The same, by the caller alone.
-    fn prepare_alone<R: Wait, G: Gate>(
-        &self,
-        rt: &R,
-        session: SessionNo,
-        gate: &G,
-        set: &ParamSet,
-    ) -> Result<Prepared, AllocError>
-        ensures { IfOk result (λ prepared. ArePrepared set.now prepared.units.items) }
-    {
-        let gathered = self.ledger.lock(rt).gather(self.alloc)?;
-        let gate = SessionGate { gate, session };
-        let units = mark_alone(
-            self.alloc,
-            gathered.set,
-            set,
-            gathered.nets.as_slice(),
-            &gate,
-        )?;
-        Ok(Prepared {
-            units,
-            entries: gathered.entries,
-        })
+            .enter_switch(rt, pass, set, &mut prepared.units, since)
     }
 
     // A command of one unit, under that unit's lock.

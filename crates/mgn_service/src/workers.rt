@@ -1,7 +1,8 @@
-ghost use Rattle.std.specs.Prelude.{All};
+ghost use Rattle.std.specs.Prelude.{◌≡◌, All, map};
 ghost use Rattle.std.specs.Result.{ForOk};
 ghost use Rattle.mgn_unit.specs.NewSets.{ArePrepared};
 ghost use Rattle.mgn_unit.specs.Prepared.{AreCopied};
+ghost use Rattle.mgn_prepare.specs.Marks.{mark_of};
 
 use mgn_ids::SessionNo;
 use mgn_params::ParamSet;
@@ -27,6 +28,8 @@ pub type Marking = Box<
 pub struct Workers {
     marking: Marking,
     ghost may: { (session : _) (old new : _) (nets : _) → All (AreCopied old.now) nets.items → pre marking session old new nets },
+    ghost marks: { (session : _) (old new : _) (nets : _) (result : _) → post marking session old new nets result
+        → ForOk result (λ units. units.items ≡ map (mark_of old.now new.now) nets.items) },
     ghost gives: { (session : _) (old new : _) (nets : _) (result : _) → post marking session old new nets result
         → ForOk result (λ units. ArePrepared new.now units.items) },
 }
@@ -36,6 +39,8 @@ impl Workers {
     pub fn new(marking: Marking) -> Workers
         requires may { (session : _) (old new : _) (nets : _) → All (AreCopied old.now) nets.items
             → pre marking session old new nets }
+        requires marks { (session : _) (old new : _) (nets : _) (result : _) → post marking session old new nets result
+            → ForOk result (λ units. units.items ≡ map (mark_of old.now new.now) nets.items) }
         requires gives { (session : _) (old new : _) (nets : _) (result : _) → post marking session old new nets result
             → ForOk result (λ units. ArePrepared new.now units.items) }
     {
@@ -51,7 +56,8 @@ impl Workers {
         nets: Vec<CopiedNets>,
     ) -> Result<Vec<Option<PreparedUnit>>, AllocError>
         requires { All (AreCopied old.now) nets.items }
-        ensures { ForOk result (λ units. ArePrepared new.now units.items) }
+        ensures marks { ForOk result (λ units. units.items ≡ map (mark_of old.now new.now) nets.items) }
+        ensures prepared { ForOk result (λ units. ArePrepared new.now units.items) }
     {
         (self.marking)(session, old, new, nets)
     }

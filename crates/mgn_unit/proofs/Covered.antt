@@ -60,6 +60,11 @@ or-right : (s t : Bool) → t ≡ true → (s || t) ≡ true
 or-right true t second = refl
 or-right false t second = second
 
+-- each contract is there, so whatever is held is
+pub every-covered : (old new : Tables) (sizes : List ℤ) → ((i : ℕ) → i < length old.contracts → has_contract new (contract_at old.contracts i).name ≡ true) → is_covered old new sizes ≡ true
+every-covered old new sizes has =
+    all-covered old new sizes (λ i inside. or-right (int_eq (value_at sizes i) (pos 0)) (has_contract new (contract_at old.contracts i).name) (has i inside))
+
 or-left : (s t : Bool) → s ≡ true → (s || t) ≡ true
 or-left true t first = refl
 or-left false t first = absurd (both_ways false refl first)

@@ -1,5 +1,5 @@
 -- Copies of the nets of margin units, for what is worked out before a set comes into force.
-use Rattle.std.specs.Prelude.{ℕ, ◌≡◌, ◌<◌, ℤ, IsSomeAnd, List, None, Option, length, slice_index_or, All}
+use Rattle.std.specs.Prelude.{ℕ, ◌≡◌, ◌<◌, ℤ, Bool, IsSomeAnd, List, None, Option, Some, false, length, slice_index_or, true, All}
 use Rattle.mgn_params.specs.Tables.{Tables}
 use Rattle.mgn_span.specs.Positions.{IsNet}
 use Rattle.mgn_unit.specs.declared.prepared.CopiedNets.{CopiedNets}
@@ -33,6 +33,12 @@ pub record AreCarried (old new : Tables) (nets : CopiedNets) (prepared : Prepare
   pub buys : prepared.buys.nets ≡ carried old new nets.buys
   pub sales : prepared.sales.nets ≡ carried old new nets.sales
   pub all : prepared.all.nets ≡ carried old new nets.all
+
+-- where it is known to be for the nets that a unit's row carries over, it stands beside these
+abbrev pub AreCurrent : Tables → Tables → List Row → List (Option PreparedUnit) → List Bool → Type 0
+AreCurrent old new rows units current =
+    (u : ℕ) (d : Row) (one : PreparedUnit) → u < length rows → slice_index_or current u false ≡ true →
+    slice_index_or units u None ≡ Some one → AreCarried old new (copied (slice_index_or rows u d)) one
 
 -- what was prepared of each unit stands beside the nets that its row carries over
 abbrev pub ArePreparedFor : Tables → Tables → List Row → List (Option PreparedUnit) → Type 0

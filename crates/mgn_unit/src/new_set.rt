@@ -1,4 +1,4 @@
-ghost use Rattle.std.specs.Prelude.{◌≡◌, ◌<◌, ◌≤◌, ◌*◌, ◌^◌, ◌+ℤ◌, ◌↔◌, ℕ, All, IfOk, IfSome, IsSome, IsSomeAnd, IsTrue, Ok, Some, length, pos, replicate, slice_set, unsigned_abs};
+ghost use Rattle.std.specs.Prelude.{◌≡◌, ◌<◌, ◌≤◌, ◌*◌, ◌^◌, ◌+ℤ◌, ◌↔◌, ℕ, ℤ, All, IfOk, IfSome, IsSome, IsSomeAnd, IsTrue, List, Ok, Some, length, pos, replicate, slice_set, true, unsigned_abs};
 ghost use Rattle.std.specs.Option.{option_map};
 ghost use Rattle.mgn_params.specs.Tables.{Tables};
 ghost use Rattle.mgn_span.specs.Positions.{IsNet};
@@ -228,6 +228,18 @@ fn still_prepared(
     }
 }
 
+/// Whether the new set has each contract of the old one: then it has what any unit holds.
+pub fn has_all_contracts(old: &ParamSet, new: &ParamSet) -> bool
+    ensures { IsTrue result → (sizes : List ℤ) → is_covered old.now new.now sizes ≡ true }
+{
+    for contract in 0..old.contract_count() {
+        if new.contract(old.contract_at(contract).name).is_none() {
+            return false;
+        }
+    }
+    true
+}
+
 impl PortfolioRow {
     // The portfolio with an amount more in worth, and with nets under the new set and what these require.
     fn with(&self, gain: Cents, prepared: PreparedPortfolio) -> PortfolioRow
@@ -379,6 +391,30 @@ impl Row {
             buys,
             sales,
             all,
+        })
+    }
+
+    /// The same with what was prepared of the unit, where that is known to be for the nets that it has: no nets are compared.
+    pub fn taking(
+        &self,
+        alloc: Global,
+        switch: &Switch,
+        gain: Cents,
+        prepared: PreparedUnit,
+    ) -> Result<Row, AllocError>
+        requires row { IsRow switch.now.old self.now }
+        requires prepared { IsPrepared switch.now.new prepared }
+        requires current { AreCarried switch.now.old switch.now.new (copied self.now) prepared }
+        requires worths { AreWorths (row_with_worth gain self.now) }
+        ensures row { IfOk result (λ row. row ≡ row_under switch.now.old switch.now.new gain self.now) }
+        ensures limits { IfOk result (λ row. IsRow switch.now.new row) }
+    {
+        Ok(Row {
+            sizes: switch.carry(alloc, &self.sizes)?,
+            lots: self.lots.with(gain, prepared.lots),
+            buys: self.buys.with(gain, prepared.buys),
+            sales: self.sales.with(gain, prepared.sales),
+            all: self.all.with(gain, prepared.all),
         })
     }
 

@@ -1,5 +1,5 @@
 -- What is known where nothing but want of room refuses a command.
-use Rattle.std.proofs.Common.{◌≡◌, ◌≢◌, ◌<◌, ◌∙◌, ℕ, Bool, true, false, Some, List, length, subst, refl, arith, Result, Ok, Err}
+use Rattle.std.proofs.Common.{◌≡◌, ◌≢◌, ◌<◌, ◌∙◌, ℕ, Bool, true, false, Some, List, length, subst, refl, arith, Ok}
 use Rattle.std.specs.Prelude.{◌==◌, not, nat_eq}
 use Rattle.std.proofs.lemmas.Bool.Decides.{nat_tests}
 use Rattle.std.proofs.lemmas.List.{length-map}
@@ -15,10 +15,9 @@ use Rattle.mgn_machine.specs.declared.command.Fill.{Fill}
 use Rattle.mgn_machine.specs.declared.command.Hold.{Hold}
 use Rattle.mgn_machine.specs.declared.command.Trade.{Trade}
 use Rattle.mgn_machine.specs.declared.command.Transfer.{Transfer}
-use Rattle.mgn_machine.specs.declared.reply.Refusal.{Refusal}
 use Rattle.mgn_machine.specs.declared.reply.Refusal.TheVariants.{NoOrder, NoTrade}
 use Rattle.mgn_machine.specs.Holding.{fill_places, hold_places, release_places}
-use Rattle.mgn_machine.specs.Refusals.{◌>>=◌, bust_places, contract_of, place_of, refuse_if, trade_places}
+use Rattle.mgn_machine.specs.Refusals.{bust_places, contract_of, place_of, trade_places}
 use Rattle.mgn_machine.specs.State.{State, account_at}
 use Rattle.mgn_machine.specs.Transfers.{move_places, parties}
 use Rattle.mgn_register.proofs.Found.{first_done, test_passed}

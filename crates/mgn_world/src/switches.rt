@@ -11,6 +11,7 @@ use crate::kept::{Kept, session_at};
 use crate::stages::{Gathering, Stage, set_stage, take_gathering};
 use mgn_book::Outcome;
 use mgn_params::{ParamSet, Shelf, Work};
+use mgn_unit::PreparedUnits;
 use std::alloc::{AllocError, Global};
 
 impl Kept {
@@ -73,7 +74,8 @@ impl Kept {
         let Some(gathering) = take_gathering(&mut self.stages, place) else {
             return Ok(());
         };
-        let (set, mut prepared) = gathering.into_parts();
+        let (set, units) = gathering.into_parts();
+        let mut prepared = PreparedUnits::new(alloc, units);
         let session = session_at(place);
         let number = self.book.calls(session) + 1;
         match self.book.commit_switch(
@@ -82,7 +84,7 @@ impl Kept {
             number,
             set,
             &mut self.shelf,
-            prepared.as_mut_slice(),
+            &mut prepared,
             &mut Work::new(),
         ) {
             Outcome::Done(..) => {}

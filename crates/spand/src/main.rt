@@ -4,10 +4,11 @@
 
 mod script;
 
-ghost use Rattle.std.specs.Prelude.{All};
+ghost use Rattle.std.specs.Prelude.{◌≡◌, All, map};
 ghost use Rattle.std.specs.Result.{ForOk};
 ghost use Rattle.mgn_unit.specs.NewSets.{ArePrepared};
 ghost use Rattle.mgn_unit.specs.Prepared.{AreCopied};
+ghost use Rattle.mgn_prepare.specs.Marks.{mark_of};
 
 use command_line::Request;
 use mgn_ids::SessionNo;
@@ -31,7 +32,8 @@ fn main(rt: HostRuntime) -> ExitCode {
                 CopiedNets,
             >| -> Result<Vec<Option<PreparedUnit>>, AllocError>
                 requires { All (AreCopied old.now) nets.items }
-                ensures { ForOk result (λ units. ArePrepared new.now units.items) }
+                ensures marks { ForOk result (λ units. units.items ≡ map (mark_of old.now new.now) nets.items) }
+                ensures prepared { ForOk result (λ units. ArePrepared new.now units.items) }
             { spand_serve::mark(&rt, session, old, new, nets) };
             match spand_lib::read(rt.alloc(), &mut source, options.file.set.as_str()) {
                 Ok(first) => match Box::new(rt.alloc(), marking) {

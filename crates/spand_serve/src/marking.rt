@@ -1,7 +1,8 @@
-ghost use Rattle.std.specs.Prelude.{All};
+ghost use Rattle.std.specs.Prelude.{◌≡◌, All, map};
 ghost use Rattle.std.specs.Result.{ForOk};
 ghost use Rattle.mgn_unit.specs.NewSets.{ArePrepared};
 ghost use Rattle.mgn_unit.specs.Prepared.{AreCopied};
+ghost use Rattle.mgn_prepare.specs.Marks.{mark_of};
 
 use mgn_ids::SessionNo;
 use mgn_params::ParamSet;
@@ -24,7 +25,8 @@ pub fn mark<R: Threads + AllocGlobal + Sync>(
     nets: Vec<CopiedNets>,
 ) -> Result<Vec<Option<PreparedUnit>>, AllocError>
     requires { All (AreCopied old.now) nets.items }
-    ensures { ForOk result (λ units. ArePrepared new.now units.items) }
+    ensures marks { ForOk result (λ units. units.items ≡ map (mark_of old.now new.now) nets.items) }
+    ensures prepared { ForOk result (λ units. ArePrepared new.now units.items) }
 {
     let gate = SessionGate {
         gate: &Through,

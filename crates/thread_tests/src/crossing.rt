@@ -11,7 +11,7 @@ use mgn_seat::{Seat, Switches};
 use mgn_service::{Gate, Service, Sight, Through, UnitDesk, Workers};
 use mgn_slots::{SlotNames, Slots, Stamp, Stamps};
 use mgn_table::{SetTable, TableName, Tokens};
-use mgn_unit::{CopiedNets, PreparedUnit, Row};
+use mgn_unit::{CopiedNets, PreparedUnit, PreparedUnits, Row};
 use std::marker::Brand;
 use std::sync::{Mutex, Wait};
 use std::test::Fail;
@@ -39,6 +39,7 @@ fn sets_and_units_cross(_rt: HostRuntime) -> Result<(), Fail> {
     crosses::<CopiedNets>();
     shared::<CopiedNets>();
     crosses::<PreparedUnit>();
+    crosses::<PreparedUnits>();
     crosses::<Desk>();
     Ok(())
 }
@@ -58,7 +59,7 @@ fn over_slots<'a, T: Image + Send + Sync + 'a, J: TableName + SlotNames + Send +
     crosses::<Stamp<'a, T, J>>();
     crosses::<Stamps<'a, T, J>>();
     crosses::<Pass<'a, T, J>>();
-    crosses::<Gathered<'a>>();
+    crosses::<Gathered<'a, T, J>>();
     crosses::<Ledger<'a, T, J>>();
     crosses::<Sight<'a, T, J>>();
     crosses::<UnitDesk<'a, T, J>>();

@@ -1,9 +1,10 @@
 //! Switches that workers work out who are lent to the service, while another session's command commits.
 
-ghost use Rattle.std.specs.Prelude.{All};
+ghost use Rattle.std.specs.Prelude.{◌≡◌, All, map};
 ghost use Rattle.std.specs.Result.{ForOk};
 ghost use Rattle.mgn_unit.specs.NewSets.{ArePrepared};
 ghost use Rattle.mgn_unit.specs.Prepared.{AreCopied};
+ghost use Rattle.mgn_prepare.specs.Marks.{mark_of};
 
 use crate::sessions::{LATE_LOT, SWITCH_BETWEEN, check_late_lot, check_switch_between, staged};
 use mgn_ids::SessionNo;
@@ -37,7 +38,8 @@ fn commands_meet_switches_by_lent_workers(rt: HostRuntime) -> Result<(), Fail> {
         CopiedNets,
     >| -> Result<Vec<Option<PreparedUnit>>, AllocError>
         requires { All (AreCopied old.now) nets.items }
-        ensures { ForOk result (λ units. ArePrepared new.now units.items) }
+        ensures marks { ForOk result (λ units. units.items ≡ map (mark_of old.now new.now) nets.items) }
+        ensures prepared { ForOk result (λ units. ArePrepared new.now units.items) }
     {
         let gate = SessionGate {
             gate: &Through,

@@ -5,6 +5,7 @@ use mgn_book::{Book, Outcome};
 use mgn_ids::SessionNo;
 use mgn_machine::{Answer, Command, Reply};
 use mgn_params::{ParamSet, SetList, Work};
+use mgn_unit::PreparedUnits;
 use mgn_wire::{LineReply, reply_text};
 use std::alloc::Global;
 use std::marker::Model;
@@ -74,7 +75,7 @@ impl OneThread {
             number,
             set,
             &mut self.shelf,
-            &mut [],
+            &mut PreparedUnits::none(self.alloc),
             &mut Work::new(),
         )
     }

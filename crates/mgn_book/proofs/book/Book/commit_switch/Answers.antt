@@ -1,12 +1,20 @@
-use Rattle.std.proofs.Common.{◌≡◌, ◌+◌, ◌-◌, ◌<◌, ◌≤◌, ◌++◌, ◌∷◌, [], arith, rules, length, List}
+use Rattle.std.proofs.Common.{◌≡◌, ◌+◌, ◌-◌, ◌<◌, ◌≤◌, ◌++◌, ◌∷◌, [], arith, rules, length, List, subst, sym}
+use Rattle.mgn_params.specs.Shelves.{set_at}
 use Rattle.mgn_params.specs.Tables.{Tables}
 use Rattle.mgn_machine.specs.declared.request.Request.TheVariants.{Switch}
 use Rattle.mgn_machine.specs.History.{entry, calls, recorded}
 use Rattle.mgn_machine.proofs.Histories.{calls-few}
+use Rattle.mgn_unit.specs.Prepared.{AreCurrent}
 use Rattle.mgn_book.specs.BookViews.{AreCounts, BookView, Stands}
 use Rattle.mgn_book.specs.Switches.{IsSwitched}
 use Rattle.mgn_book.proofs.Histories.{is_book-next, stands-switched}
 use Rattle.mgn_book.proofs.book.Book.commit_switch.Goals as goal
+
+pub switch_set-switched-requires-clause-current : goal.switch_set-switched-requires-clause-current
+switch_set-switched-requires-clause-current g c =
+    let prepared = c.args.prepared.now in
+    subst (λ (b : BookView). AreCurrent (set_at (g.S.Shelf.sets c.args.shelf.now) b.book.state.version) c.args.set b.book.rows prepared.units.items prepared.current.items)
+    (sym c.self.view_is) c.requires.current
 
 pub switch_set-switched-requires-clause-number : goal.switch_set-switched-requires-clause-number
 switch_set-switched-requires-clause-number g c =

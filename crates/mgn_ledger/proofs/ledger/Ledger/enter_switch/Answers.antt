@@ -1,13 +1,29 @@
-use Rattle.std.proofs.Common.{arith, ◌≡◌, ◌+◌, ◌∙◌, ℕ, List, length, ap, subst, rules, true≢false}
-use Rattle.std.specs.Prelude.{vec_capacity}
+use Rattle.std.proofs.Common.{arith, ◌≡◌, ◌+◌, ◌∙◌, ℕ, List, length, ap, subst, sym, rules, true≢false}
+use Rattle.std.specs.Prelude.{Option, vec_capacity}
+use Rattle.mgn_params.specs.Shelves.{set_at}
 use Rattle.mgn_params.specs.Tables.{Tables}
 use Rattle.mgn_machine.specs.declared.request.Request.TheVariants.{Switch}
+use Rattle.mgn_unit.specs.NewSets.{ArePrepared}
+use Rattle.mgn_unit.specs.Prepared.{AreCurrent}
+use Rattle.mgn_unit.specs.declared.row.PreparedUnit.{PreparedUnit}
 use Rattle.mgn_book.specs.BookViews.{sets_after}
 use Rattle.mgn_ledger.specs.Changes.{AreSwitched}
-use Rattle.mgn_ledger.specs.Days.{Day}
+use Rattle.mgn_ledger.specs.Days.{Day, set_of}
 use Rattle.mgn_ledger.proofs.Entries.{goes_on, ledger-switched}
 use Rattle.mgn_ledger.proofs.Seen.{called, is_pass}
 use Rattle.mgn_ledger.proofs.ledger.Ledger.enter_switch.Goals as goal
+
+pub commit_switch-outcome-requires-clause-prepared : goal.commit_switch-outcome-requires-clause-prepared
+commit_switch-outcome-requires-clause-prepared g c =
+    subst (λ (units : List (Option PreparedUnit)). ArePrepared c.args.set units) (sym c.note_current.ensures.units) c.requires.prepared
+
+pub commit_switch-outcome-requires-clause-current : goal.commit_switch-outcome-requires-clause-current
+commit_switch-outcome-requires-clause-current g c =
+    let book = c.self.inside.book in
+    let prepared = c.note_current.new.prepared in
+    subst (λ (sets : List Tables). AreCurrent (set_at sets book.book.state.version) c.args.set book.book.rows prepared.units.items prepared.current.items)
+    (sym c.new-shelf.ensures.sets)
+    (subst (λ (day : Day). AreCurrent (set_of day) c.args.set day.book.book.rows prepared.units.items prepared.current.items) (sym c.self.view_is) c.note_current.ensures.current)
 
 pub taken-requires : goal.taken-requires
 taken-requires g c = c.is_full.ensures.room c.if-is_full.false

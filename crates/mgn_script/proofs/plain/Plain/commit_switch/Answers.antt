@@ -1,8 +1,17 @@
+use Rattle.mgn_params.specs.Shelves.{set_at}
 use Rattle.mgn_machine.specs.declared.request.Request.TheVariants.{Switch}
 use Rattle.mgn_script.specs.Plain.{IsScriptView}
 use Rattle.mgn_script.proofs.DeskFacts.{rest-switched}
 use Rattle.mgn_script.proofs.PlainFacts.{still}
 use Rattle.mgn_script.proofs.plain.Plain.commit_switch.Goals as goal
+
+pub commit_switch-requires-clause-prepared : goal.commit_switch-requires-clause-prepared
+commit_switch-requires-clause-prepared c = c.none.ensures.prepared c.args.set
+
+pub commit_switch-requires-clause-current : goal.commit_switch-requires-clause-current
+commit_switch-requires-clause-current c =
+    let book = c.self.inside.book.book in
+    c.none.ensures.current (set_at c.self.inside.shelf book.state.version) c.args.set book.rows
 
 pub invariant_of-self : goal.invariant_of-self
 invariant_of-self c =

@@ -1,7 +1,7 @@
-use Rattle.std.proofs.Common.{List, Option, sym, subst}
-use Rattle.mgn_unit.specs.declared.row.PreparedUnit.{PreparedUnit}
-use Rattle.mgn_unit.specs.NewSets.{ArePrepared}
+use Rattle.std.proofs.Common.{List, ℕ, sym, subst}
+use Rattle.mgn_ledger.specs.Gathering.{AreReady}
 use Rattle.mgn_service.proofs.service.Service.enter_switch.Goals as goal
 
-pub enter_switch-requires : goal.enter_switch-requires
-enter_switch-requires g c = subst (λ (l : List (Option PreparedUnit)). ArePrepared c.args.set l) (sym c.as_mut_slice-units.ensures.value) c.requires
+pub enter_switch-requires-clause-ready : goal.enter_switch-requires-clause-ready
+enter_switch-requires-clause-ready g c =
+    subst (λ (since : List (ℕ × g.row.T.Denot)). AreReady g.T.Image.shown c.args.set c.args.prepared.now.units.units.items since) (sym c.as_slice-since.ensures.value) c.requires.ready

@@ -1,4 +1,5 @@
 use Rattle.std.proofs.Common.{Global, Vec, ◌≡◌, ◌+◌, ◌∙◌, ap, List, ℕ, Option, subst, sym, refl}
+use Rattle.mgn_params.specs.Shelves.{set_at}
 use Rattle.mgn_unit.specs.declared.row.PreparedUnit.{PreparedUnit}
 use Rattle.mgn_unit.specs.NewSets.{ArePrepared}
 use Rattle.mgn_world.specs.declared.stages.Stage.{Stage}
@@ -11,7 +12,12 @@ use Rattle.mgn_world.proofs.kept.Kept.commit_set.Goals as goal
 
 pub commit_switch-requires-clause-prepared : goal.commit_switch-requires-clause-prepared
 commit_switch-requires-clause-prepared c =
-    subst (λ (xs : List (Option PreparedUnit)). ArePrepared c.into_parts-set.result.0 xs) (sym c.as_mut_slice.ensures.value) c.into_parts-set.ensures.prepared
+    subst (λ (xs : List (Option PreparedUnit)). ArePrepared c.into_parts-set.result.0 xs) (sym c.new-prepared.ensures.units) c.into_parts-set.ensures.prepared
+
+pub commit_switch-requires-clause-current : goal.commit_switch-requires-clause-current
+commit_switch-requires-clause-current c =
+    let book = c.args.self.now.book.book in
+    c.new-prepared.ensures.current (set_at c.args.self.now.shelf book.state.version) c.into_parts-set.result.0 book.rows
 
 pub returns-in-Full-clause-sound : goal.returns-in-Full-clause-sound
 returns-in-Full-clause-sound c =

@@ -1,4 +1,4 @@
-use Rattle.std.proofs.Common.{◌∙◌, List, arith, sym, subst, ap}
+use Rattle.std.proofs.Common.{◌∙◌, List, arith, sym, ap}
 use Rattle.std.specs.Prelude.{slice_index_or}
 use Rattle.mgn_desk.specs.Desks.{DeskRows}
 use Rattle.mgn_world.specs.World.{World, desk_at}
