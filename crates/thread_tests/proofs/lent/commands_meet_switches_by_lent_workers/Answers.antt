@@ -1,6 +1,7 @@
-use Rattle.std.proofs.Common.{◌≡◌, ◌⊎◌, inl, inr}
+use Rattle.std.proofs.Common.{◌≡◌, ◌⊎◌, inl, inr, map}
 use Rattle.std.specs.Result.{ForOk}
 use Rattle.mgn_unit.specs.NewSets.{ArePrepared}
+use Rattle.mgn_prepare.specs.Marks.{mark_of}
 use denote.Param.Callables.{held_fn}
 use Rattle.thread_tests.proofs.lent.commands_meet_switches_by_lent_workers.OwnLists as own
 use Rattle.thread_tests.proofs.lent.commands_meet_switches_by_lent_workers.Goals as goal
@@ -9,5 +10,11 @@ use Rattle.thread_tests.proofs.lent.commands_meet_switches_by_lent_workers.Goals
 pub new-requires-2-clause-gives : goal.new-requires-2-clause-gives
 new-requires-2-clause-gives g c session old new nets result h =
     let Told : Unit {0} ⊎ ⊥ → Type 0 = λ v. (x : _) → (held_fn (own.own-1 g.bound-1-dict g.bound-2-dict g.bound-3-dict)).post (v, x) (session, (old, (new, (nets, tt {0})))) result → ForOk result (λ units. ArePrepared new.now units.items) in
-    let told : (v : Unit {0} ⊎ ⊥) → Told v = λ v. elim v as Told [ inl i ↦ λ x p. p.2 | inr j ↦ absurd j ] in
+    let told : (v : Unit {0} ⊎ ⊥) → Told v = λ v. elim v as Told [ inl i ↦ λ x p. p.2.1 | inr j ↦ absurd j ] in
+    told c.into_dyn_box.result.vtable c.into_dyn_box.result.value h
+
+pub new-requires-2-clause-marks : goal.new-requires-2-clause-marks
+new-requires-2-clause-marks g c session old new nets result h =
+    let Told : Unit {0} ⊎ ⊥ → Type 0 = λ v. (x : _) → (held_fn (own.own-1 g.bound-1-dict g.bound-2-dict g.bound-3-dict)).post (v, x) (session, (old, (new, (nets, tt {0})))) result → ForOk result (λ units. units.items ≡ map (mark_of old.now new.now) nets.items) in
+    let told : (v : Unit {0} ⊎ ⊥) → Told v = λ v. elim v as Told [ inl i ↦ λ x p. p.2.0 | inr j ↦ absurd j ] in
     told c.into_dyn_box.result.vtable c.into_dyn_box.result.value h
