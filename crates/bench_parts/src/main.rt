@@ -10,7 +10,7 @@ mod side;
 ghost use Rattle.std.specs.Prelude.{◌≡◌, ◌≤◌, pos, length, replicate, IfOk};
 
 use anyhow::{Result, bail};
-use mgn_num::Quantity;
+use mgn_nets::Nets;
 use mgn_option::OptionSums;
 use mgn_params::ParamSet;
 use mgn_scan::ScanTotals;
@@ -67,10 +67,11 @@ fn rounds_of(set: &ParamSet) -> usize {
 }
 
 // Nets of 0.
-fn flat_nets(alloc: Global, set: &ParamSet) -> Result<Vec<Quantity>, AllocError>
-    ensures { IfOk result (λ nets. nets.items ≡ replicate (length set.now.contracts) (pos 0)) }
+fn flat_nets(alloc: Global, set: &ParamSet) -> Result<Nets, AllocError>
+    ensures { IfOk result (λ nets. nets ≡ replicate (length set.now.contracts) (pos 0)) }
 {
-    vec![in alloc; Quantity::ZERO; set.contract_count()]
+    set.limits();
+    Nets::flat(alloc, set.contract_count())
 }
 
 fn measure(clock: &impl Clock, alloc: Global, set: &ParamSet) -> Result<Costs> {

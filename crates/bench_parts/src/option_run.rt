@@ -2,6 +2,7 @@ ghost use Rattle.std.specs.Prelude.{◌*◌, ◌<◌, ◌≤◌, ◌^◌, length
 ghost use Rattle.mgn_option.specs.Sums.{AreSums};
 
 use crate::side::one_contract;
+use mgn_nets::Nets;
 use mgn_num::Quantity;
 use mgn_option::OptionSums;
 use mgn_params::ParamSet;
@@ -12,7 +13,7 @@ use std::time::Instant;
 /// Changes a net and its sums. A change that would take the net past its limit is not made.
 pub fn follow(
     set: &ParamSet,
-    nets: &mut [Quantity],
+    nets: &mut Nets,
     sums: &mut OptionSums,
     i: usize,
     quantity: Quantity,
@@ -22,15 +23,15 @@ pub fn follow(
     requires quantity { unsigned_abs quantity ≤ 2 * 10 ^ 7 }
     ensures { AreSums set.now nets.new sums.new }
 {
-    let net = nets[i].plus(quantity);
+    let net = nets.at(i).plus(quantity);
     if net.size() <= 10_000_000 {
         sums.add(set, nets, i, quantity);
-        nets[i] = net;
+        nets.add(i, quantity);
     }
 }
 
 // A contract more, or less, of each.
-fn follow_all(set: &ParamSet, nets: &mut [Quantity], sums: &mut OptionSums, quantity: Quantity)
+fn follow_all(set: &ParamSet, nets: &mut Nets, sums: &mut OptionSums, quantity: Quantity)
     requires sums { AreSums set.now nets.old sums.old }
     requires quantity { unsigned_abs quantity ≤ 2 * 10 ^ 7 }
     ensures { AreSums set.now nets.new sums.new }
@@ -44,7 +45,7 @@ fn follow_all(set: &ParamSet, nets: &mut [Quantity], sums: &mut OptionSums, quan
 pub fn measure(
     clock: &impl Clock,
     set: &ParamSet,
-    nets: &mut [Quantity],
+    nets: &mut Nets,
     sums: &mut OptionSums,
     rounds: usize,
 ) -> io::Result<u128>

@@ -2,6 +2,7 @@ ghost use Rattle.std.specs.Prelude.{◌*◌, ◌<◌, ◌≤◌, ◌^◌, length
 ghost use Rattle.mgn_scan.specs.Totals.{AreTotals};
 
 use crate::side::one_contract;
+use mgn_nets::Nets;
 use mgn_num::Quantity;
 use mgn_params::{ParamSet, Work};
 use mgn_scan::ScanTotals;
@@ -12,7 +13,7 @@ use std::time::Instant;
 /// Changes a net, and the totals after it. A change that would take the net past its limit is not made.
 pub fn follow(
     set: &ParamSet,
-    nets: &mut [Quantity],
+    nets: &mut Nets,
     totals: &mut ScanTotals,
     i: usize,
     quantity: Quantity,
@@ -23,17 +24,17 @@ pub fn follow(
     requires quantity { unsigned_abs quantity ≤ 2 * 10 ^ 7 }
     ensures { AreTotals set.now nets.new totals.new }
 {
-    let net = nets[i].plus(quantity);
+    let net = nets.at(i).plus(quantity);
     if net.size() <= 10_000_000 {
         totals.add(set, nets, i, quantity, work);
-        nets[i] = net;
+        nets.add(i, quantity);
     }
 }
 
 // A contract more, or less, of each.
 fn follow_all(
     set: &ParamSet,
-    nets: &mut [Quantity],
+    nets: &mut Nets,
     totals: &mut ScanTotals,
     quantity: Quantity,
     work: &mut Work,
@@ -51,7 +52,7 @@ fn follow_all(
 pub fn measure(
     clock: &impl Clock,
     set: &ParamSet,
-    nets: &mut [Quantity],
+    nets: &mut Nets,
     totals: &mut ScanTotals,
     rounds: usize,
 ) -> io::Result<u128>

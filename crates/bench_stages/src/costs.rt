@@ -9,6 +9,7 @@ use crate::tier_run::open_all;
 use crate::{credit_run, plain_run, tier_run};
 use anyhow::{Result, bail};
 use mgn_inter::InterCredits;
+use mgn_nets::Nets;
 use mgn_num::Quantity;
 use mgn_params::ParamSet;
 use mgn_tiers::TierStages;
@@ -121,9 +122,11 @@ fn measure_anew(
     requires one_each { length nets.now ≡ length set.now.contracts }
     requires nets { All IsNet nets.now }
 {
+    set.limits();
+    let nets = Nets::of(alloc, nets)?;
     let mut quickest = Quickest::NO_PASS;
     for _pass in 0..PASSES {
-        quickest = quickest.and(plain_run::measure(clock, alloc, set, nets, ANEW)?);
+        quickest = quickest.and(plain_run::measure(clock, alloc, set, &nets, ANEW)?);
     }
     Ok((quickest.each(ANEW), quickest.answers))
 }

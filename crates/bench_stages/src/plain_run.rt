@@ -2,7 +2,7 @@ ghost use Rattle.std.specs.Prelude.{◌≡◌, length, All};
 ghost use Rattle.mgn_span.specs.Positions.{IsNet};
 
 use anyhow::Result;
-use mgn_num::Quantity;
+use mgn_nets::Nets;
 use mgn_params::{ParamSet, Work};
 use mgn_plain::requirement;
 use std::alloc::Global;
@@ -14,7 +14,7 @@ pub fn measure(
     clock: &impl Clock,
     alloc: Global,
     set: &ParamSet,
-    nets: &[Quantity],
+    nets: &Nets,
     rounds: usize,
 ) -> Result<(u128, i128)>
     requires one_each { length nets.now ≡ length set.now.contracts }

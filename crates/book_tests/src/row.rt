@@ -6,12 +6,13 @@ ghost use Rattle.mgn_unit.specs.Rows.{IsChange, IsRow, IsPortfolioRow, no_row, n
 
 use mgn_ids::{LotQuantity, Premium};
 use mgn_machine::Figures;
+use mgn_nets::Nets;
 use mgn_num::{Cents, Quantity};
 use mgn_params::{ParamSet, Work};
 use mgn_plain::requirement;
 use mgn_setfile::read_set;
 use mgn_unit::{
-    Change, Gain, Nets, PortfolioRow, PreparedPortfolio, PreparedUnit, Priced, Row, Switch,
+    Change, Gain, PortfolioRow, PreparedPortfolio, PreparedUnit, Priced, Row, Switch,
 };
 use std::alloc::{AllocError, Global};
 use std::process::Abort;
@@ -189,7 +190,7 @@ fn prepared(alloc: Global, set: &ParamSet, quantity: i8) -> Result<PreparedPortf
     ensures { IfOk result (IsPreparedPortfolio set.now) }
 {
     let nets = nets_of(alloc, set, quantity)?;
-    let requirement = requirement(alloc, set, &nets.to_vec(alloc)?, &mut Work::new())?;
+    let requirement = requirement(alloc, set, nets, &mut Work::new())?;
     Ok(PreparedPortfolio { nets, requirement })
 }
 

@@ -7,6 +7,7 @@ ghost use Rattle.mgn_span.specs.Positions.{IsNet};
 
 use crate::sets::{Worked, flat_nets};
 use cases::cases;
+use mgn_nets::Nets;
 use mgn_num::Quantity;
 use mgn_params::{ParamSet, Work};
 use mgn_plain::{CommodityFigures, Figures, figures, requirement};
@@ -42,16 +43,17 @@ fn nets_of(
     alloc: Global,
     set: &ParamSet,
     contracts: &[i64],
-) -> Result<Vec<Quantity>, AllocError>
-    ensures one_each { IfOk result (λ nets. length nets.items ≡ length set.now.contracts) }
-    ensures small { IfOk result (λ nets. All IsNet nets.items) }
+) -> Result<Nets, AllocError>
+    ensures one_each { IfOk result (λ nets. length nets ≡ length set.now.contracts) }
+    ensures small { IfOk result (All IsNet) }
 {
+    set.limits();
     assert_eq!(rt; contracts.len(), set.contract_count());
     let mut nets = flat_nets(alloc, set)?;
     for i in 0..contracts.len() {
         nets[i] = some_net(rt, contracts[i]);
     }
-    Ok(nets)
+    Nets::of(alloc, &nets)
 }
 
 fn row_of(commodity: &CommodityFigures) -> Row {
@@ -83,7 +85,7 @@ fn check_nets(
     rt: &impl Abort,
     alloc: Global,
     set: &ParamSet,
-    nets: &[Quantity],
+    nets: &Nets,
     case: &Case,
 ) -> Result<(), Fail>
     requires one_each { length nets.now ≡ length set.now.contracts }

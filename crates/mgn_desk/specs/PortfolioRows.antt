@@ -4,7 +4,7 @@ use Rattle.mgn_desk.specs.Kept.{Kept}
 
 abbrev pub kept_of : Inside → Kept
 kept_of p = record {
-  nets = p.nets.items;
+  nets = p.nets;
   totals = p.totals;
   sums = p.sums;
   tiers = p.tiers;

@@ -6,6 +6,7 @@ ghost use Rattle.mgn_desk.specs.Kept.{ArePortfolioRows, IsPortfolio, Kept};
 ghost use Rattle.mgn_desk.specs.Moved.{arrays_of_quantity, counted, more_of};
 
 use crate::portfolio::Portfolio;
+use mgn_nets::Nets;
 use mgn_num::Quantity;
 use mgn_params::{ParamSet, Work};
 use std::alloc::{AllocError, Global};
@@ -25,8 +26,8 @@ impl Branch {
     pub fn of_nets(
         alloc: Global,
         set: &ParamSet,
-        lots: &[Quantity],
-        nets: &[Quantity],
+        lots: &Nets,
+        nets: &Nets,
     ) -> Result<Branch, AllocError>
         requires one_each { length nets.now ≡ length set.now.contracts }
         requires nets { All IsNet nets.now }
@@ -34,7 +35,7 @@ impl Branch {
         ensures nets { IfOk result (λ b. (p : Kept) → p.nets ≡ lots.now → (branch_of p b).nets ≡ nets.now) }
         ensures together { IfOk result (λ b. nets.now ≡ lots.now → b.apart ≡ false) }
     {
-        if nets == lots {
+        if nets.is_same(lots) {
             let own = Portfolio::new(alloc, set)?;
             return Ok(Branch { own, apart: false });
         }
@@ -43,7 +44,7 @@ impl Branch {
     }
 
     // These nets beside those of the lots in place of its own, under a set that its rows fit. Takes no memory.
-    pub fn renew(&mut self, set: &ParamSet, lots: &[Quantity], nets: &[Quantity])
+    pub fn renew(&mut self, set: &ParamSet, lots: &Nets, nets: &Nets)
         requires rows { ArePortfolioRows set.now self.old.own }
         requires one_each { length nets.now ≡ length set.now.contracts }
         requires nets { All IsNet nets.now }
@@ -51,7 +52,7 @@ impl Branch {
         ensures nets { (p : Kept) → p.nets ≡ lots.now → (branch_of p self.new).nets ≡ nets.now }
         ensures together { nets.now ≡ lots.now → self.new.apart ≡ false }
     {
-        if lots == nets {
+        if nets.is_same(lots) {
             self.apart = false;
             return;
         }

@@ -1,5 +1,6 @@
 ghost use Rattle.std.specs.Prelude.{◌≡◌};
 
+use mgn_nets::Nets;
 use mgn_num::{Cents, Quantity};
 
 /// The place of a contract, and how many more of it each portfolio of a margin unit holds, below 0 where it holds
@@ -34,10 +35,10 @@ impl Moves {
 /// buys, with the held sales, and with all holds.
 #[derive(Clone, Copy)]
 pub struct UnitNets<'a> {
-    pub lots: &'a [Quantity],
-    pub buys: &'a [Quantity],
-    pub sales: &'a [Quantity],
-    pub all: &'a [Quantity],
+    pub lots: &'a Nets,
+    pub buys: &'a Nets,
+    pub sales: &'a Nets,
+    pub all: &'a Nets,
 }
 
 /// What the four portfolios of a margin unit must have deposited, in cents.

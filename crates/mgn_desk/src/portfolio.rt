@@ -13,6 +13,7 @@ ghost use Rattle.mgn_desk.specs.Risks.{IsRisk};
 use crate::risk_sum::RiskSum;
 use crate::rows::{fill, filled};
 use mgn_inter::{InterCredits, Reworked, spread_at};
+use mgn_nets::Nets;
 use mgn_num::{Cents, Quantity, TenThousandths};
 use mgn_option::OptionSums;
 use mgn_params::{Leg, ParamSet, Work};
@@ -28,7 +29,7 @@ use std::marker::Model;
 /// takes memory.
 #[derive(Drop)]
 pub struct Portfolio {
-    nets: Vec<Quantity>,
+    nets: Nets,
     totals: ScanTotals,
     sums: OptionSums,
     tiers: TierStages,
@@ -48,27 +49,6 @@ impl Model for Portfolio {
     ghost view = { kept_of };
 }
 
-// The net of a contract.
-fn net_at(nets: &[Quantity], contract: usize) -> Quantity
-    requires { contract < length nets.now }
-    ensures { result ≡ value_at nets.now contract }
-{
-    nets[contract]
-}
-
-// The place of the first net other than 0, or the number of nets.
-fn first_held(nets: &[Quantity]) -> usize
-    ensures few { result ≤ length nets.now }
-    ensures flat { (k : ℕ) → k < result → value_at nets.now k ≡ pos 0 }
-{
-    for (i, net) in nets.iter().enumerate() {
-        if net.size() != 0 {
-            return i;
-        }
-    }
-    nets.len()
-}
-
 // Contracts at a scaled delta for each.
 fn scaled(quantity: Quantity, delta: &i64) -> TenThousandths
     ensures { result ≡ quantity *ℤ delta.now }
@@ -82,9 +62,10 @@ impl Portfolio {
         ensures portfolio { IfOk result (IsPortfolio set.now) }
         ensures flat { IfOk result (λ p. p.nets ≡ replicate (length set.now.contracts) (pos 0)) }
     {
+        set.limits();
         let count = set.commodity_count();
         Ok(Portfolio {
-            nets: filled(alloc, set.contract_count(), Quantity::ZERO)?,
+            nets: Nets::flat(alloc, set.contract_count())?,
             totals: ScanTotals::new(alloc, set)?,
             sums: OptionSums::new(alloc, set)?,
             tiers: TierStages::new(alloc, set)?,
@@ -96,11 +77,7 @@ impl Portfolio {
 
     /// These nets, one for each contract of the set and each at most 10,000,000 in size. The only error is that memory
     /// was refused. A net of 0 costs nothing beside its place.
-    pub fn of_nets(
-        alloc: Global,
-        set: &ParamSet,
-        nets: &[Quantity],
-    ) -> Result<Portfolio, AllocError>
+    pub fn of_nets(alloc: Global, set: &ParamSet, nets: &Nets) -> Result<Portfolio, AllocError>
         requires one_each { length nets.now ≡ length set.now.contracts }
         requires nets { All IsNet nets.now }
         ensures portfolio { IfOk result (IsPortfolio set.now) }
@@ -131,7 +108,7 @@ impl Portfolio {
         ensures portfolio { IsPortfolio set.now self.new }
         ensures flat { self.new.nets ≡ replicate (length set.now.contracts) (pos 0) }
     {
-        fill(&mut self.nets, Quantity::ZERO);
+        self.nets.clear();
         self.totals.flatten();
         self.sums.flatten();
         self.tiers.flatten();
@@ -141,7 +118,7 @@ impl Portfolio {
     }
 
     // These nets in place of its own, under a set that it fits. Takes no memory.
-    pub(crate) fn renew(&mut self, set: &ParamSet, nets: &[Quantity])
+    pub(crate) fn renew(&mut self, set: &ParamSet, nets: &Nets)
         requires rows { ArePortfolioRows set.now self.old }
         requires one_each { length nets.now ≡ length set.now.contracts }
         requires nets { All IsNet nets.now }
@@ -153,7 +130,7 @@ impl Portfolio {
     }
 
     // Brings nets of 0 to these.
-    fn bring_to(&mut self, set: &ParamSet, nets: &[Quantity])
+    fn bring_to(&mut self, set: &ParamSet, nets: &Nets)
         requires portfolio { IsPortfolio set.now self.old }
         requires flat { self.old.nets ≡ replicate (length set.now.contracts) (pos 0) }
         requires one_each { length nets.now ≡ length set.now.contracts }
@@ -161,15 +138,16 @@ impl Portfolio {
         ensures portfolio { IsPortfolio set.now self.new }
         ensures nets { self.new.nets ≡ nets.now }
     {
-        let first = first_held(nets);
-        if first == nets.len() {
+        let Some(first) = nets.next_held(0) else {
             return;
-        }
+        };
         set.limits();
         let mut work = Work::new();
         let mut behind = set.contract_at(first).commodity;
-        for i in first..nets.len() {
-            behind = self.bring_net(set, i, net_at(nets, i), behind, &mut work);
+        let mut from = first;
+        while let Some(i) = nets.next_held(from) {
+            behind = self.bring_net(set, i, nets.at(i), behind, &mut work);
+            from = i + 1;
         }
         self.settle(set, behind);
     }
@@ -230,7 +208,7 @@ impl Portfolio {
         self.sums.add(set, &self.nets, i, quantity);
         self.tiers
             .add(set, contract.month, scaled(quantity, &contract.delta));
-        self.nets[i] = net_at(&self.nets, i).plus(quantity);
+        self.nets.add(i, quantity);
     }
 
     // What the commodity at a place risks before credits, by its scan risk.
@@ -423,7 +401,7 @@ impl Portfolio {
         requires { (set : Tables) × ArePortfolioRows set self.old × ArePortfolioRows set other.now }
         ensures { self.new ≡ other.now }
     {
-        self.nets.copy_from_slice(&other.nets);
+        self.nets.copy_from(&other.nets);
         self.totals.copy_from(&other.totals);
         self.sums.copy_from(&other.sums);
         self.tiers.copy_from(&other.tiers);
@@ -437,14 +415,14 @@ impl Portfolio {
         requires { contract < length self.now.nets }
         ensures { result ≡ value_at self.now.nets contract }
     {
-        net_at(&self.nets, contract)
+        self.nets.at(contract)
     }
 
     /// The nets, one for each contract of the set in file order.
-    pub fn nets(&self) -> &[Quantity]
+    pub fn nets(&self) -> &Nets
         ensures { result.now ≡ self.now.nets }
     {
-        self.nets.as_slice()
+        &self.nets
     }
 
     /// What the portfolio must have deposited, in cents, 0 to 10^30: the sum of the commodities' risks less the net

@@ -54,7 +54,8 @@ impl Portfolios {
     {
         let buys = Branch::of_nets(alloc, set, nets.lots, nets.buys)?;
         let sales = Branch::of_nets(alloc, set, nets.lots, nets.sales)?;
-        Branch::of_nets(alloc, set, nets.lots, nets.all).map(|all| (buys, sales, all))
+        let all = Branch::of_nets(alloc, set, nets.lots, nets.all)?;
+        Ok((buys, sales, all))
     }
 
     // Whether all that is kept is as long as a set asks for.

@@ -8,11 +8,12 @@ ghost use Rattle.mgn_ledger.specs.Gathering.{AreReady, AreSeen, IsUnchanged};
 
 use crate::image::Image;
 use crate::ledger::Ledger;
+use mgn_nets::Nets;
 use mgn_num::Quantity;
 use mgn_params::ParamSet;
 use mgn_slots::{SlotNames, Stamp};
 use mgn_table::TableName;
-use mgn_unit::{CopiedNets, Nets, PreparedUnit, PreparedUnits, Row};
+use mgn_unit::{CopiedNets, PreparedUnit, PreparedUnits, Row};
 use std::alloc::{AllocError, Global};
 
 /// What a switch is prepared from.

@@ -8,6 +8,7 @@ ghost use Rattle.mgn_option.specs.Sums.{AreSums};
 
 use crate::minimum::Minimum;
 use crate::shares::{share_of_minimum, share_of_value};
+use mgn_nets::Nets;
 use mgn_num::{Cents, Quantity};
 use mgn_params::ParamSet;
 use std::alloc::{AllocError, Global};
@@ -52,13 +53,6 @@ fn fill<T: Copy>(row: &mut Vec<T>, value: T)
     }
 }
 
-fn net_at(nets: &[Quantity], contract: usize) -> Quantity
-    requires { contract < length nets.now }
-    ensures { result ≡ value_at nets.now contract }
-{
-    nets[contract]
-}
-
 fn minimum_at(minimums: &[Minimum], commodity: usize) -> Minimum
     requires { commodity < length minimums.now }
     ensures { result ≡ slice_index minimums.now commodity }
@@ -99,7 +93,7 @@ impl OptionSums {
     /// The nets are those before the change, since a sale counts only for the part that leaves a net short. The set must
     /// be the one of the sums, and the changed net at most 10,000,000 in size. The cost does not hang on the number of
     /// contracts.
-    pub fn add(&mut self, set: &ParamSet, nets: &[Quantity], i: usize, quantity: Quantity)
+    pub fn add(&mut self, set: &ParamSet, nets: &Nets, i: usize, quantity: Quantity)
         requires sums { AreSums set.now nets.now self.old }
         requires contract { i < length set.now.contracts }
         requires net { IsNet (value_at nets.now i +ℤ quantity) }
@@ -109,7 +103,7 @@ impl OptionSums {
         let contract = set.contract_at(i);
         let commodity = contract.commodity;
         let charge = &set.commodity_at(commodity).short_option_charge;
-        let before = net_at(nets, i);
+        let before = nets.at(i);
         let after = before.plus(quantity);
         self.minimums[commodity] = minimum_at(&self.minimums, commodity).moved(
             share_of_minimum(contract, before, charge),

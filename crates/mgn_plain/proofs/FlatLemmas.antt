@@ -1,5 +1,5 @@
 -- A commodity in which each net is 0 risks nothing.
-use Rattle.std.proofs.Common.{◌≡◌, ◌≢◌, ℕ, ◌-◌, ◌<◌, ◌≤◌, List, length, replicate, pos, ℤ, ap, ◌∙◌, sym, arith, unsigned_abs, ⊎_elim}
+use Rattle.std.proofs.Common.{◌≡◌, ◌≢◌, ℕ, Bool, false, refl, ◌-◌, ◌<◌, ◌≤◌, List, length, replicate, pos, ℤ, ap, ◌∙◌, sym, arith, unsigned_abs, ⊎_elim}
 use Rattle.std.specs.Prelude.{nat_lt}
 use Rattle.std.specs.Int.{int_max}
 use Rattle.std.proofs.lemmas.Bool.{cases_eq}
@@ -13,14 +13,16 @@ use Rattle.mgn_span.specs.MonthDeltas.{start_share}
 use Rattle.mgn_span.specs.Options.{short_option_minimum}
 use Rattle.mgn_span.specs.Positions.{Position, positions}
 use Rattle.mgn_span.specs.Requirement.{intra_charge, risk, scan_of, spot_charge}
-use Rattle.mgn_span.specs.Scan.{active, scenario_total, value_at}
+use Rattle.mgn_span.specs.Scan.{active, price_risk2, scenario_total, value_at}
 use Rattle.mgn_span.specs.Spot.{spot_of}
 use Rattle.mgn_span.specs.Stages.{stages_of}
-use Rattle.mgn_span.specs.Words.{long_share, month_share, scenario_share, short_share, short_share_of, start_of, starts_of}
+use Rattle.mgn_span.specs.Words.{long_share, month_share, scenario_share, short_share, short_share_of, start_of, starts_of, total_of}
 use Rattle.mgn_span.proofs.FlatLemmas.{month_share_flat, share_flat, short_share_flat}
 use Rattle.mgn_span.proofs.PositionLemmas.{position_count_all, position_sum_all}
+use Rattle.mgn_span.proofs.ScanLemmas.{price_risk2_same}
 use Rattle.mgn_span.proofs.ShareLemmas.{scenario_share_out, share_sum_small, short_share_out}
-use Rattle.mgn_plain.specs.Parts.{AreNets}
+use Rattle.mgn_plain.specs.Kept.{mark_at}
+use Rattle.mgn_plain.specs.Parts.{AreMarks, AreNets, AreTotals}
 use Rattle.mgn_plain.proofs.DeltaLemmas.{start_share_none}
 use Rattle.mgn_plain.proofs.PassLemmas.{count_small}
 use Rattle.mgn_plain.proofs.StageLemmas.{charges_of_nothing, left_by_nothing, spot_charge_of_nothing}
@@ -45,6 +47,19 @@ total_none t nets g s are flat =
     let sum = share_sum_small (scenario_share g s) 0 t.contracts nets n are.one_each each (omega arith) in
     let all = position_sum_all (scenario_share g s) t.contracts nets n (omega arith) are.one_each in
     omega (arith, ints, sum, all)
+
+-- nor do the totals that are kept of it
+pub totals_none : (t : Tables) (nets : List ℤ) (rows : List (List ℤ)) (marks : List Bool) → AreTotals t nets rows → AreMarks t nets marks → (g s : ℕ) → mark_at marks g ≡ false → g < length rows → s < 16 → total_of rows g s ≡ pos 0
+unfolding IsFlatIn
+totals_none t nets rows marks are held g s mark h k =
+    are.each g s (omega (arith, h, are.one_row_each)) k ∙ total_none t nets g s are.of_nets (λ j low same. held.flat g j mark low same)
+
+-- totals of 0 have no price risk
+no_price_risk : price_risk2 (λ (s : ℕ). pos 0) ≡ pos 0
+no_price_risk = refl
+
+pub price_risk_none : (f : ℕ → ℤ) → ((s : ℕ) → s < 16 → f s ≡ pos 0) → unsigned_abs (price_risk2 f) ≡ 0
+price_risk_none f none = ap unsigned_abs (price_risk2_same f (λ (s : ℕ). pos 0) none ∙ no_price_risk)
 
 month_none : (t : Tables) (nets : List ℤ) (g m : ℕ) → IsWithinLimits t → AreNets t nets → IsFlatIn t nets g → (month_at t.months m).commodity ≡ g → month_delta (positions t.contracts nets) m ≡ pos 0
 unfolding IsFlatIn

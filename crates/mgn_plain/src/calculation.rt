@@ -17,7 +17,8 @@ use crate::rows::mark_at;
 use crate::scan::{scan_figures, totals_row};
 use crate::sums::sums_of;
 use crate::whole::Figures;
-use mgn_num::{Cents, Quantity};
+use mgn_nets::Nets;
+use mgn_num::Cents;
 use mgn_params::{ParamSet, Work};
 use std::alloc::{AllocError, Global};
 
@@ -25,7 +26,7 @@ use std::alloc::{AllocError, Global};
 fn work_out(
     alloc: Global,
     set: &ParamSet,
-    nets: &[Quantity],
+    nets: &Nets,
     work: &mut Work,
 ) -> Result<FigureRows, AllocError>
     requires { AreNets set.now nets.now }
@@ -33,7 +34,7 @@ fn work_out(
 {
     let sums = sums_of(alloc, set, nets, work)?;
     let months = month_sums(alloc, set, &sums.deltas)?;
-    let credits = work_out_credits(alloc, set, &months.nets, &sums.totals)?;
+    let credits = work_out_credits(alloc, set, &months.nets, &sums)?;
     Ok(FigureRows {
         sums,
         starts: months.starts,
@@ -152,7 +153,7 @@ fn requirement_of(set: &ParamSet, rows: &FigureRows) -> Cents
 pub fn requirement(
     alloc: Global,
     set: &ParamSet,
-    nets: &[Quantity],
+    nets: &Nets,
     work: &mut Work,
 ) -> Result<Cents, AllocError>
     requires one_each { length nets.now ≡ length set.now.contracts }
@@ -203,7 +204,7 @@ fn figures_by(alloc: Global, set: &ParamSet, rows: &FigureRows) -> Result<Figure
 pub fn figures(
     alloc: Global,
     set: &ParamSet,
-    nets: &[Quantity],
+    nets: &Nets,
     work: &mut Work,
 ) -> Result<Figures, AllocError>
     requires one_each { length nets.now ≡ length set.now.contracts }

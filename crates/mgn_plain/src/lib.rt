@@ -8,7 +8,6 @@ mod credits;
 mod delta;
 mod deltas;
 mod figure_rows;
-mod held;
 mod options;
 mod parts;
 mod rows;

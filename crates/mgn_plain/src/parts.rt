@@ -1,22 +1,30 @@
-ghost use Rattle.std.specs.Prelude.{◌≡◌, ℕ, ◌*◌, ◌<◌, ◌≤◌, ◌^◌, ℤ, List, unsigned_abs, length, IfOk};
+ghost use Rattle.std.specs.Prelude.{◌≡◌, ℕ, ◌*◌, ◌<◌, ◌≤◌, ◌^◌, ℤ, List, pos, unsigned_abs, length, false, IfOk};
 ghost use Rattle.mgn_span.specs.Words.{total_of};
-ghost use Rattle.mgn_plain.specs.Parts.{AreCredits, AreCreditsFrom, AreNetDeltas, AreRisks, AreTotals};
+ghost use Rattle.mgn_plain.specs.Kept.{mark_at};
+ghost use Rattle.mgn_plain.specs.Parts.{AreCredits, AreCreditsFrom, AreNetDeltas, AreRisks, AreSums};
 ghost use Rattle.mgn_plain.specs.Rests.{AreCreditNumbers};
 
 use crate::rows::filled;
+use crate::sums::Sums;
 use crate::total::Total;
 use crate::{credits, scan};
 use mgn_num::TenThousandths;
 use mgn_params::ParamSet;
 use std::alloc::{AllocError, Global};
 
-// The doubled price risks of the commodities.
-fn price_risks(alloc: Global, totals: &[[Total; 16]]) -> Result<Vec<u128>, AllocError>
-    requires { (g s : ℕ) → g < length totals.now → s < 16 → unsigned_abs (total_of totals.now g s) ≤ 256 * 10 ^ 15 }
+// The doubled price risks of the commodities. Nothing is read of one of which each net is 0, as of most.
+fn price_risks(
+    alloc: Global,
+    totals: &[[Total; 16]],
+    held: &[bool],
+) -> Result<Vec<u128>, AllocError>
+    requires small { (g s : ℕ) → g < length totals.now → s < 16 → unsigned_abs (total_of totals.now g s) ≤ 256 * 10 ^ 15 }
+    requires one_each { length held.now ≡ length totals.now }
+    requires flat { (g s : ℕ) → mark_at held.now g ≡ false → g < length totals.now → s < 16 → total_of totals.now g s ≡ pos 0 }
     ensures { IfOk result (λ risks. AreRisks totals.now risks.items) }
 {
     let mut risks = filled(alloc, totals.len(), 0)?;
-    scan::fill_price_risks(&mut risks, totals);
+    scan::fill_price_risks(&mut risks, totals, held);
     Ok(risks)
 }
 
@@ -44,16 +52,16 @@ pub(crate) fn work_out_credits(
     alloc: Global,
     set: &ParamSet,
     deltas: &[TenThousandths],
-    totals: &[[Total; 16]],
+    sums: &Sums,
 ) -> Result<Vec<u128>, AllocError>
-    requires { (nets : List ℤ) × AreNetDeltas set.now nets deltas.now × AreTotals set.now nets totals.now }
-    ensures { IfOk result (λ row. (nets : List ℤ) → AreNetDeltas set.now nets deltas.now → AreTotals set.now nets totals.now →
+    requires { (nets : List ℤ) × AreNetDeltas set.now nets deltas.now × AreSums set.now nets sums.now }
+    ensures { IfOk result (λ row. (nets : List ℤ) → AreNetDeltas set.now nets deltas.now → AreSums set.now nets sums.now →
         AreCredits set.now nets row.items) }
 {
     set.limits();
     if set.credits().is_empty() {
         return filled(alloc, set.commodity_count(), 0);
     }
-    let risks = price_risks(alloc, totals)?;
+    let risks = price_risks(alloc, &sums.totals, &sums.held)?;
     credit_row(alloc, set, deltas, &risks)
 }

@@ -1,8 +1,6 @@
 ghost use Rattle.std.specs.Prelude.{◌≡◌, ◌<◌, length, replicate, IfOk};
-ghost use Rattle.mgn_span.specs.Scan.{value_at};
 ghost use Rattle.mgn_plain.specs.Kept.{mark_at};
 
-use mgn_num::Quantity;
 use std::alloc::{AllocError, Global};
 
 // A row of equal values.
@@ -12,14 +10,6 @@ pub(crate) fn filled<T: Copy>(alloc: Global, count: usize, value: T) -> Result<V
     let mut row = Vec::new(alloc);
     row.resize(count, value)?;
     Ok(row)
-}
-
-// The net of a contract.
-pub(crate) fn net_at(nets: &[Quantity], contract: usize) -> Quantity
-    requires { contract < length nets.now }
-    ensures { result ≡ value_at nets.now contract }
-{
-    nets[contract]
 }
 
 // Whether a commodity is marked.

@@ -1,11 +1,13 @@
-ghost use Rattle.std.specs.Prelude.{◌≡◌, ℕ, ◌+◌, ◌*◌, ◌<◌, ◌≤◌, ◌^◌, ℤ, pos, ◌+ℤ◌, ◌*ℤ◌, unsigned_abs, length, All, replicate, slice_index};
+ghost use Rattle.std.specs.Prelude.{◌≡◌, ℕ, ◌+◌, ◌*◌, ◌<◌, ◌≤◌, ◌^◌, ℤ, pos, ◌+ℤ◌, ◌*ℤ◌, unsigned_abs, length, All, replicate, slice_index, false};
 ghost use Rattle.std.specs.Int.{int_max};
 ghost use Rattle.mgn_params.specs.Tables.{contract_at};
 ghost use Rattle.mgn_span.specs.Positions.{IsNet};
 ghost use Rattle.mgn_span.specs.Scan.{value_at, active, pair_of, price_risk2};
 ghost use Rattle.mgn_span.specs.Words.{price_risk2_at, scenario_share, total_of, totals_of};
+ghost use Rattle.mgn_plain.specs.Kept.{mark_at};
 ghost use Rattle.mgn_plain.specs.Scans.{scanned};
 
+use crate::rows::mark_at;
 use crate::scanned::ScanFigures;
 use crate::total::Total;
 use mgn_num::{Cents, Quantity};
@@ -125,14 +127,18 @@ pub(crate) fn totals_row(totals: &[[Total; 16]], commodity: usize) -> &[Total; 1
     &totals[commodity]
 }
 
-// Twice the price risk of each commodity.
-pub(crate) fn fill_price_risks(risks: &mut [u128], totals: &[[Total; 16]])
-    requires one_each { length risks.old ≡ length totals.now }
+// Twice the price risk of each commodity, of which those without a mark have totals of 0.
+pub(crate) fn fill_price_risks(risks: &mut [u128], totals: &[[Total; 16]], held: &[bool])
+    requires zeros { risks.old ≡ replicate (length totals.now) 0 }
+    requires one_each { length held.now ≡ length totals.now }
     requires small { (g s : ℕ) → g < length totals.now → s < 16 → unsigned_abs (total_of totals.now g s) ≤ 256 * 10 ^ 15 }
+    requires flat { (g s : ℕ) → mark_at held.now g ≡ false → g < length totals.now → s < 16 → total_of totals.now g s ≡ pos 0 }
     ensures one_each { length risks.new ≡ length totals.now }
     ensures risks { (g : ℕ) → g < length totals.now → slice_index risks.new g ≡ unsigned_abs (price_risk2 (total_of totals.now g)) }
 {
     for g in 0..totals.len() {
-        risks[g] = scan_figures(totals_row(totals, g)).price_risk2.size();
+        if mark_at(held, g) {
+            risks[g] = scan_figures(totals_row(totals, g)).price_risk2.size();
+        }
     }
 }

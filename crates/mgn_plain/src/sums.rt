@@ -3,11 +3,11 @@ ghost use Rattle.mgn_plain.specs.Parts.{AreNets, AreSums};
 ghost use Rattle.mgn_plain.specs.Sums.{AreSumsTo};
 
 use crate::delta::Delta;
-use crate::held::next_held;
-use crate::rows::{filled, net_at};
+use crate::rows::filled;
 use crate::total::Total;
 use crate::{deltas, options, scan};
-use mgn_num::{Cents, Quantity};
+use mgn_nets::Nets;
+use mgn_num::Cents;
 use mgn_params::{ParamSet, Work};
 use std::alloc::{AllocError, Global};
 
@@ -40,13 +40,13 @@ fn nothing(alloc: Global, set: &ParamSet) -> Result<Sums, AllocError>
 }
 
 // Adds what the position in the contract at `i` counts for, after all those before it.
-fn add_position(sums: &mut Sums, set: &ParamSet, nets: &[Quantity], i: usize, work: &mut Work)
+fn add_position(sums: &mut Sums, set: &ParamSet, nets: &Nets, i: usize, work: &mut Work)
     requires contract { i < length set.now.contracts }
     requires sums { AreSumsTo set.now nets.now i sums.old }
     ensures { AreSumsTo set.now nets.now (i + 1) sums.new }
 {
     set.limits();
-    let net = net_at(nets, i);
+    let net = nets.at(i);
     let contract = set.contract_at(i);
     scan::add_position(&mut sums.totals, set, i, net, work);
     deltas::add_position(&mut sums.deltas, contract, net);
@@ -58,14 +58,15 @@ fn add_position(sums: &mut Sums, set: &ParamSet, nets: &[Quantity], i: usize, wo
 }
 
 // Adds what all positions count for. Nothing is read of a contract where the net is 0, as most are.
-fn add_positions(sums: &mut Sums, set: &ParamSet, nets: &[Quantity], work: &mut Work)
+fn add_positions(sums: &mut Sums, set: &ParamSet, nets: &Nets, work: &mut Work)
     requires sums { AreSumsTo set.now nets.now 0 sums.old }
     ensures { AreSumsTo set.now nets.now (length set.now.contracts) sums.new }
 {
-    let mut i = next_held(nets, 0);
-    while i < nets.len() {
+    set.limits();
+    let mut from = 0;
+    while let Some(i) = nets.next_held(from) {
         add_position(sums, set, nets, i, work);
-        i = next_held(nets, i + 1);
+        from = i + 1;
     }
 }
 
@@ -73,7 +74,7 @@ fn add_positions(sums: &mut Sums, set: &ParamSet, nets: &[Quantity], work: &mut 
 pub(crate) fn sums_of(
     alloc: Global,
     set: &ParamSet,
-    nets: &[Quantity],
+    nets: &Nets,
     work: &mut Work,
 ) -> Result<Sums, AllocError>
     requires { AreNets set.now nets.now }

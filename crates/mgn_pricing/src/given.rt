@@ -15,10 +15,11 @@ ghost use Rattle.mgn_pricing.specs.Given.{IsRight, desk_of, fit_plan, fits, fits
 
 use crate::desks::{is_of, priced};
 use mgn_desk::Desk;
+use mgn_nets::Nets;
 use mgn_num::Quantity;
 use mgn_params::{ParamSet, Version};
 use mgn_plan::{Known, Plan, UnitChange};
-use mgn_unit::{Change, Gain, Nets, PortfolioRow, Priced, Row};
+use mgn_unit::{Change, Gain, PortfolioRow, Priced, Row};
 
 // Whether a desk is marked under a version before this one.
 fn is_older(desk: &Desk, version: Version) -> bool
@@ -67,7 +68,7 @@ fn moved_net(row: &Nets, i: usize, contract: usize, quantity: Quantity) -> Quant
 }
 
 // Whether nets are those of a row with a quantity more of one contract.
-fn are_moved(nets: &[Quantity], row: &Nets, contract: usize, quantity: Quantity) -> bool
+fn are_moved(nets: &Nets, row: &Nets, contract: usize, quantity: Quantity) -> bool
     requires contract { contract < length row.now }
     requires small { IsQuantity (value_at row.now contract +ℤ quantity) }
     ensures { result ≡ same_nets nets.now (more_at row.now contract quantity) }
@@ -76,7 +77,7 @@ fn are_moved(nets: &[Quantity], row: &Nets, contract: usize, quantity: Quantity)
         return false;
     }
     for i in 0..nets.len() {
-        if nets[i] != moved_net(row, i, contract, quantity) {
+        if nets.at(i) != moved_net(row, i, contract, quantity) {
             return false;
         }
     }
@@ -84,7 +85,7 @@ fn are_moved(nets: &[Quantity], row: &Nets, contract: usize, quantity: Quantity)
 }
 
 // Whether nets are those of a portfolio's row after a gain in one contract.
-fn have_gained(nets: &[Quantity], row: &PortfolioRow, contract: usize, gain: &Gain) -> bool
+fn have_gained(nets: &Nets, row: &PortfolioRow, contract: usize, gain: &Gain) -> bool
     requires contract { contract < length row.now.nets }
     requires small { IsQuantity (value_at row.now.nets contract +ℤ gain.now.quantity) }
     ensures { result ≡ same_nets nets.now (more_at row.now.nets contract gain.now.quantity) }

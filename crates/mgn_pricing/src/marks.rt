@@ -24,15 +24,11 @@ pub fn mark(
     ensures of_set { OnOk result (IsMarkedBy set.now desk.new.marked) }
     ensures refused { OnErr result (desk.new ≡ desk.old) }
 {
-    let lots = nets.lots.to_vec(alloc)?;
-    let buys = nets.buys.to_vec(alloc)?;
-    let sales = nets.sales.to_vec(alloc)?;
-    let all = nets.all.to_vec(alloc)?;
-    let lists = UnitNets {
-        lots: &lots,
-        buys: &buys,
-        sales: &sales,
-        all: &all,
+    let nets = UnitNets {
+        lots: nets.lots,
+        buys: nets.buys,
+        sales: nets.sales,
+        all: nets.all,
     };
-    desk.mark(alloc, version, set, &lists)
+    desk.mark(alloc, version, set, &nets)
 }

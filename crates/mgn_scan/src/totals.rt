@@ -10,6 +10,7 @@ use crate::figures::{
     ScanRisks, active_scenario, add_scaled, both_risks, doubled_risk, largest_total,
 };
 use crate::total::Total;
+use mgn_nets::Nets;
 use mgn_num::{Cents, Quantity};
 use mgn_params::{ParamSet, Work};
 use std::alloc::{AllocError, Global};
@@ -81,7 +82,7 @@ impl ScanTotals {
     pub fn add(
         &mut self,
         set: &ParamSet,
-        nets: &[Quantity],
+        nets: &Nets,
         i: usize,
         quantity: Quantity,
         work: &mut Work,

@@ -15,6 +15,7 @@ use mgn_desk::Desk;
 use mgn_holds::Held;
 use mgn_ledger::{Image, Pass};
 use mgn_machine::{Command, Hold};
+use mgn_nets::Nets;
 use mgn_num::Quantity;
 use mgn_params::ParamSet;
 use mgn_slots::SlotNames;
@@ -82,13 +83,13 @@ fn change_by(set: &ParamSet, command: &Command, order: &Option<Hold>) -> Option<
 }
 
 // Whether a net stays within its limit with a quantity more.
-fn stays_within(nets: &[Quantity], contract: usize, quantity: Quantity) -> bool
+fn stays_within(nets: &Nets, contract: usize, quantity: Quantity) -> bool
     requires contract { contract < length nets.now }
     requires nets { All IsNet nets.now }
     requires quantity { unsigned_abs quantity ≤ 10 ^ 7 }
     ensures { IsTrue result → IsNet (value_at nets.now contract +ℤ quantity) }
 {
-    nets[contract].plus(quantity).size() <= LARGEST_NET
+    nets.at(contract).plus(quantity).size() <= LARGEST_NET
 }
 
 // Whether the nets of a marked desk stay within their limits by a change.

@@ -1,5 +1,5 @@
 -- The statement by the row of a unit is the machine's.
-use Rattle.std.proofs.Common.{◌≡◌, ℕ, List, ap, filter}
+use Rattle.std.proofs.Common.{◌≡◌, ap, filter}
 use Rattle.std.specs.Prelude.{slice_index_or}
 use Rattle.mgn_params.specs.Tables.{Tables}
 use Rattle.mgn_span.specs.Options.{net_option_value}

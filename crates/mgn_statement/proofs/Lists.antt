@@ -1,7 +1,7 @@
 -- Lists of what passes a test, as loops grow them.
-use Rattle.std.proofs.Common.{◌≡◌, ℕ, zero, suc, ◌+◌, ◌<◌, ◌≤◌, Bool, true, false, List, [], ◌∷◌, ◌++◌, length, take, map, filter, set, get_or, cond, replicate, ⊎_elim, refl, ap, sym, ◌∙◌, arith, append-nil, take_all}
+use Rattle.std.proofs.Common.{◌≡◌, ℕ, zero, suc, ◌+◌, ◌-◌, ◌<◌, ◌≤◌, Bool, true, false, List, [], ◌∷◌, ◌++◌, length, take, map, filter, set, get_or, cond, replicate, ⊎_elim, refl, ap, sym, ◌∙◌, arith, append-nil, take_all}
 use Rattle.std.specs.Prelude.{ℤ, pos, unsigned_abs, nat_lt, ◌==◌, ◌&&◌, ◌||◌}
-use Rattle.std.specs.List.{list_any, range_with_len}
+use Rattle.std.specs.List.{range_with_len}
 use Rattle.std.proofs.lemmas.List.{map-append}
 use Rattle.std.proofs.lemmas.List.Elements.{filter_more, filter-append}
 use Rattle.std.proofs.lemmas.List.FromFn.{get_or-map-range_with_len, length-map-range_with_len}
@@ -104,6 +104,22 @@ unmarked_more marks cs ns i h e none before g =
     ∙ sym (or-false (is_held (take i (positions cs ns)) g))
     ∙ ap (λ (b : Bool). is_held (take i (positions cs ns)) g || b) (sym (and-false (c == g)) ∙ ap (λ (b : Bool). (c == g) && b) (sym none))
     ∙ sym (held_more cs ns i g h e)
+
+-- several that are 0
+
+unmarked_run : (marks : List Bool) (cs : List Contract) (ns : List ℤ) (i n : ℕ) → i + n ≤ length cs → length ns ≡ length cs → ((k : ℕ) → i ≤ k → k < i + n → value_at ns k ≡ pos 0)
+    → ((g : ℕ) → get_or marks g false ≡ is_held (take i (positions cs ns)) g) → (g : ℕ) → get_or marks g false ≡ is_held (take (i + n) (positions cs ns)) g
+unmarked_run marks cs ns i zero h e flat before g = let none : i + 0 ≡ i = omega arith in rw none (before g)
+unmarked_run marks cs ns i (suc n) h e flat before g =
+    let last : i + suc n ≡ (i + n) + 1 = omega arith in
+    let none : nat_lt 0 (unsigned_abs (value_at ns (i + n))) ≡ false = ap (λ (z : ℤ). nat_lt 0 (unsigned_abs z)) (flat (i + n) (omega arith) (omega arith)) in
+    rw last (unmarked_more marks cs ns (i + n) (omega (arith, h)) e none (unmarked_run marks cs ns i n (omega (arith, h)) e (λ k low high. flat k low (omega (arith, high))) before) g)
+
+pub unmarked_to : (marks : List Bool) (cs : List Contract) (ns : List ℤ) (i j : ℕ) → i ≤ j → j ≤ length cs → length ns ≡ length cs → ((k : ℕ) → i ≤ k → k < j → value_at ns k ≡ pos 0)
+    → ((g : ℕ) → get_or marks g false ≡ is_held (take i (positions cs ns)) g) → (g : ℕ) → get_or marks g false ≡ is_held (take j (positions cs ns)) g
+unmarked_to marks cs ns i j low h e flat before g =
+    let all : i + (j - i) ≡ j = omega arith in
+    rw all at (unmarked_run marks cs ns i (j - i) (omega (arith, h, low)) e (λ k from to. flat k from (omega (arith, to, low))) before g)
 
 pub all_marked : (marks : List Bool) (cs : List Contract) (ns : List ℤ) (i : ℕ) → length cs ≤ i → length ns ≡ length cs
     → ((g : ℕ) → get_or marks g false ≡ is_held (take i (positions cs ns)) g) → (g : ℕ) → get_or marks g false ≡ is_held (positions cs ns) g

@@ -66,9 +66,8 @@ fn commodity_figures(
     ensures lines { IfOk result (λ told. told.0.items ≡ commodity_lines set.now (positions set.now.contracts lots.now.nets)) }
     ensures value { IfOk result (λ told. told.1 ≡ net_option_value (positions set.now.contracts lots.now.nets)) }
 {
-    let nets = lots.nets.to_vec(alloc)?;
-    let figures = figures(alloc, set, &nets, &mut Work::new())?;
-    let lines = commodity_lines(alloc, set, &nets, figures.commodities())?;
+    let figures = figures(alloc, set, &lots.nets, &mut Work::new())?;
+    let lines = commodity_lines(alloc, set, &lots.nets, figures.commodities())?;
     Ok((lines, figures.option_value()))
 }
 

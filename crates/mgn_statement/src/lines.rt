@@ -12,23 +12,23 @@ ghost use Rattle.mgn_statement.specs.Statement.{line_by};
 use mgn_coll::{Collateral, class_value};
 use mgn_lots::Lot;
 use mgn_machine::{ClassLine, CommodityLine};
-use mgn_num::Quantity;
+use mgn_nets::Nets;
 use mgn_params::{Class, ParamSet};
 use mgn_plain::CommodityFigures;
 use std::alloc::{AllocError, Global};
 
-// Of each commodity by its place whether a net in a contract of it is not 0. Each net is looked at once.
-fn held_commodities(set: &ParamSet, nets: &[Quantity]) -> [bool; 256]
+// Of each commodity by its place whether a net in a contract of it is not 0. Nets of 0 are passed over.
+fn held_commodities(set: &ParamSet, nets: &Nets) -> [bool; 256]
     requires one_each { length nets.now ≡ length set.now.contracts }
     ensures long { length result ≡ 256 }
     ensures held { (g : ℕ) → slice_index_or result g false ≡ is_held (positions set.now.contracts nets.now) g }
 {
     set.limits();
     let mut held = [false; 256];
-    for i in 0..set.contract_count() {
-        if 0 < nets[i].size() {
-            held[set.contract_at(i).commodity] = true;
-        }
+    let mut from = 0;
+    while let Some(i) = nets.next_held(from) {
+        held[set.contract_at(i).commodity] = true;
+        from = i + 1;
     }
     held
 }
@@ -56,7 +56,7 @@ fn line_of(set: &ParamSet, commodity: usize, figures: &CommodityFigures) -> Comm
 pub(crate) fn commodity_lines(
     alloc: Global,
     set: &ParamSet,
-    nets: &[Quantity],
+    nets: &Nets,
     figures: &[CommodityFigures],
 ) -> Result<Vec<CommodityLine>, AllocError>
     requires one_each { length nets.now ≡ length set.now.contracts }

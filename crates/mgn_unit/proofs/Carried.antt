@@ -28,9 +28,10 @@ use Rattle.mgn_machine.specs.Refusals.{has_contract, IsKnown}
 use Rattle.mgn_machine.specs.NewSet.{is_on_call, on_call}
 use Rattle.mgn_machine.specs.Room.{worth_of, requirement_of}
 use Rattle.mgn_machine.proofs.Names.{premium_in}
+use Rattle.mgn_nets.specs.Numbers.{number_at}
 use Rattle.mgn_unit.specs.declared.row.Row.{Row}
 use Rattle.mgn_unit.specs.Rows.{priced, portfolio_of, row_of, row_with_worth}
-use Rattle.mgn_unit.specs.NewSets.{AreWorths, carried, number_at, portfolio_under, row_on_call, row_under, unit_gain, value_gain}
+use Rattle.mgn_unit.specs.NewSets.{AreWorths, carried, portfolio_under, row_on_call, row_under, unit_gain, value_gain}
 use Rattle.mgn_unit.proofs.Bounded.{net-within, sum-le, worth-le}
 use Rattle.mgn_unit.proofs.Sums.{row_by-at}
 

@@ -9,7 +9,8 @@ use Rattle.std.specs.Str.{bytes_eq}
 use Rattle.mgn_params.specs.declared.tables.Contract.{Contract}
 use Rattle.mgn_params.specs.Limits.{contract_names}
 use Rattle.mgn_params.specs.Tables.{Tables}
-use Rattle.mgn_unit.specs.NewSets.{carried, number_at, own_places, places_in}
+use Rattle.mgn_nets.specs.Numbers.{number_at}
+use Rattle.mgn_unit.specs.NewSets.{carried, own_places, places_in}
 
 -- a list of which each place is its own has all places
 pub own-all : (places : List (Option ℕ)) (count : ℕ) → length places ≡ count → ((k : ℕ) → k < count → get_or places k None ≡ Some k) → places ≡ own_places count

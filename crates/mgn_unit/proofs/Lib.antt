@@ -15,5 +15,4 @@ pub mod Covered
 pub mod Gains
 pub mod InPlace
 pub mod Places
-pub mod Paged
 pub mod Parts

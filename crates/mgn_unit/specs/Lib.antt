@@ -3,5 +3,4 @@ pub mod Rows
 pub mod Changes
 pub mod Laws
 pub mod NewSets
-pub mod Pages
 pub mod Prepared

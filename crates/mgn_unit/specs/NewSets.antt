@@ -8,6 +8,7 @@ use Rattle.mgn_params.specs.Limits.{contract_names}
 use Rattle.mgn_params.specs.Tables.{Tables, contract_at}
 use Rattle.mgn_span.specs.Requirement.{requirement}
 use Rattle.mgn_span.specs.Scan.{value_at}
+use Rattle.mgn_nets.specs.Numbers.{number_at}
 use Rattle.mgn_coll.specs.Posted.{value}
 use Rattle.mgn_machine.specs.State.{AccountState}
 use Rattle.mgn_machine.specs.Portfolios.{unit_sum}
@@ -35,11 +36,6 @@ own_places count = map Some (range_with_len 0 count)
 pub record ArePlaces (old new : Tables) (places : List (Option ℕ)) (keeps : Bool) : Type 0 where
   pub are : places ≡ places_in old new
   pub kept : IsTrue keeps ↔ (places ≡ own_places (length old.contracts))
-
--- the number at a place of a row, 0 where there is no place
-abbrev pub number_at : List ℤ → Option ℕ → ℤ
-number_at row None = pos 0
-number_at row (Some i) = value_at row i
 
 -- one number for each contract of the new set: that of its name under the old set, 0 where that had none
 abbrev pub carried : Tables → Tables → List ℤ → List ℤ

@@ -5,9 +5,7 @@
 mod account;
 mod change;
 mod holding;
-mod nets;
 mod new_set;
-mod pages;
 mod prepared;
 mod prepared_units;
 mod row;
@@ -17,7 +15,6 @@ mod transfer;
 pub use account::Account;
 pub use change::{Change, Gain};
 pub use holding::filling_at_limit_keeps_room;
-pub use nets::Nets;
 pub use new_set::{Switch, has_all_contracts};
 pub use prepared::{CopiedNets, KeptNets};
 pub use prepared_units::PreparedUnits;

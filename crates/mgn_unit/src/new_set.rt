@@ -10,9 +10,9 @@ ghost use Rattle.mgn_unit.specs.Prepared.{AreCarried, IsCopied, copied};
 ghost use Rattle.mgn_unit.specs.NewSets.{AreWorths, IsPrepared, IsPreparedPortfolio, SetPair, carried, is_covered, is_covered_at, own_places, portfolio_under, row_on_call, row_under, unit_gain, value_gain};
 
 use crate::account::Account;
-use crate::nets::Nets;
 use crate::prepared::{prepare, prepare_beside};
 use crate::row::{PortfolioRow, PreparedPortfolio, PreparedUnit, Row};
+use mgn_nets::Nets;
 use mgn_num::{Cents, Quantity};
 use mgn_params::{ParamSet, Work};
 use std::alloc::{AllocError, Global};
@@ -177,34 +177,32 @@ fn gain_at(gains: &[Cents], unit: usize) -> Cents
     gains[unit]
 }
 
-impl Nets {
-    // Whether the new set has each contract of the old one in which the quantity is not 0.
-    pub(crate) fn are_covered_by(&self, old: &ParamSet, new: &ParamSet) -> bool
-        requires one_each { length self.now ≡ length old.now.contracts }
-        ensures { result ≡ is_covered old.now new.now self.now }
-    {
-        old.limits();
-        let mut from = 0;
-        while let Some(contract) = self.next_held(from) {
-            if !self.is_covered_in(contract, old, new) {
-                return false;
-            }
-            from = contract + 1;
-        }
-        true
+// Whether the quantity in a contract of the old set is 0, or the new one has it.
+fn is_contract_covered(nets: &Nets, contract: usize, old: &ParamSet, new: &ParamSet) -> bool
+    requires contract { contract < length old.now.contracts }
+    requires one_each { length nets.now ≡ length old.now.contracts }
+    ensures { result ≡ is_covered_at old.now new.now nets.now contract }
+{
+    if nets.at(contract) == Quantity::ZERO {
+        return true;
     }
+    new.contract(old.contract_at(contract).name).is_some()
+}
 
-    // Whether the quantity in a contract of the old set is 0, or the new one has it.
-    fn is_covered_in(&self, contract: usize, old: &ParamSet, new: &ParamSet) -> bool
-        requires contract { contract < length old.now.contracts }
-        requires one_each { length self.now ≡ length old.now.contracts }
-        ensures { result ≡ is_covered_at old.now new.now self.now contract }
-    {
-        if self.at(contract) == Quantity::ZERO {
-            return true;
+// Whether the new set has each contract of the old one in which the quantity is not 0.
+pub(crate) fn are_covered(nets: &Nets, old: &ParamSet, new: &ParamSet) -> bool
+    requires one_each { length nets.now ≡ length old.now.contracts }
+    ensures { result ≡ is_covered old.now new.now nets.now }
+{
+    old.limits();
+    let mut from = 0;
+    while let Some(contract) = nets.next_held(from) {
+        if !is_contract_covered(nets, contract, old, new) {
+            return false;
         }
-        new.contract(old.contract_at(contract).name).is_some()
+        from = contract + 1;
     }
+    true
 }
 
 // What was prepared of a portfolio, where that was for the nets that it carries over.
@@ -423,7 +421,7 @@ impl Row {
         requires { IsRow old.now self.now }
         ensures { result ≡ is_covered old.now new.now self.now.sizes }
     {
-        self.sizes.are_covered_by(old, new)
+        are_covered(&self.sizes, old, new)
     }
 
     /// Whether the lots require more than is there for them.

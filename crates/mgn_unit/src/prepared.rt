@@ -4,9 +4,9 @@ ghost use Rattle.std.specs.Prelude.{◌≡◌, ◌&&◌, IfOk, Ok};
 ghost use Rattle.mgn_unit.specs.NewSets.{IsPrepared, IsPreparedPortfolio, IsRequired, carried, is_covered};
 ghost use Rattle.mgn_unit.specs.Prepared.{AreCarried, AreCopied, IsCopied, copied, kept_nets};
 
-use crate::nets::Nets;
-use crate::new_set::Switch;
+use crate::new_set::{Switch, are_covered};
 use crate::row::{PreparedPortfolio, PreparedUnit, Row};
+use mgn_nets::Nets;
 use mgn_num::Cents;
 use mgn_params::{ParamSet, Work};
 use mgn_plain::requirement;
@@ -74,8 +74,7 @@ pub(crate) fn required(
     requires { IsCopied set.now nets.now }
     ensures { IfOk result (IsRequired set.now nets.now) }
 {
-    let list = nets.to_vec(alloc)?;
-    requirement(alloc, set, &list, work)
+    requirement(alloc, set, nets, work)
 }
 
 // What nets under the old set of a switch require under the new one. An error says that memory was refused.
@@ -162,10 +161,10 @@ impl CopiedNets {
         ensures { let by = is_covered old.now new.now in
             result ≡ by self.now.lots && by self.now.buys && by self.now.sales && by self.now.all }
     {
-        self.lots.are_covered_by(old, new)
-            && self.buys.are_covered_by(old, new)
-            && self.sales.are_covered_by(old, new)
-            && self.all.are_covered_by(old, new)
+        are_covered(&self.lots, old, new)
+            && are_covered(&self.buys, old, new)
+            && are_covered(&self.sales, old, new)
+            && are_covered(&self.all, old, new)
     }
 
     /// What these nets under the old set of a switch require under the new one, by the contracts' names. An error says

@@ -1,4 +1,4 @@
-use crate::nets::Nets;
+use mgn_nets::Nets;
 use mgn_num::Cents;
 
 /// One portfolio of a margin unit.

@@ -6,10 +6,10 @@ ghost use Rattle.mgn_span.specs.Scan.{value_at};
 ghost use Rattle.mgn_unit.specs.Rows.{GainsAlike, IsRow, IsPortfolioRow, IsGain, IsChange, IsRoomy, PricesPortfolio, Prices, row_figures, least_portfolio, lesser, more_at, no_row, no_portfolio, portfolio_room, row_with, row_with_worth, portfolio_with, portfolio_with_worth};
 
 use crate::change::{Change, Gain};
-use crate::nets::Nets;
 use crate::prepared::required;
 use crate::row::{PortfolioRow, Priced, Row};
 use mgn_machine::Figures;
+use mgn_nets::Nets;
 use mgn_num::Cents;
 use mgn_params::{ParamSet, Work};
 use std::alloc::{AllocError, Global};

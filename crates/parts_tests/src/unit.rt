@@ -1,7 +1,7 @@
 //! Nets on plain values.
 
 use mgn_num::Quantity;
-use mgn_unit::Nets;
+use mgn_nets::Nets;
 use std::test::Fail;
 
 #[test]

@@ -7,6 +7,7 @@ ghost use Rattle.mgn_desk.specs.Desks.{CanMoveMarked, IsMarkedBy};
 
 use crate::sets::flat_nets;
 use mgn_desk::{Desk, Moves, Requirements, UnitNets};
+use mgn_nets::Nets;
 use mgn_num::{Cents, Quantity};
 use mgn_params::{ParamSet, Version, Work};
 use mgn_plain::requirement;
@@ -61,11 +62,13 @@ impl NetList {
         Ok(NetList { nets })
     }
 
-    fn as_slice(&self) -> &[Quantity]
-        ensures nets { result.now ≡ self.now }
-        ensures limits { All IsNet result.now }
+    // The nets in pages.
+    fn paged(&self, alloc: Global) -> Result<Nets, AllocError>
+        requires { length self.now ≤ 4096 }
+        ensures nets { IfOk result (λ nets. nets ≡ self.now) }
+        ensures limits { IfOk result (All IsNet) }
     {
-        self.nets.as_slice()
+        Nets::of(alloc, &self.nets)
     }
 
     // The net of a contract.
@@ -109,11 +112,13 @@ fn marked_desk(alloc: Global, set: &ParamSet, nets: &NetList) -> Result<Desk, Al
     requires { length nets.now ≡ length set.now.contracts }
     ensures { IfOk result (λ desk. IsMarkedBy set.now desk.marked) }
 {
+    set.limits();
+    let nets = nets.paged(alloc)?;
     let nets = UnitNets {
-        lots: nets.as_slice(),
-        buys: nets.as_slice(),
-        sales: nets.as_slice(),
-        all: nets.as_slice(),
+        lots: &nets,
+        buys: &nets,
+        sales: &nets,
+        all: &nets,
     };
     let mut desk = Desk::empty(0);
     desk.mark(alloc, Version::new(0), set, &nets)?;
@@ -130,19 +135,22 @@ fn difference(new: Quantity, old: Quantity) -> Quantity
 }
 
 // Whether the net of a contract stays within its limit with a quantity more.
-fn expect_room(rt: &impl Abort, nets: &[Quantity], contract: usize, quantity: Quantity)
+fn expect_room(rt: &impl Abort, nets: &Nets, contract: usize, quantity: Quantity)
     requires nets { All IsNet nets.now }
     requires contract { contract < length nets.now }
     ensures { IsNet (value_at nets.now contract +ℤ quantity) }
 {
     assert!(rt; quantity.size() <= 20_000_000);
-    let net = nets[contract].plus(quantity);
+    let net = nets.at(contract).plus(quantity);
     assert!(rt; net.size() <= 10_000_000);
 }
 
 // Whether the nets shown are those of a list.
-fn expect_same(rt: &impl Abort, shown: &[Quantity], nets: &NetList) {
-    assert!(rt; shown == nets.as_slice());
+fn expect_same(rt: &impl Abort, shown: &Nets, nets: &NetList) {
+    assert_eq!(rt; shown.len(), nets.nets.len());
+    for i in 0..shown.len() {
+        assert_eq!(rt; shown.at(i), nets.nets[i]);
+    }
 }
 
 // How many portfolios are moved.
@@ -213,11 +221,16 @@ impl<'a> Beside<'a> {
 
     /// Marks the desk anew with the lists.
     pub(super) fn mark(&mut self, alloc: Global) -> Result<(), AllocError> {
+        self.set.limits();
+        let lots = self.lots.paged(alloc)?;
+        let buys = self.buys.paged(alloc)?;
+        let sales = self.sales.paged(alloc)?;
+        let all = self.all.paged(alloc)?;
         let nets = UnitNets {
-            lots: self.lots.as_slice(),
-            buys: self.buys.as_slice(),
-            sales: self.sales.as_slice(),
-            all: self.all.as_slice(),
+            lots: &lots,
+            buys: &buys,
+            sales: &sales,
+            all: &all,
         };
         self.desk.mark(alloc, Version::new(0), self.set, &nets)
     }
@@ -291,7 +304,8 @@ impl<'a> Beside<'a> {
     fn anew(&self, alloc: Global, nets: &NetList) -> Result<Cents, AllocError>
         requires { length nets.now ≡ length self.now.contracts }
     {
-        requirement(alloc, self.set, nets.as_slice(), &mut Work::new())
+        self.set.limits();
+        requirement(alloc, self.set, &nets.paged(alloc)?, &mut Work::new())
     }
 
     // The same of the four lists.

@@ -7,8 +7,8 @@ ghost use Rattle.mgn_option.specs.Sums.{AreSums};
 ghost use Rattle.mgn_tiers.specs.Tiers.{AreTiersOf};
 ghost use Rattle.mgn_inter.specs.Credited.{AreCreditsOf};
 
-use crate::sets::flat_nets;
 use mgn_inter::InterCredits;
+use mgn_nets::Nets;
 use mgn_num::{Quantity, TenThousandths};
 use mgn_option::OptionSums;
 use mgn_params::{ParamSet, Work};
@@ -27,7 +27,7 @@ const LARGEST_DELTA: u128 = 256_000_000_000_000;
 #[derive(Drop)]
 pub(super) struct Kept<'a> {
     set: &'a ParamSet,
-    nets: Vec<Quantity>,
+    nets: Nets,
     totals: ScanTotals,
     sums: OptionSums,
     tiers: TierStages,
@@ -43,10 +43,10 @@ impl<'a> Model for Kept<'a> {
 
     ghost Value = { List ℤ };
 
-    ghost view = { λ k. k.nets.items };
+    ghost view = { λ k. k.nets };
 
-    ghost invariant = { λ k. AreTotals k.set.now k.nets.items k.totals
-        × AreSums k.set.now k.nets.items k.sums
+    ghost invariant = { λ k. AreTotals k.set.now k.nets k.totals
+        × AreSums k.set.now k.nets k.sums
         × AreTiersOf k.set.now k.tiers
         × AreCreditsOf k.set.now k.credits };
 }
@@ -110,7 +110,8 @@ fn flat_stages(alloc: Global, set: &ParamSet) -> Result<(TierStages, InterCredit
 impl<'a> Kept<'a> {
     /// What is kept of nets of 0.
     pub(super) fn new(alloc: Global, set: &'a ParamSet) -> Result<Kept<'a>, AllocError> {
-        let nets = flat_nets(alloc, set)?;
+        set.limits();
+        let nets = Nets::flat(alloc, set.contract_count())?;
         let (totals, sums) = flat_sums(alloc, set)?;
         let (tiers, credits) = flat_stages(alloc, set)?;
         Ok(Kept {
@@ -128,13 +129,13 @@ impl<'a> Kept<'a> {
         requires { unsigned_abs quantity ≤ 2 * 10 ^ 7 }
     {
         assert!(rt; i < self.set.contract_count());
-        let net = self.nets[i].plus(quantity);
+        let net = self.nets.at(i).plus(quantity);
         assert!(rt; net.size() <= 10_000_000);
         let mut work = Work::new();
         self.totals
             .add(self.set, &self.nets, i, quantity, &mut work);
         self.sums.add(self.set, &self.nets, i, quantity);
-        self.nets[i] = net;
+        self.nets.add(i, quantity);
         assert_eq!(rt; work.arrays(), 1);
     }
 
@@ -167,7 +168,7 @@ impl<'a> Kept<'a> {
         ensures { IsNet result }
     {
         assert!(rt; i < self.set.contract_count());
-        self.nets[i]
+        self.nets.at(i)
     }
 
     /// Brings the net of a contract to so many, and all that is kept after it.

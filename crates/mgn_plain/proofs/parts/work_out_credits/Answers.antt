@@ -1,25 +1,37 @@
 use Rattle.mgn_params.specs.declared.tables.CreditSpread.{CreditSpread}
-use Rattle.std.proofs.Common.{◌≡◌, ℕ, List, ap, ◌∙◌, length, replicate, arith}
+use Rattle.std.proofs.Common.{◌≡◌, ℕ, List, ap, ◌∙◌, length, replicate, arith, sym}
+use Rattle.mgn_plain.proofs.FlatLemmas.{totals_none}
 use Rattle.mgn_plain.proofs.PartLemmas.{credit_numbers, credits_are, if_ok_along, no_credits, total_small}
 use Rattle.mgn_plain.proofs.parts.work_out_credits.Goals as goal
 
-pub price_risks-requires : goal.price_risks-requires
-price_risks-requires c =
-    λ g s h k. total_small c.args.set.now c.requires.0 c.args.totals.now g s c.limits.ensures c.requires.2 (omega (arith, c.requires.2.one_row_each)) k
+pub price_risks-requires-clause-small : goal.price_risks-requires-clause-small
+price_risks-requires-clause-small c =
+    let are = c.requires.2.totals in
+    rw c.deref.ensures.value (λ g s h k. total_small c.args.set.now c.requires.0 c.args.sums.now.totals.items g s c.limits.ensures are (omega (arith, h, are.one_row_each)) k)
+
+pub price_risks-requires-clause-one_each : goal.price_risks-requires-clause-one_each
+price_risks-requires-clause-one_each c =
+    rw (c.deref.ensures.value, c.deref-2.ensures.value) (c.requires.2.held.one_each ∙ sym c.requires.2.totals.one_row_each)
+
+pub price_risks-requires-clause-flat : goal.price_risks-requires-clause-flat
+price_risks-requires-clause-flat c =
+    rw (c.deref.ensures.value, c.deref-2.ensures.value) (totals_none c.args.set.now c.requires.0 c.args.sums.now.totals.items c.args.sums.now.held.items c.requires.2.totals c.requires.2.held)
 
 pub credit_row-requires-clause-numbers : goal.credit_row-requires-clause-numbers
 credit_row-requires-clause-numbers c =
-    rw c.deref.ensures.value (credit_numbers c.args.set.now c.requires.0 c.args.deltas.now c.args.totals.now c.in_ok-risks.risks.items c.limits.ensures c.requires.1 c.requires.2 c.in_ok-risks.ensures)
+    let risks = rw c.deref.ensures.value at c.in_ok-risks.ensures in
+    rw c.deref-3.ensures.value (credit_numbers c.args.set.now c.requires.0 c.args.deltas.now c.args.sums.now.totals.items c.in_ok-risks.risks.items c.limits.ensures c.requires.1 c.requires.2.totals risks)
 
 pub returns : goal.returns
 returns c =
+    let risks = rw c.deref.ensures.value at c.in_ok-risks.ensures in
     if_ok_along c.credit_row.result _ _
-    (λ row from nets are totalled. credits_are c.args.set.now nets c.args.deltas.now c.args.totals.now c.deref.result.now row.items are totalled (rw c.deref.ensures.value c.in_ok-risks.ensures) from)
+    (λ row from nets are summed. credits_are c.args.set.now nets c.args.deltas.now c.args.sums.now.totals.items c.deref-3.result.now row.items are summed.totals (rw c.deref-3.ensures.value risks) from)
     c.credit_row.ensures
 
 pub returns-then-is_empty : goal.returns-then-is_empty
 returns-then-is_empty c =
     let none : length c.args.set.now.credits ≡ 0 = grind (arith, ap (λ (xs : List CreditSpread). length xs) c.credits.ensures) in
     if_ok_along c.filled.result _ _
-    (λ row zeros nets are totalled. no_credits c.args.set.now nets row.items none (zeros ∙ ap (λ (n : ℕ). replicate n 0) c.commodity_count.ensures.value))
+    (λ row zeros nets are summed. no_credits c.args.set.now nets row.items none (zeros ∙ ap (λ (n : ℕ). replicate n 0) c.commodity_count.ensures.value))
     c.filled.ensures

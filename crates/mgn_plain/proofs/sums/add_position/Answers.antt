@@ -53,18 +53,18 @@ returns c =
       flat = flat_more set nets i c.contract_at-contract.result.now.commodity sums.held.items (ap (λ (x : Contract). x.commodity) c.contract_at-contract.ensures) (omega (arith, are.one_mark_each, ap (λ (x : Contract). x.commodity) c.contract_at-contract.ensures, (c.limits.ensures.contracts i no_contract inside).commodity)) are.flat;
       totals = λ g s h k.
           let here : g < length c.deref_mut.result.now = omega (arith, c.deref_mut.ensures.len, are.one_row_each) in
-          let added = rw (c.deref_mut.ensures.value, c.net_at-net.ensures) at (c.add_position.ensures.totals g s here k) in
+          let added = rw (c.deref_mut.ensures.value, c.at-net.ensures) at (c.add_position.ensures.totals g s here k) in
           rw rows (omega (arith, ints, added, are.totals g s h k, position_sum_more (scenario_share g s) set.contracts nets i inside one_each));
       deltas = λ m h.
           let here : m < length c.deref_mut-2.result.now = omega (arith, c.deref_mut-2.ensures.len, are.one_delta_each) in
-          let added = rw (c.deref_mut-2.ensures.value, c.net_at-net.ensures, c.contract_at-contract.ensures) at (c.add_position-2.ensures.deltas m here) in
+          let added = rw (c.deref_mut-2.ensures.value, c.at-net.ensures, c.contract_at-contract.ensures) at (c.add_position-2.ensures.deltas m here) in
           rw row (omega (arith, ints, added, are.deltas m h, position_sum_more (month_share m) set.contracts nets i inside one_each));
       minimums = λ g h.
           let here : g < length c.deref_mut-3.result.now = omega (arith, c.deref_mut-3.ensures.len, are.one_minimum_each) in
-          let added = rw (c.deref_mut-3.ensures.value, c.net_at-net.ensures) at (c.add_minimum.ensures.minimums g here) in
+          let added = rw (c.deref_mut-3.ensures.value, c.at-net.ensures) at (c.add_minimum.ensures.minimums g here) in
           let share = short_share_of g (commodity_at set.commodities g).short_option_charge in
           rw charges (omega (arith, added, are.minimums g h, position_count_more share set.contracts nets i inside one_each));
       value =
-          let share = rw (c.contract_at-contract.ensures, c.net_at-net.ensures) at c.share_of_value.ensures.share in
+          let share = rw (c.contract_at-contract.ensures, c.at-net.ensures) at c.share_of_value.ensures.share in
           omega (arith, ints, c.plus-sums.ensures, share, are.value, position_sum_more value_share set.contracts nets i inside one_each);
     }

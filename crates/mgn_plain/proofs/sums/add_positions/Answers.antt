@@ -1,19 +1,17 @@
-use Rattle.std.proofs.Common.{arith, ◌+◌}
+use Rattle.std.proofs.Common.{arith, length, rules}
 use Rattle.mgn_plain.proofs.PassLemmas.{sums_run}
 use Rattle.mgn_plain.proofs.sums.add_positions.Goals as goal
 
-pub loop-i-init : goal.loop-i-init
-loop-i-init c =
-    let first = c.next_held-i.ensures in
-    record {
-      within = first.within;
-      so_far = sums_run c.args.set.now c.args.nets.now 0 c.next_held-i.result c.args.sums.now (omega arith) (omega (arith, first.within, c.requires.sums.of_nets.one_each)) first.flat c.requires.sums;
-    }
+pub add_position-requires-clause-sums : goal.add_position-requires-clause-sums
+add_position-requires-clause-sums c =
+    let one_each = c.requires.sums.of_nets.one_each in
+    sums_run c.args.set.now c.args.nets.now c.loop-i.from c.in-Some.i c.loop-i.sums c.in-Some.ensures.found.0 (omega (arith, c.in-Some.ensures.found.1, one_each)) c.in-Some.ensures.before c.loop-i.invariant.so_far
 
-pub loop-i-preserved : goal.loop-i-preserved
-loop-i-preserved c =
-    let next = c.next_held-i-in-loop-i.ensures in
-    record {
-      within = next.within;
-      so_far = sums_run c.args.set.now c.args.nets.now (c.loop-i.i + 1) c.next_held-i-in-loop-i.result c.add_position.new.sums next.from (omega (arith, next.within, c.requires.sums.of_nets.one_each)) next.flat c.add_position.ensures;
-    }
+pub overflow_add-from : goal.overflow_add-from
+overflow_add-from c =
+    omega (arith, c.in-Some.ensures.found.1, c.requires.sums.of_nets.one_each, c.limits.ensures.few_contracts)
+
+pub returns : goal.returns
+returns c =
+    let one_each = c.requires.sums.of_nets.one_each in
+    sums_run c.args.set.now c.args.nets.now c.loop-i.from (length c.args.set.now.contracts) c.loop-i.sums (omega (arith, c.loop-i.invariant.within, one_each)) (omega arith) (λ k low high. c.next_held.ensures.none (search rules) k low) c.loop-i.invariant.so_far

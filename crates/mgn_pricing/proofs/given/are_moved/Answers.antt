@@ -1,7 +1,7 @@
 use Rattle.std.proofs.Common.{◌∙◌, ◌+ℤ◌, arith, length-set, pos, sym}
 use Rattle.mgn_span.specs.Scan.{value_at}
 use Rattle.mgn_unit.specs.Rows.{more_at}
-use Rattle.mgn_pricing.proofs.Fitting.{all-same, default-is, differ-here, not-here}
+use Rattle.mgn_pricing.proofs.Fitting.{all-same, differ-here, not-here}
 use Rattle.mgn_pricing.proofs.given.are_moved.Goals as goal
 
 pub returns-then-ne : goal.returns-then-ne
@@ -9,13 +9,11 @@ returns-then-ne c =
     let nets = c.args.nets.now in
     let row = more_at c.args.row.now c.args.contract c.args.quantity in
     not-here nets row c.loop-i.i (pos 0) (λ same.
-    differ-here c.index-nets-i.result c.moved_net.result c.if-ne.ensures (
-    c.index-nets-i.is ∙ default-is nets c.loop-i.i c.index-nets-i.result (pos 0) c.loop-i-test.true ∙ same ∙ sym c.moved_net.ensures
-    ))
+    differ-here c.at.result c.moved_net.result c.if-ne.ensures (c.at.ensures ∙ same ∙ sym c.moved_net.ensures))
 
 pub returns : goal.returns
 returns c =
     let nets = c.args.nets.now in
     let row = more_at c.args.row.now c.args.contract c.args.quantity in
-    all-same nets row (omega (arith, c.if-nets-len.false, c.len.ensures, length-set c.args.row.now c.args.contract (value_at c.args.row.now c.args.contract +ℤ c.args.quantity)))
+    all-same nets row (omega (arith, c.if-len.false, c.len.ensures, c.len-2.ensures, length-set c.args.row.now c.args.contract (value_at c.args.row.now c.args.contract +ℤ c.args.quantity)))
     (λ k less. c.loop-i.invariant k (omega (arith, less, c.loop-i-test.false)))

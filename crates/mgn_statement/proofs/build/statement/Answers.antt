@@ -1,8 +1,8 @@
-use Rattle.std.proofs.Common.{rules, ◌≡◌, ◌∙◌, ap, ℤ, List, filter}
+use Rattle.std.proofs.Common.{◌∙◌, ap, ℤ, List, filter}
 use Rattle.mgn_lots.specs.declared.lot.Lot.{Lot}
 use Rattle.mgn_lots.specs.Lots.{is_live}
 use Rattle.mgn_coll.specs.Posted.{Posted}
-use Rattle.mgn_machine.specs.Statements.{Told, class_lines}
+use Rattle.mgn_machine.specs.Statements.{class_lines}
 use Rattle.mgn_statement.proofs.Lists.{same_told}
 use Rattle.mgn_statement.specs.Statement.{heading_by}
 use Rattle.mgn_statement.proofs.build.statement.Goals as goal

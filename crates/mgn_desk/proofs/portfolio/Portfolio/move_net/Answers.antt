@@ -1,4 +1,4 @@
-use Rattle.std.proofs.Common.{◌≡◌, ◌∙◌, ℤ, List, ap, set, subst, sym}
+use Rattle.std.proofs.Common.{◌≡◌, ◌∙◌, ap, subst, sym}
 use Rattle.std.specs.Prelude.{◌+ℤ◌, ◌*ℤ◌}
 use Rattle.mgn_params.specs.declared.tables.Contract.{Contract}
 use Rattle.mgn_span.specs.Positions.{IsNet}
@@ -6,16 +6,15 @@ use Rattle.mgn_span.specs.Scan.{value_at}
 use Rattle.mgn_params.specs.Tables.{contract_at}
 use Rattle.mgn_desk.specs.Kept.{AreParts, Kept}
 use Rattle.mgn_desk.specs.PortfolioRows.{kept_of}
-use Rattle.mgn_desk.proofs.FrameLemmas.{changed}
 use Rattle.mgn_desk.proofs.MoveLemmas.{month_delta_after, net_delta_after, parts_after}
 use Rattle.mgn_desk.proofs.portfolio.Portfolio.move_net.Goals as goal
-use Rattle.mgn_desk.proofs.portfolio.Portfolio.move_net.Goals.{After-plus, After-scaled}
+use Rattle.mgn_desk.proofs.portfolio.Portfolio.move_net.Goals.{After-scaled}
 
 -- what was kept, by the fields
 were : (c : After-scaled) → AreParts c.args.set.now (kept_of c.self.inside)
 were c = subst (λ (x : Kept). AreParts c.args.set.now x) (sym c.self.view_is) c.requires.parts
 
-small : (c : After-scaled) → IsNet (value_at c.self.inside.nets.items c.args.i +ℤ c.args.quantity)
+small : (c : After-scaled) → IsNet (value_at c.self.inside.nets c.args.i +ℤ c.args.quantity)
 small c = subst (λ (x : Kept). IsNet (value_at x.nets c.args.i +ℤ c.args.quantity)) (sym c.self.view_is) c.requires.net
 
 -- the contract's delta at the quantity
@@ -32,16 +31,8 @@ add-requires-3-clause-net_delta c =
     let at = (goal.at.add-requires-3-clause-net_delta c).After-scaled in
     rw (delta_is at, c.contract_at-contract.ensures) (net_delta_after c.args.set.now (kept_of c.self.inside) c.args.i c.args.quantity c.limits.ensures (were at) c.requires.contract (small at))
 
--- the net that is written
-written : (c : After-plus) → set c.self.inside.nets.items c.args.i c.plus.result ≡ changed c.self.inside.nets.items c.args.i c.args.quantity
-written c =
-    let net = c.plus.ensures ∙ ap (λ (n : ℤ). n +ℤ c.args.quantity) (c.net_at.ensures ∙ ap (λ (xs : List ℤ). value_at xs c.args.i) c.deref-3.ensures.value) in
-    ap (λ (n : ℤ). set c.self.inside.nets.items c.args.i n) net
-
 pub returns-clause-parts : goal.returns-clause-parts
 returns-clause-parts c =
     let at = (goal.at.returns-clause-parts c).After-scaled in
-    let totals = rw c.deref.ensures.value at c.add.ensures.totals in
-    let sums = rw c.deref-2.ensures.value at c.add-2.ensures in
     let deltas = rw (delta_is at, c.contract_at-contract.ensures) at c.add-3.ensures.deltas in
-    parts_after c.args.set.now (kept_of c.self.inside) c.args.i c.args.quantity _ c.add.new.self c.add-2.new.self c.add-3.new.self c.limits.ensures (were at) c.requires.contract (written (goal.at.returns-clause-parts c).After-plus) totals sums c.add-3.ensures.of_set deltas
+    parts_after c.args.set.now (kept_of c.self.inside) c.args.i c.args.quantity _ c.add.new.self c.add-2.new.self c.add-3.new.self c.limits.ensures (were at) c.requires.contract c.add-4.ensures c.add.ensures.totals c.add-2.ensures c.add-3.ensures.of_set deltas

@@ -21,9 +21,9 @@ low c =
     let limit = c.limits.ensures.contracts c.args.i no_contract c.requires.contract in
     rw c.contract_at-contract.ensures limit.commodity
 
-net_is : (c : After-share_of_minimum-2) → c.net_at-before.result ≡ value_at c.args.nets.now c.args.i
+net_is : (c : After-share_of_minimum-2) → c.at-before.result ≡ value_at c.args.nets.now c.args.i
 net_is c =
-    c.net_at-before.ensures
+    c.at-before.ensures
 
 changed_net_is : (c : After-share_of_minimum-2) → c.plus-after.result ≡ value_at c.args.nets.now c.args.i +ℤ c.args.quantity
 changed_net_is c = c.plus-after.ensures ∙ ap (λ (n : ℤ). n +ℤ c.args.quantity) (net_is c)

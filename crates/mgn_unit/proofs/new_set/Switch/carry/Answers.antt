@@ -2,7 +2,8 @@ use Rattle.std.proofs.Common.{◌≡◌, ◌∙◌, ap, sym, subst, length, All,
 use Rattle.std.specs.Prelude.{ℤ}
 use Rattle.std.proofs.lemmas.Result.{IfOk-weaker}
 use Rattle.mgn_span.specs.Positions.{IsNet}
-use Rattle.mgn_unit.specs.NewSets.{SetPair, carried, number_at}
+use Rattle.mgn_nets.specs.Numbers.{number_at}
+use Rattle.mgn_unit.specs.NewSets.{SetPair, carried}
 use Rattle.mgn_unit.proofs.Carried.{places-within}
 use Rattle.mgn_unit.proofs.InPlace.{carried-in_place, carried-length}
 use Rattle.mgn_unit.proofs.new_set.Switch.carry.Goals as goal

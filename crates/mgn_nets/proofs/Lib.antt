@@ -1,0 +1,3 @@
+-- Lemmas on nets in pages.
+pub mod Paged
+pub mod Places

@@ -1,0 +1,7 @@
+//! The nets of margin units: one quantity for each contract of a set, of which those are kept that are held.
+#![tactic(auto)]
+
+mod nets;
+mod pages;
+
+pub use nets::Nets;

@@ -1,0 +1,199 @@
+ghost use Rattle.std.specs.Prelude.{◌≡◌, ◌≢◌, ◌<◌, ◌≤◌, ◌+ℤ◌, pos, length, map, replicate, slice_set, IfOk, IfSome, IsTrue, ◌↔◌, ℕ, None};
+ghost use Rattle.std.specs.Int.{div_ceil};
+ghost use Rattle.mgn_num.specs.Amount.{IsQuantity};
+ghost use Rattle.mgn_span.specs.Scan.{value_at};
+ghost use Rattle.mgn_nets.specs.Numbers.{number_at};
+
+use crate::pages::{PAGE, add_to, are_same, cell_at, cell_count, page_count, with_room};
+use mgn_num::Quantity;
+use std::alloc::{AllocError, Global};
+use std::marker::Model;
+
+/// One quantity for each contract of a set. Contracts see the list.
+///
+/// They stand in pages of 16, of which those are kept that were written to, so that a copy and a comparison cost what is
+/// held and not what the set has. There is room for all of them from the start.
+#[derive(Drop)]
+pub struct Nets {
+    count: usize,
+    // Where the page of each 16 contracts begins in `cells`; 0, where a page of zeros stands, for one that is not kept.
+    starts: Vec<u16>,
+    cells: Vec<Quantity>,
+}
+
+impl Model for Nets {
+    ghost use Rattle.std.specs.Prelude.{List, ℤ};
+    ghost use Rattle.std.specs.Vec.{vec_capacity};
+    ghost use Rattle.mgn_nets.specs.Pages.{ArePages, listed};
+
+    ghost Value = { List ℤ };
+
+    ghost view = { λ n. listed n.count n.starts.items n.cells.items };
+
+    ghost invariant = { λ n. ArePages n.count n.starts.items n.cells.items (vec_capacity n.cells) };
+}
+
+impl Nets {
+    /// As many quantities of 0. An error says that memory was refused.
+    pub fn flat(alloc: Global, count: usize) -> Result<Nets, AllocError>
+        requires { count ≤ 4096 }
+        ensures { IfOk result (λ nets. nets ≡ replicate count (pos 0)) }
+    {
+        Nets::of_pages(alloc, count, page_count(count))
+    }
+
+    // The same in so many pages, of which none is kept.
+    fn of_pages(alloc: Global, count: usize, pages: usize) -> Result<Nets, AllocError>
+        requires few { count ≤ 4096 }
+        requires pages { pages ≡ div_ceil count 16 }
+        ensures { IfOk result (λ nets. nets ≡ replicate count (pos 0)) }
+    {
+        let starts = vec![in alloc; 0; pages]?;
+        let cells = with_room(alloc, &[Quantity::ZERO; PAGE], cell_count(pages))?;
+        Ok(Nets {
+            count,
+            starts,
+            cells,
+        })
+    }
+
+    /// These quantities, in their order. An error says that memory was refused.
+    pub fn of(alloc: Global, list: &[Quantity]) -> Result<Nets, AllocError>
+        requires { length list.now ≤ 4096 }
+        ensures { IfOk result (λ nets. nets ≡ list.now) }
+    {
+        let mut nets = Nets::flat(alloc, list.len())?;
+        for i in 0..list.len() {
+            let quantity = list[i];
+            if quantity.size() != 0 {
+                nets.add(i, quantity);
+            }
+        }
+        Ok(nets)
+    }
+
+    /// An equal list. An error says that memory was refused.
+    pub fn copy(&self, alloc: Global) -> Result<Nets, AllocError>
+        ensures { IfOk result (λ nets. nets ≡ self.now) }
+    {
+        let starts = self.starts.as_slice().to_vec(alloc)?;
+        let cells = with_room(alloc, &self.cells, cell_count(starts.len()))?;
+        Ok(Nets {
+            count: self.count,
+            starts,
+            cells,
+        })
+    }
+
+    /// How many quantities there are.
+    pub fn len(&self) -> usize
+        ensures { result ≡ length self.now }
+    {
+        self.count
+    }
+
+    /// The quantity at a place.
+    pub fn at(&self, contract: usize) -> Quantity
+        requires { contract < length self.now }
+        ensures { result ≡ value_at self.now contract }
+    {
+        cell_at(&self.starts, &self.cells, contract)
+    }
+
+    /// The quantities at these places, in their order, and 0 where there is no place. An error says that memory was
+    /// refused.
+    pub fn at_places(&self, alloc: Global, places: &[Option<usize>]) -> Result<Nets, AllocError>
+        requires { length places.now ≤ 4096 }
+        ensures { IfOk result (λ nets. nets ≡ map (number_at self.now) places.now) }
+    {
+        let mut nets = Nets::flat(alloc, places.len())?;
+        for i in 0..places.len() {
+            let quantity = self.at_place(places[i]);
+            if quantity != Quantity::ZERO {
+                nets.add(i, quantity);
+            }
+        }
+        Ok(nets)
+    }
+
+    /// Whether these are the quantities of another list at these places, in their order, and 0 where there is no place.
+    pub fn are_at_places(&self, other: &Nets, places: &[Option<usize>]) -> bool
+        ensures { IsTrue result ↔ (self.now ≡ map (number_at other.now) places.now) }
+    {
+        if self.len() != places.len() {
+            return false;
+        }
+        for i in 0..places.len() {
+            if self.at(i) != other.at_place(places[i]) {
+                return false;
+            }
+        }
+        true
+    }
+
+    fn at_place(&self, place: Option<usize>) -> Quantity
+        ensures { result ≡ number_at self.now place }
+    {
+        match place {
+            Some(contract) if contract < self.len() => self.at(contract),
+            _ => Quantity::ZERO,
+        }
+    }
+
+    /// The first contract from one on with a quantity that is not 0.
+    pub fn next_held(&self, from: usize) -> Option<usize>
+        ensures found { IfSome result (λ c. (from ≤ c) × (c < length self.now)) }
+        ensures held { IfSome result (λ c. value_at self.now c ≢ pos 0) }
+        ensures before { IfSome result (λ c. (k : ℕ) → from ≤ k → k < c → value_at self.now k ≡ pos 0) }
+        ensures none { result ≡ None → (k : ℕ) → from ≤ k → value_at self.now k ≡ pos 0 }
+    {
+        let mut contract = from;
+        while contract < self.len() {
+            if self.starts[contract / PAGE] == 0 {
+                contract = (contract / PAGE + 1) * PAGE;
+            } else if self.at(contract) == Quantity::ZERO {
+                contract += 1;
+            } else {
+                return Some(contract);
+            }
+        }
+        None
+    }
+
+    /// The quantity at a place, with another added.
+    pub fn add(&mut self, contract: usize, quantity: Quantity)
+        requires contract { contract < length self.old }
+        requires small { IsQuantity (value_at self.old contract +ℤ quantity) }
+        ensures { self.new ≡ slice_set self.old contract (value_at self.old contract +ℤ quantity) }
+    {
+        add_to(&mut self.starts, &mut self.cells, contract, quantity);
+    }
+
+    /// Quantities of 0 in place of these. It takes no memory.
+    pub fn clear(&mut self)
+        ensures { self.new ≡ replicate (length self.old) (pos 0) }
+    {
+        self.starts.fill(0);
+        self.cells.truncate(PAGE);
+    }
+
+    /// Takes over the quantities of a list that is as long. It takes no memory.
+    pub fn copy_from(&mut self, other: &Nets)
+        requires { length self.old ≡ length other.now }
+        ensures { self.new ≡ other.now }
+    {
+        self.starts.copy_from_slice(&other.starts);
+        self.cells.clear();
+        if self.cells.extend_from_slice(&other.cells).is_err() {
+            unreachable!();
+        }
+    }
+
+    /// Whether each quantity is the other's.
+    pub fn is_same(&self, other: &Nets) -> bool
+        ensures { IsTrue result ↔ (self.now ≡ other.now) }
+    {
+        self.count == other.count
+            && are_same(&self.starts, &self.cells, &other.starts, &other.cells)
+    }
+}

@@ -1,0 +1,137 @@
+//! Quantities in pages of 16: of a margin unit that holds some contracts of a set, the pages of these alone are kept.
+
+ghost use Rattle.std.specs.Prelude.{◌≡◌, ◌≢◌, ◌<◌, ◌≤◌, ◌+◌, ◌*◌, ◌/◌, ◌++◌, ◌+ℤ◌, ◌↔◌, ℕ, IfOk, IsTrue, length, pos, replicate, slice_index, slice_set};
+ghost use Rattle.std.specs.Int.{div_ceil};
+ghost use Rattle.std.specs.Vec.{vec_capacity};
+ghost use Rattle.mgn_num.specs.Amount.{IsQuantity};
+ghost use Rattle.mgn_span.specs.Scan.{value_at};
+ghost use Rattle.mgn_nets.specs.Pages.{ArePages, cell};
+
+use mgn_num::Quantity;
+use std::alloc::{AllocError, Global};
+
+/// How many neighbouring quantities a page has.
+pub(crate) const PAGE: usize = 16;
+
+// How many pages so many quantities stand in.
+pub(crate) fn page_count(count: usize) -> usize
+    ensures { result ≡ div_ceil count 16 }
+{
+    count.div_ceil(PAGE)
+}
+
+// How many quantities these pages have, with the page of zeros before them.
+pub(crate) fn cell_count(pages: usize) -> usize
+    requires { pages ≤ 4096 }
+    ensures { result ≡ 16 * pages + 16 }
+{
+    PAGE * pages + PAGE
+}
+
+// These quantities, with room for so many.
+pub(crate) fn with_room(
+    alloc: Global,
+    cells: &[Quantity],
+    room: usize,
+) -> Result<Vec<Quantity>, AllocError>
+    ensures cells { IfOk result (λ list. list.items ≡ cells.now) }
+    ensures room { IfOk result (λ list. room ≤ vec_capacity list) }
+{
+    let mut list = Vec::with_capacity(alloc, room)?;
+    list.extend_from_slice(cells)?;
+    Ok(list)
+}
+
+// The quantity of a contract.
+pub(crate) fn cell_at(starts: &[u16], cells: &[Quantity], contract: usize) -> Quantity
+    requires page { contract / 16 < length starts.now }
+    requires inside { slice_index starts.now (contract / 16) + 16 ≤ length cells.now }
+    ensures { result ≡ cell starts.now cells.now contract }
+{
+    cells[usize::from(starts[contract / PAGE]) + contract % PAGE]
+}
+
+// Keeps a page from now on, all its quantities 0 as before.
+fn open(starts: &mut Vec<u16>, cells: &mut Vec<Quantity>, page: usize)
+    requires pages { (count : ℕ) × ArePages count starts.old.items cells.old.items (vec_capacity cells.old) }
+    requires page { page < length starts.old.items }
+    requires closed { slice_index starts.old.items page ≡ 0 }
+    ensures starts { starts.new.items ≡ slice_set starts.old.items page (length cells.old.items) }
+    ensures cells { cells.new.items ≡ cells.old.items ++ replicate 16 (pos 0) }
+    ensures capacity { vec_capacity cells.new ≡ vec_capacity cells.old }
+{
+    starts[page] = cells.len() as u16;
+    for _ in 0..PAGE {
+        cells.push_reserved(Quantity::ZERO);
+    }
+}
+
+// The same, unless it is kept already.
+fn keep(starts: &mut Vec<u16>, cells: &mut Vec<Quantity>, page: usize)
+    requires pages { (count : ℕ) × ArePages count starts.old.items cells.old.items (vec_capacity cells.old) }
+    requires page { page < length starts.old.items }
+    ensures pages { (count : ℕ) → ArePages count starts.old.items cells.old.items (vec_capacity cells.old) →
+        ArePages count starts.new.items cells.new.items (vec_capacity cells.new) }
+    ensures kept { 0 < slice_index starts.new.items page }
+    ensures same { (c : ℕ) → cell starts.new.items cells.new.items c ≡ cell starts.old.items cells.old.items c }
+    ensures long { length starts.new.items ≡ length starts.old.items }
+{
+    if starts[page] == 0 {
+        open(starts, cells, page);
+    }
+}
+
+// Adds to the quantity of a contract.
+pub(crate) fn add_to(
+    starts: &mut Vec<u16>,
+    cells: &mut Vec<Quantity>,
+    contract: usize,
+    quantity: Quantity,
+)
+    requires pages { (count : ℕ) × (contract < count)
+        × ArePages count starts.old.items cells.old.items (vec_capacity cells.old) }
+    requires small { IsQuantity (cell starts.old.items cells.old.items contract +ℤ quantity) }
+    ensures pages { (count : ℕ) → contract < count →
+        ArePages count starts.old.items cells.old.items (vec_capacity cells.old) →
+        ArePages count starts.new.items cells.new.items (vec_capacity cells.new) }
+    ensures here { cell starts.new.items cells.new.items contract
+        ≡ cell starts.old.items cells.old.items contract +ℤ quantity }
+    ensures others { (other : ℕ) → other ≢ contract →
+        cell starts.new.items cells.new.items other ≡ cell starts.old.items cells.old.items other }
+{
+    keep(starts, cells, contract / PAGE);
+    let place = usize::from(starts[contract / PAGE]) + contract % PAGE;
+    cells[place] = cells[place].plus(quantity);
+}
+
+// Whether a page is the same in both.
+fn is_same_page(cells: &[Quantity], start: usize, others: &[Quantity], other_start: usize) -> bool
+    requires inside { start + 16 ≤ length cells.now }
+    requires other_inside { other_start + 16 ≤ length others.now }
+    ensures { IsTrue result ↔ ((i : ℕ) → i < 16 → value_at cells.now (start + i) ≡ value_at others.now (other_start + i)) }
+{
+    cells[start..start + PAGE] == others[other_start..other_start + PAGE]
+}
+
+// Whether all quantities are the same in both.
+pub(crate) fn are_same(
+    starts: &[u16],
+    cells: &[Quantity],
+    other_starts: &[u16],
+    others: &[Quantity],
+) -> bool
+    requires long { length starts.now ≡ length other_starts.now }
+    requires inside { (page : ℕ) → slice_index starts.now page + 16 ≤ length cells.now }
+    requires other_inside { (page : ℕ) → slice_index other_starts.now page + 16 ≤ length others.now }
+    requires zero { (i : ℕ) → i < 16 → value_at cells.now i ≡ value_at others.now i }
+    ensures { IsTrue result ↔ ((c : ℕ) → c / 16 < length starts.now →
+        cell starts.now cells.now c ≡ cell other_starts.now others.now c) }
+{
+    for page in 0..starts.len() {
+        let (start, other) = (usize::from(starts[page]), usize::from(other_starts[page]));
+        if start + other != 0 && !is_same_page(cells, start, others, other) {
+            return false;
+        }
+    }
+    true
+}

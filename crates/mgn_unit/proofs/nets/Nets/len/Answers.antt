@@ -1,6 +1,0 @@
-use Rattle.std.proofs.Common.{sym}
-use Rattle.mgn_unit.proofs.Paged.{row-long}
-use Rattle.mgn_unit.proofs.nets.Nets.len.Goals as goal
-
-pub returns : goal.returns
-returns c = sym (row-long c.self.inside.count c.self.inside.starts.items c.self.inside.cells.items c.args.self.now c.self.view_is)

@@ -1,6 +1,0 @@
-use Rattle.std.proofs.Common.{◌≡◌, ◌<◌, ◌/◌, ℕ}
-use Rattle.mgn_unit.specs.Pages.{cell}
-use Rattle.mgn_unit.proofs.pages.are_same.Given as goal
-
-abbrev pub invariant-loop-page : goal.invariant-loop-page
-invariant-loop-page l = (k : ℕ) → k / 16 < l.page → cell l.starts l.cells k ≡ cell l.other_starts l.others k
