@@ -190,7 +190,7 @@ fn prepared(alloc: Global, set: &ParamSet, quantity: i8) -> Result<PreparedPortf
     ensures { IfOk result (IsPreparedPortfolio set.now) }
 {
     let nets = nets_of(alloc, set, quantity)?;
-    let requirement = requirement(alloc, set, nets, &mut Work::new())?;
+    let requirement = requirement(alloc, set, &nets, &mut Work::new())?;
     Ok(PreparedPortfolio { nets, requirement })
 }
 
