@@ -1,18 +1,16 @@
 ghost use Rattle.std.specs.Prelude.{◌≡◌, ℕ, ◌*◌, ◌<◌, ◌≤◌, ◌^◌, ℤ, List, unsigned_abs, length, IfOk};
-ghost use Rattle.mgn_span.specs.Words.{total_of};
 ghost use Rattle.mgn_plain.specs.Parts.{AreCredits, AreCreditsFrom, AreNetDeltas, AreRisks, AreTotals};
 ghost use Rattle.mgn_plain.specs.Rests.{AreCreditNumbers};
 
-use crate::rows::filled;
-use crate::total::Total;
 use crate::{credits, scan};
 use mgn_num::TenThousandths;
 use mgn_params::ParamSet;
+use mgn_params::rows::filled;
+use mgn_span::Total;
 use std::alloc::{AllocError, Global};
 
 // The doubled price risks of the commodities.
 fn price_risks(alloc: Global, totals: &[[Total; 16]]) -> Result<Vec<u128>, AllocError>
-    requires { (g s : ℕ) → g < length totals.now → s < 16 → unsigned_abs (total_of totals.now g s) ≤ 256 * 10 ^ 15 }
     ensures { IfOk result (λ risks. AreRisks totals.now risks.items) }
 {
     let mut risks = filled(alloc, totals.len(), 0)?;

@@ -1,18 +1,8 @@
-ghost use Rattle.std.specs.Prelude.{◌≡◌, ◌<◌, length, replicate, IfOk};
+ghost use Rattle.std.specs.Prelude.{◌≡◌, ◌<◌, length};
 ghost use Rattle.mgn_span.specs.Scan.{value_at};
 ghost use Rattle.mgn_plain.specs.Kept.{mark_at};
 
 use mgn_num::Quantity;
-use std::alloc::{AllocError, Global};
-
-// A row of equal values.
-pub(crate) fn filled<T: Copy>(alloc: Global, count: usize, value: T) -> Result<Vec<T>, AllocError>
-    ensures { IfOk result (λ row. row.items ≡ replicate count value) }
-{
-    let mut row = Vec::new(alloc);
-    row.resize(count, value)?;
-    Ok(row)
-}
 
 // The net of a contract.
 pub(crate) fn net_at(nets: &[Quantity], contract: usize) -> Quantity

@@ -1,11 +1,7 @@
 use Rattle.mgn_params.specs.declared.tables.CreditSpread.{CreditSpread}
 use Rattle.std.proofs.Common.{◌≡◌, ℕ, List, ap, ◌∙◌, length, replicate, arith}
-use Rattle.mgn_plain.proofs.PartLemmas.{credit_numbers, credits_are, if_ok_along, no_credits, total_small}
+use Rattle.mgn_plain.proofs.PartLemmas.{credit_numbers, credits_are, if_ok_along, no_credits}
 use Rattle.mgn_plain.proofs.parts.work_out_credits.Goals as goal
-
-pub price_risks-requires : goal.price_risks-requires
-price_risks-requires c =
-    λ g s h k. total_small c.args.set.now c.requires.0 c.args.totals.now g s c.limits.ensures c.requires.2 (omega (arith, c.requires.2.one_row_each)) k
 
 pub credit_row-requires-clause-numbers : goal.credit_row-requires-clause-numbers
 credit_row-requires-clause-numbers c =
