@@ -15,7 +15,7 @@ use Rattle.mgn_span.specs.Scan.{price_risk2, scenario_total, value_at}
 use Rattle.mgn_span.specs.Words.{net_delta}
 use Rattle.mgn_inter.specs.Credited.{AreCreditsOf}
 use Rattle.mgn_inter.specs.Rows.{Credited, named}
-use Rattle.mgn_tiers.proofs.SumLemmas.{signed_sum_below_same}
+use Rattle.mgn_span.proofs.SumLemmas.{signed_sum_below_same}
 use Rattle.mgn_desk.specs.Kept.{AreCharges, AreCreditsBy, AreParts, charge_of, IsBehind, IsPortfolio, IsReady, Kept, kept_risk, KeepsParts, KeepsRest, net_deltas_of, price_risks_of, SameBut, with_risks}
 use Rattle.mgn_desk.specs.Risks.{IsRisk}
 use Rattle.mgn_desk.proofs.CreditLemmas.{credit_of}

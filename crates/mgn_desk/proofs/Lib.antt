@@ -1,6 +1,5 @@
 -- Why what is kept is that of the nets after a change.
 pub mod SumLemmas
-pub mod SizeLemmas
 pub mod RowLemmas
 pub mod RiskLemmas
 pub mod FrameLemmas

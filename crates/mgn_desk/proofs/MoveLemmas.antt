@@ -20,7 +20,7 @@ use Rattle.mgn_tiers.specs.Tiers.{AreTiersOf, Tiers}
 use Rattle.mgn_tiers.proofs.StartLemmas.{net_moved}
 use Rattle.mgn_desk.specs.Kept.{AreParts, charge_of, Kept}
 use Rattle.mgn_desk.proofs.FrameLemmas.{changed, deltas_changed}
-use Rattle.mgn_desk.proofs.SizeLemmas.{month_delta_small, net_delta_small}
+use Rattle.mgn_span.proofs.DeltaLemmas.{month_delta_small, net_delta_small}
 
 -- the nets after a change
 changed_long : (t : Tables) (nets : List ℤ) (i : ℕ) (q : ℤ) → length nets ≡ length t.contracts → length (changed nets i q) ≡ length t.contracts

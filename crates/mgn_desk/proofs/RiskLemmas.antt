@@ -5,9 +5,9 @@ use Rattle.std.proofs.lemmas.Int.{ints}
 use Rattle.std.proofs.lemmas.List.{get_or-replicate, length-replicate}
 use Rattle.std.proofs.lemmas.List.Elements.{All-replicate, All-set}
 use Rattle.mgn_span.specs.Scan.{value_at}
-use Rattle.mgn_tiers.proofs.SumLemmas.{signed_sum_below_none}
+use Rattle.mgn_span.proofs.SumLemmas.{signed_sum_below_none, signed_sum_below_small}
 use Rattle.mgn_desk.specs.Risks.{AreSummed, IsRisk}
-use Rattle.mgn_desk.proofs.SumLemmas.{signed_sum_below_small, sum_of_row-set}
+use Rattle.mgn_desk.proofs.SumLemmas.{sum_of_row-set}
 
 pub sum_small : (risks : List ℤ) (sum : ℤ) → AreSummed risks sum → unsigned_abs sum ≤ 8 * 10 ^ 29
 sum_small risks sum are =

@@ -7,7 +7,6 @@ mod moves;
 mod portfolio;
 mod portfolios;
 mod risk_sum;
-mod rows;
 
 pub use desk::Desk;
 pub use moves::{Moves, Requirements, UnitNets};

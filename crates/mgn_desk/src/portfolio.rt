@@ -11,11 +11,11 @@ ghost use Rattle.mgn_desk.specs.Moved.{arrays_of_quantity, counted, more_of};
 ghost use Rattle.mgn_desk.specs.Risks.{IsRisk};
 
 use crate::risk_sum::RiskSum;
-use crate::rows::{fill, filled};
 use mgn_inter::{InterCredits, Reworked, spread_at};
 use mgn_nets::Nets;
 use mgn_num::{Cents, Quantity, TenThousandths};
 use mgn_option::OptionSums;
+use mgn_params::rows::{fill, filled};
 use mgn_params::{Leg, ParamSet, Work};
 use mgn_scan::ScanTotals;
 use mgn_tiers::TierStages;

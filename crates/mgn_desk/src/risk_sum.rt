@@ -2,8 +2,8 @@ ghost use Rattle.std.specs.Prelude.{◌≡◌, ◌*◌, ◌<◌, ◌≤◌, ◌^
 ghost use Rattle.mgn_num.specs.Signed.{signed_sum_below};
 ghost use Rattle.mgn_span.specs.Scan.{value_at};
 
-use crate::rows::{fill, filled};
 use mgn_num::Cents;
+use mgn_params::rows::{fill, filled};
 use std::alloc::{AllocError, Global};
 use std::marker::Model;
 

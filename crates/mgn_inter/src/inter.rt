@@ -11,11 +11,12 @@ ghost use Rattle.mgn_span.specs.Sizes.{IsDelta};
 
 use crate::kept::Kept;
 use crate::naming::{await_moved, first_place, name_again, naming_spreads, next_place, spread_at};
-use crate::rest::Rest;
 use crate::reworked::Reworked;
-use crate::rows::{bring_rests, change_credits, fill, filled, form_spread, is_reached, mark_moved};
+use crate::rows::{bring_rests, change_credits, form_spread, is_reached, mark_moved};
 use mgn_num::{Cents, TenThousandths};
 use mgn_params::ParamSet;
+use mgn_params::rows::{fill, filled};
+use mgn_span::Delta;
 use std::alloc::{AllocError, Global};
 use std::marker::Model;
 
@@ -28,9 +29,9 @@ use std::marker::Model;
 /// Nothing but `new` takes memory.
 #[derive(Drop)]
 pub struct InterCredits {
-    deltas: Vec<Rest>,
+    deltas: Vec<Delta>,
     risks: Vec<u64>,
-    rests: Vec<Rest>,
+    rests: Vec<Delta>,
     credits: Vec<u128>,
     kept: Vec<Kept>,
     // For each commodity the spreads that name it.
@@ -57,9 +58,9 @@ impl InterCredits {
         set.limits();
         let count = set.commodity_count();
         Ok(InterCredits {
-            deltas: filled(alloc, count, Rest::ZERO)?,
+            deltas: filled(alloc, count, Delta::ZERO)?,
             risks: filled(alloc, count, 0)?,
-            rests: filled(alloc, count, Rest::ZERO)?,
+            rests: filled(alloc, count, Delta::ZERO)?,
             credits: filled(alloc, count, 0)?,
             kept: filled(alloc, set.credits().len(), Kept::NOTHING)?,
             naming: naming_spreads(alloc, set)?,
@@ -87,16 +88,16 @@ impl InterCredits {
         ensures price_risks { self.new.risks ≡ replicate (length set.now.commodities) 0 }
     {
         set.limits();
-        fill(&mut self.deltas, Rest::ZERO);
+        fill(&mut self.deltas, Delta::ZERO);
         fill(&mut self.risks, 0);
-        fill(&mut self.rests, Rest::ZERO);
+        fill(&mut self.rests, Delta::ZERO);
         fill(&mut self.credits, 0);
         fill(&mut self.kept, Kept::NOTHING);
         name_again(&mut self.naming, set);
     }
 
     // Writes the numbers of a commodity, and its net delta as its rest.
-    fn write_numbers(&mut self, g: usize, delta: Rest, risk: u64)
+    fn write_numbers(&mut self, g: usize, delta: Delta, risk: u64)
         requires delta { g < length self.old.deltas }
         requires risk { g < length self.old.risks }
         requires rest { g < length self.old.rests }
@@ -222,7 +223,7 @@ impl InterCredits {
         ensures once { IsStrictlyIncreasing result }
     {
         set.limits();
-        self.write_numbers(g, Rest::new(net_delta), price_risk2.size() as u64);
+        self.write_numbers(g, Delta::new(net_delta), price_risk2.size() as u64);
         if self.naming[g] == 0 {
             return Reworked::none();
         }

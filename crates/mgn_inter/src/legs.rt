@@ -8,8 +8,8 @@ ghost use Rattle.mgn_span.specs.Scan.{value_at};
 ghost use Rattle.mgn_span.specs.Stages.{used};
 ghost use Rattle.mgn_span.specs.Sizes.{IsDelta};
 
-use crate::rest::Rest;
 use mgn_params::{Leg, LegSide};
+use mgn_span::Delta;
 
 // Below these 64 bits hold their product, which saves the long division of 128 bits. Nearly all numbers are.
 const SHORT_PART: u64 = 10_000_000_000;
@@ -17,7 +17,7 @@ const SHORT_PART: u64 = 10_000_000_000;
 const SHORT_RISK: u64 = 1_000_000_000;
 
 /// The rest of a commodity.
-pub(crate) fn rest_at(rests: &[Rest], commodity: usize) -> Rest
+pub(crate) fn rest_at(rests: &[Delta], commodity: usize) -> Delta
     requires { commodity < length rests.now }
     ensures { result ≡ value_at rests.now commodity }
 {
@@ -34,7 +34,7 @@ fn is_long_leg(a_long: bool, side: LegSide) -> bool
 }
 
 // Whether the rest of a leg's commodity has the leg's direction.
-fn leg_fits(a_long: bool, rests: &[Rest], leg: &Leg) -> bool
+fn leg_fits(a_long: bool, rests: &[Delta], leg: &Leg) -> bool
     requires { leg.now.commodity < length rests.now }
     ensures { result ≡ fits a_long rests.now leg.now }
 {
@@ -46,7 +46,7 @@ fn leg_fits(a_long: bool, rests: &[Rest], leg: &Leg) -> bool
     }
 }
 
-fn all_fit(a_long: bool, rests: &[Rest], legs: &[Leg]) -> bool
+fn all_fit(a_long: bool, rests: &[Delta], legs: &[Leg]) -> bool
     requires { All (λ leg. leg.commodity < length rests.now) legs.now }
     ensures { result ≡ list_all (fits a_long rests.now) legs.now }
 {
@@ -54,7 +54,7 @@ fn all_fit(a_long: bool, rests: &[Rest], legs: &[Leg]) -> bool
 }
 
 /// Whether a spread forms: all legs of side A of one sign, and all of side B of the other.
-pub(crate) fn spread_forms(rests: &[Rest], legs: &[Leg]) -> bool
+pub(crate) fn spread_forms(rests: &[Delta], legs: &[Leg]) -> bool
     requires { All (λ leg. leg.commodity < length rests.now) legs.now }
     ensures { result ≡ forms rests.now legs.now }
 {
@@ -62,7 +62,7 @@ pub(crate) fn spread_forms(rests: &[Rest], legs: &[Leg]) -> bool
 }
 
 // How many spreads a leg alone would form, in ten-thousandths.
-fn amount_of_leg(rests: &[Rest], leg: &Leg) -> u64
+fn amount_of_leg(rests: &[Delta], leg: &Leg) -> u64
     requires commodity { leg.now.commodity < length rests.now }
     requires ratio { 0 < leg.now.ratio }
     ensures amount { result ≡ leg_amount rests.now leg.now }
@@ -73,7 +73,7 @@ fn amount_of_leg(rests: &[Rest], leg: &Leg) -> u64
 
 /// How many spreads the legs form together: the least of what each alone would.
 #[tactic(auto, using(std::proofs::lemmas::List::Sums::fold_more))]
-pub(crate) fn amount_of_legs(rests: &[Rest], legs: &[Leg]) -> u64
+pub(crate) fn amount_of_legs(rests: &[Delta], legs: &[Leg]) -> u64
     requires legs { All (λ leg. leg.commodity < length rests.now) legs.now }
     requires ratios { All (λ leg. 0 < leg.ratio) legs.now }
     ensures { result ≡ spread_amount rests.now legs.now }
@@ -97,7 +97,7 @@ fn used_of(amount: &u64, leg: &Leg) -> u64
 }
 
 /// Takes the legs' uses off the rests.
-pub(crate) fn use_rests(rests: &mut [Rest], amount: &u64, legs: &[Leg])
+pub(crate) fn use_rests(rests: &mut [Delta], amount: &u64, legs: &[Leg])
     requires legs { All (λ leg. leg.commodity < length rests.old) legs.now }
     requires products { All (λ leg. amount.now * leg.ratio ≤ 256 * 10 ^ 16) legs.now }
     ensures { rests.new ≡ rests_after rests.old amount.now legs.now }
@@ -110,7 +110,7 @@ pub(crate) fn use_rests(rests: &mut [Rest], amount: &u64, legs: &[Leg])
 
 // A leg's credit: the part of its commodity's doubled price risk that its use is of the net delta, at half the rate.
 #[tactic(auto, using(crate::proofs::SpreadLemmas::leg_credit_tight))]
-fn credit_of_leg(deltas: &[Rest], risks: &[u64], rate: &u64, amount: &u64, leg: &Leg) -> u64
+fn credit_of_leg(deltas: &[Delta], risks: &[u64], rate: &u64, amount: &u64, leg: &Leg) -> u64
     requires leg { IsCreditable deltas.now risks.now amount.now leg.now }
     requires rate { rate.now ≤ 10000 }
     ensures credit { result ≡ leg_credit deltas.now risks.now rate.now amount.now leg.now }
@@ -127,7 +127,7 @@ fn credit_of_leg(deltas: &[Rest], risks: &[u64], rate: &u64, amount: &u64, leg: 
 
 /// What each leg of a formed spread is credited.
 pub(crate) fn credits_of_legs(
-    deltas: &[Rest],
+    deltas: &[Delta],
     risks: &[u64],
     rate: &u64,
     amount: &u64,

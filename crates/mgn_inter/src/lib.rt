@@ -5,7 +5,6 @@ mod inter;
 mod kept;
 mod legs;
 mod naming;
-mod rest;
 mod reworked;
 mod rows;
 

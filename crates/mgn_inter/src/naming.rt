@@ -6,7 +6,7 @@ ghost use Rattle.mgn_inter.specs.Rows.{Misses, leg_at, moved_at, names};
 ghost use Rattle.mgn_params.specs.Limits.{IsCreditSpread};
 ghost use Rattle.mgn_params.specs.Tables.{credit_spread_at};
 
-use crate::rows::{fill, filled};
+use mgn_params::rows::{fill, filled};
 use mgn_params::{CreditSpread, Leg, ParamSet};
 use std::alloc::{AllocError, Global};
 

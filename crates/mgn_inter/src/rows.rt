@@ -10,27 +10,8 @@ ghost use Rattle.mgn_span.specs.Scan.{value_at};
 ghost use Rattle.mgn_params.specs.Tables.{legs_of};
 
 use crate::legs::{amount_of_legs, credits_of_legs, rest_at, spread_forms, use_rests};
-use crate::rest::Rest;
 use mgn_params::{CreditSpread, Leg};
-use std::alloc::{AllocError, Global};
-
-/// A row of equal values.
-pub(crate) fn filled<T: Copy>(alloc: Global, count: usize, value: T) -> Result<Vec<T>, AllocError>
-    ensures { IfOk result (λ row. row.items ≡ replicate count value) }
-{
-    let mut row = Vec::new(alloc);
-    row.resize(count, value)?;
-    Ok(row)
-}
-
-/// Writes one value at each place.
-pub(crate) fn fill<T: Copy>(row: &mut Vec<T>, value: T)
-    ensures { row.new.items ≡ replicate (length row.old.items) value }
-{
-    for place in row.iter_mut() {
-        *place = value;
-    }
-}
+use mgn_span::Delta;
 
 /// Whether a leg is of the commodity at a place, or of one whose rest has moved.
 pub(crate) fn is_reached(moved: &[bool], g: usize, legs: &[Leg]) -> bool
@@ -42,7 +23,7 @@ pub(crate) fn is_reached(moved: &[bool], g: usize, legs: &[Leg]) -> bool
 }
 
 // The rest of a commodity at a spread's turn: that of the row if it has moved, else the one that is kept.
-fn rest_at_turn(moved: &[bool], rests: &[Rest], commodity: usize, kept: Rest) -> Rest
+fn rest_at_turn(moved: &[bool], rests: &[Delta], commodity: usize, kept: Delta) -> Delta
     requires mark { commodity < length moved.now }
     requires rest { commodity < length rests.now }
     ensures { result ≡ (if moved_at moved.now commodity then value_at rests.now commodity else kept) }
@@ -55,7 +36,7 @@ fn rest_at_turn(moved: &[bool], rests: &[Rest], commodity: usize, kept: Rest) ->
 }
 
 /// Gives the legs' commodities their rests at a spread's turn, and keeps these.
-pub(crate) fn bring_rests(moved: &[bool], rests: &mut [Rest], legs: &[Leg], kept: &mut [Rest; 4])
+pub(crate) fn bring_rests(moved: &[bool], rests: &mut [Delta], legs: &[Leg], kept: &mut [Delta; 4])
     requires few { length legs.now ≤ 4 }
     requires marks { All (λ leg. leg.commodity < length moved.now) legs.now }
     requires legs { All (λ leg. leg.commodity < length rests.old) legs.now }
@@ -75,9 +56,9 @@ pub(crate) fn bring_rests(moved: &[bool], rests: &mut [Rest], legs: &[Leg], kept
 
 /// Forms a spread, if it can be: takes what it uses off the rests, and tells what its legs are credited.
 pub(crate) fn form_spread(
-    deltas: &[Rest],
+    deltas: &[Delta],
     risks: &[u64],
-    rests: &mut [Rest],
+    rests: &mut [Delta],
     spread: &CreditSpread,
 ) -> [u64; 4]
     requires spread { IsCreditSpread (length deltas.now) spread.now }
@@ -144,7 +125,7 @@ pub(crate) fn change_credits(
 
 /// Marks the legs' commodities whose rests are not those that are kept, takes the marks off the others, and keeps the
 /// rests.
-pub(crate) fn mark_moved(moved: &mut [bool], rests: &[Rest], legs: &[Leg], kept: &mut [Rest; 4])
+pub(crate) fn mark_moved(moved: &mut [bool], rests: &[Delta], legs: &[Leg], kept: &mut [Delta; 4])
     requires few { length legs.now ≤ 4 }
     requires marks { All (λ leg. leg.commodity < length moved.old) legs.now }
     requires legs { All (λ leg. leg.commodity < length rests.now) legs.now }

@@ -2,7 +2,6 @@
 #![tactic(auto)]
 
 mod minimum;
-mod shares;
 mod sums;
 
 pub use sums::OptionSums;

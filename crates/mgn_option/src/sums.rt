@@ -7,10 +7,11 @@ ghost use Rattle.mgn_params.specs.Tables.{Tables};
 ghost use Rattle.mgn_option.specs.Sums.{AreSums};
 
 use crate::minimum::Minimum;
-use crate::shares::{share_of_minimum, share_of_value};
 use mgn_nets::Nets;
 use mgn_num::{Cents, Quantity};
 use mgn_params::ParamSet;
+use mgn_params::rows::{fill, filled};
+use mgn_span::shares::{share_of_minimum, share_of_value};
 use std::alloc::{AllocError, Global};
 use std::marker::Model;
 
@@ -35,22 +36,6 @@ impl Model for OptionSums {
     ghost invariant = { λ s. IsOptionValue s.value };
 }
 
-// Minimums of 0.
-fn flat_minimums(alloc: Global, count: usize) -> Result<Vec<Minimum>, AllocError>
-    ensures { IfOk result (λ minimums. minimums.items ≡ replicate count 0) }
-{
-    let mut minimums = Vec::new(alloc);
-    minimums.resize(count, Minimum::ZERO)?;
-    Ok(minimums)
-}
-
-// Writes one value at each place.
-fn fill<T: Copy>(row: &mut Vec<T>, value: T)
-    ensures { row.new.items ≡ replicate (length row.old.items) value }
-{
-    for place in row.iter_mut() {
-        *place = value;
-    }
 }
 
 fn minimum_at(minimums: &[Minimum], commodity: usize) -> Minimum
@@ -65,7 +50,7 @@ impl OptionSums {
     pub fn new(alloc: Global, set: &ParamSet) -> Result<Self, AllocError>
         ensures { IfOk result (AreSums set.now (replicate (length set.now.contracts) (pos 0))) }
     {
-        let minimums = flat_minimums(alloc, set.commodity_count())?;
+        let minimums = filled(alloc, set.commodity_count(), Minimum::ZERO)?;
         Ok(OptionSums {
             minimums,
             value: Cents::ZERO,

@@ -3,6 +3,8 @@
 
 mod array;
 mod commodity_rows;
+mod kinds;
+pub mod rows;
 mod set;
 mod shelf;
 mod tables;

@@ -1,17 +1,18 @@
 -- What deltas come to, and how large they are.
-use Rattle.std.proofs.Common.{◌≡◌, ◌≢◌, ℕ, zero, suc, ◌+◌, ◌-◌, ◌*◌, ◌<◌, ◌≤◌, ◌^◌, List, [], length, take, pos, ℤ, ap, ◌∙◌, arith, take_all, add-one, unsigned_abs}
-use Rattle.std.specs.Prelude.{◌*ℤ◌, ◌==◌, if◌then◌else◌, nat_lt}
-use Rattle.std.specs.List.{count_by}
+use Rattle.std.proofs.Common.{◌≡◌, ℕ, zero, suc, ◌+◌, ◌-◌, ◌*◌, ◌<◌, ◌≤◌, ◌^◌, List, length, take, pos, ℤ, ap, ◌∙◌, arith, take_all, add-one, unsigned_abs, ⊎_elim}
+use Rattle.std.specs.Prelude.{nat_lt}
+use Rattle.std.proofs.lemmas.Bool.{cases_lt}
 use Rattle.std.proofs.lemmas.Int.{ints}
+use Rattle.std.proofs.lemmas.List.{get_or_past}
 use Rattle.std.proofs.lemmas.List.FromFn.{fill_by_all}
 use Rattle.std.proofs.lemmas.Slice.Zip.{length-zip}
-use Rattle.mgn_num.specs.Signed.{signed_sum_by, signed_sum_below, sum_below}
-use Rattle.mgn_num.proofs.SignedLemmas.{signed_sum_below_more, size-*ℤ-le, sum_below_more}
+use Rattle.mgn_num.specs.Signed.{signed_sum_below, sum_below}
+use Rattle.mgn_num.proofs.SignedLemmas.{signed_sum_below_more, sum_below_more}
 use Rattle.mgn_params.specs.declared.tables.Contract.{Contract}
 use Rattle.mgn_params.specs.declared.tables.Month.{Month}
 use Rattle.mgn_span.specs.Deltas.{month_delta, starts_from}
-use Rattle.mgn_params.specs.Limits.{IsContract, IsWithinLimits}
-use Rattle.mgn_span.specs.Positions.{Position, positions, IsNet}
+use Rattle.mgn_params.specs.Limits.{IsWithinLimits}
+use Rattle.mgn_span.specs.Positions.{Position, positions}
 use Rattle.mgn_span.specs.Scan.{value_at}
 use Rattle.mgn_span.specs.Words.{long_share, month_share, net_delta, net_share, short_share, start_of, starts_of}
 use Rattle.mgn_params.specs.Tables.{Tables, contract_at, no_contract, month_at}
@@ -20,8 +21,9 @@ use Rattle.mgn_plain.specs.declared.deltas.MonthSums.{MonthSums}
 use Rattle.mgn_plain.specs.Months.{AreMonthSums, AreMonthSumsTo}
 use Rattle.mgn_plain.specs.Parts.{AreDeltas, AreNets}
 use Rattle.mgn_span.proofs.PositionLemmas.{position_sum_more}
-use Rattle.mgn_span.proofs.ShareLemmas.{share_sum_by_count, month_share_small}
-use Rattle.mgn_plain.proofs.SumLemmas.{sum_below_same, signed_sum_below_same, sum_below_le, sum_below_none, signed_sum_below_none, sum_below_grown, signed_sum_below_grown, sum_below_one, signed_sum_below_one, sum_below_if, sum_below_fewer, signed_sum_below_small}
+use Rattle.mgn_span.proofs.DeltaLemmas.{month_delta_small}
+use Rattle.mgn_span.proofs.ShareLemmas.{month_share_small}
+use Rattle.mgn_span.proofs.SumLemmas.{sum_below_same, signed_sum_below_same, sum_below_le, sum_below_none, sum_below_grown, sum_below_one, sum_below_if, sum_below_fewer, signed_sum_below_small}
 use Rattle.mgn_span.specs.MonthDeltas.{leg_share, month_net, net_share_by, start_share}
 
 -- a month counts for at most its delta's size
@@ -106,55 +108,12 @@ start_small_to t nets deltas m sums g leg limits are summed few h k =
     omega (arith, summed.starts g leg h k, fewer, start_is t nets deltas g leg are, start_small t nets g leg limits are.of_nets)
 
 -- and no net delta is large after them
-pub net_small_to : (t : Tables) (deltas : List ℤ) (m : ℕ) (sums : MonthSums) (g : ℕ) → length deltas ≡ length t.months → ((k : ℕ) → k < length deltas → unsigned_abs (value_at deltas k) ≤ 10 ^ 16) → AreMonthSumsTo t deltas m sums → m ≤ length t.months → g < length t.commodities → unsigned_abs (value_at sums.nets.items g) ≤ m * 10 ^ 16
-net_small_to t deltas m sums g one_each small summed few h =
-    let low = signed_sum_below_small (net_share_by t.months deltas g) (10 ^ 16) m (λ k p. let own = small k (omega (arith, one_each, p, few)) in omega (arith, own, net_share_size (month_at t.months k) (value_at deltas k) g)) in
+pub net_small_to : (t : Tables) (nets deltas : List ℤ) (m : ℕ) (sums : MonthSums) (g : ℕ) → IsWithinLimits t → AreDeltas t nets deltas → AreMonthSumsTo t deltas m sums → m ≤ length t.months → g < length t.commodities → unsigned_abs (value_at sums.nets.items g) ≤ m * (256 * 10 ^ 12)
+net_small_to t nets deltas m sums g limits are summed few h =
+    let low = signed_sum_below_small (net_share_by t.months deltas g) (256 * 10 ^ 12) m (λ k p.
+    let own = month_delta_small t nets k limits are.of_nets.one_each are.of_nets.small in
+    omega (arith, ints, own, are.each k (omega (arith, p, few)), net_share_size (month_at t.months k) (value_at deltas k) g)) in
     rw (summed.nets g h) low
-
--- what a position counts for in the net delta of its commodity
-net_share_of : ℕ → Position → ℤ
-net_share_of g p = if p.0.commodity == g then p.1 *ℤ p.0.delta else pos 0
-
--- the net delta is a sum over the positions, since each month is of its contracts' commodity
-net_more : (t : Tables) (nets : List ℤ) (g i : ℕ) → IsWithinLimits t → AreNets t nets → i ≤ length t.contracts → net_delta t.months (take i (positions t.contracts nets)) g ≡ signed_sum_by (net_share_of g) (take i (positions t.contracts nets))
-unfolding net_share_of
-net_more t nets g zero limits are h = signed_sum_below_none (net_share t.months [] g) (length t.months) (λ m p. grind arith)
-net_more t nets g (suc i) limits are h =
-    let held : List Position = positions t.contracts nets in
-    let c : Contract = contract_at t.contracts i in
-    let n : ℤ = value_at nets i in
-    let inside : i < length t.contracts = omega arith in
-    let before = net_more t nets g i limits are (omega arith) in
-    let limit = limits.contracts i no_contract inside in
-    let own = limit.own_month in
-    let share : ℕ → ℤ = λ m. if (month_at t.months m).commodity == g then month_share m (c, n) else pos 0 in
-    let one = signed_sum_below_one share c.month (length t.months) limit.month (λ m other. grind arith) in
-    let grown = signed_sum_below_grown (net_share t.months (take i held) g) (net_share t.months (take (suc i) held) g) share (length t.months) (λ m p. let more = rw add-one at (position_sum_more (month_share m) t.contracts nets i inside are.one_each) in grind (arith, ints, more)) in
-    let more = rw add-one at (position_sum_more (net_share_of g) t.contracts nets i inside are.one_each) in
-    let is : share c.month ≡ net_share_of g (c, n) = grind (arith, own) in
-    omega (arith, ints, before, one, grown, more, is)
-
-net_share_small : (commodities : ℕ) (months : List Month) (g : ℕ) (c : Contract) (n : ℤ) → IsContract commodities months c → IsNet n → unsigned_abs (net_share_of g (c, n)) ≤ 10 ^ 12
-unfolding net_share_of
-net_share_small commodities months g c n limits small =
-    let product = size-*ℤ-le n c.delta (10 ^ 7) (10 ^ 5) small limits.delta in
-    grind (arith, ints, product)
-
-net_share_out : (g : ℕ) (c : Contract) (n : ℤ) → c.commodity ≢ g → net_share_of g (c, n) ≡ pos 0
-unfolding net_share_of
-net_share_out g c n e = grind arith
-
--- no net delta is larger than the 256 contracts of a commodity at their limits
-pub net_small : (t : Tables) (nets : List ℤ) (g : ℕ) → IsWithinLimits t → AreNets t nets → unsigned_abs (net_delta t.months (positions t.contracts nets) g) ≤ 256 * 10 ^ 12
-net_small t nets g limits are =
-    let held : List Position = positions t.contracts nets in
-    let n = length t.contracts in
-    let all = ap (λ (ps : List Position). net_delta t.months ps g) (take_all n held (omega (arith, length-zip t.contracts nets))) in
-    let is = net_more t nets g n limits are (omega arith) in
-    let small = share_sum_by_count (net_share_of g) g (10 ^ 12) t.contracts nets n are.one_each (net_share_out g) (λ k h. net_share_small (length t.commodities) t.months g (contract_at t.contracts k) (value_at nets k) (limits.contracts k no_contract h) (are.small k (pos 0) (omega (arith, are.one_each)))) (omega arith) in
-    let every = ap (λ (cs : List Contract). count_by (λ (c : Contract). c.commodity == g) cs) (take_all n t.contracts (omega arith)) in
-    let few = limits.few_contracts_in_each g in
-    omega (arith, ints, all, is, small, every, few)
 
 -- the sums of all months
 pub months_all : (t : Tables) (nets deltas : List ℤ) (sums : MonthSums) → IsWithinLimits t → AreDeltas t nets deltas → AreMonthSumsTo t deltas (length t.months) sums → AreMonthSums t nets sums
@@ -162,7 +121,11 @@ months_all t nets deltas sums limits are summed = record {
   starts = record {
     one_row_each = summed.one_row_each;
     each = λ g h. starts_are t nets deltas sums.starts.items g are (summed.sixteen g h) (λ leg k. summed.starts g leg h k);
-    small = λ g leg h k. start_small_to t nets deltas (length t.months) sums g leg limits are summed (omega arith) h k;
+    small = λ g leg h.
+        ⊎_elim
+        (λ (low : leg < 16). omega (arith, start_small_to t nets deltas (length t.months) sums g leg limits are summed (omega arith) h low))
+        (λ past. rw (get_or_past (legs_row sums.starts.items g) leg 0 (omega (arith, summed.sixteen g h, past))) (omega arith))
+        (cases_lt leg 16);
   };
   net_deltas = record {
     of_nets = are.of_nets;

@@ -25,8 +25,8 @@ use Rattle.mgn_plain.specs.Kept.{mark_at}
 use Rattle.mgn_plain.specs.Parts.{AreMarks, AreNets, AreTotals}
 use Rattle.mgn_plain.proofs.DeltaLemmas.{start_share_none}
 use Rattle.mgn_plain.proofs.PassLemmas.{count_small}
-use Rattle.mgn_plain.proofs.StageLemmas.{charges_of_nothing, left_by_nothing, spot_charge_of_nothing}
-use Rattle.mgn_plain.proofs.SumLemmas.{sum_below_if, sum_below_none}
+use Rattle.mgn_span.proofs.StageSteps.{charges_of_nothing, left_by_nothing, spot_charge_of_nothing}
+use Rattle.mgn_span.proofs.SumLemmas.{sum_below_if, sum_below_none}
 
 -- each net of a commodity is 0
 pub IsFlatIn : Tables → List ℤ → ℕ → Type 0

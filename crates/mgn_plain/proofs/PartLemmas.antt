@@ -24,12 +24,12 @@ use Rattle.mgn_plain.specs.Kept.{legs_row}
 use Rattle.mgn_plain.specs.Parts.{AreCredits, AreCreditsFrom, AreNetDeltas, AreFigureRows, AreRisks, AreTotals}
 use Rattle.mgn_plain.specs.Rests.{AreCreditNumbers}
 use Rattle.mgn_plain.specs.Scans.{scanned}
-use Rattle.mgn_plain.proofs.DeltaLemmas.{net_small}
+use Rattle.mgn_span.proofs.DeltaLemmas.{net_delta_small}
 use Rattle.mgn_span.proofs.ShareLemmas.{scenario_total_small}
 use Rattle.mgn_span.proofs.ScanLemmas.{active_same, scan_risk_same, price_risk2_same, price_risk2_small}
 
 -- no kept total is large
-pub total_small : (t : Tables) (nets : List ℤ) (rows : List (List ℤ)) (g s : ℕ) → IsWithinLimits t → AreTotals t nets rows → g < length t.commodities → s < 16 → unsigned_abs (total_of rows g s) ≤ 256 * 10 ^ 15
+total_small : (t : Tables) (nets : List ℤ) (rows : List (List ℤ)) (g s : ℕ) → IsWithinLimits t → AreTotals t nets rows → g < length t.commodities → s < 16 → unsigned_abs (total_of rows g s) ≤ 256 * 10 ^ 15
 total_small t nets rows g s limits are h k =
     omega (arith, ints, are.each g s h k, scenario_total_small t nets g s limits are.of_nets.one_each are.of_nets.small)
 
@@ -43,7 +43,7 @@ credit_numbers t nets row totals risks limits netted totalled priced = record {
   one_each = priced.one_each ∙ totalled.one_row_each ∙ sym netted.one_each;
   small_deltas = λ k d h.
       let low : k < length t.commodities = omega (arith, netted.one_each) in
-      let small = net_small t nets k limits netted.of_nets in
+      let small = net_delta_small t nets k limits netted.of_nets.one_each netted.of_nets.small in
       rw (get_or_default row k d (pos 0) h) (omega (arith, ints, netted.each k low, small));
   small_risks = λ g.
       ⊎_elim

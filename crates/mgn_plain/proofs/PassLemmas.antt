@@ -1,6 +1,6 @@
 -- The pass over the positions: what one more counts for, and how large sums are.
-use Rattle.std.proofs.Common.{◌≡◌, ◌≢◌, ℕ, Bool, true, false, set, sym, get_or-set_same, get_or-set_other, zero, suc, ◌+◌, ◌-◌, ◌*◌, ◌<◌, ◌≤◌, ◌^◌, List, length, take, replicate, pos, ℤ, ap, ◌∙◌, arith, add-one, unsigned_abs, ⊎_elim}
-use Rattle.std.specs.Prelude.{slice_index}
+use Rattle.std.proofs.Common.{◌≡◌, ◌≢◌, ℕ, Bool, true, false, set, sym, get_or-set_same, get_or-set_other, zero, suc, ◌+◌, ◌-◌, ◌*◌, ◌<◌, ◌≤◌, ◌^◌, List, length, take, replicate, pos, ℤ, ap, ◌∙◌, arith, refl, add-one, eq-eqb, unsigned_abs, ⊎_elim}
+use Rattle.std.specs.Prelude.{◌+ℤ◌, ◌*ℤ◌, slice_index}
 use Rattle.std.specs.List.{sum_by}
 use Rattle.std.proofs.lemmas.Bool.{cases_eq, cases_lt, true≢false}
 use Rattle.std.proofs.lemmas.Int.{ints}
@@ -10,10 +10,12 @@ use Rattle.mgn_params.specs.declared.tables.Contract.{Contract}
 use Rattle.mgn_params.specs.Tables.{Tables, commodity_at, contract_at, no_commodity, no_contract}
 use Rattle.mgn_span.specs.Positions.{Position, positions}
 use Rattle.mgn_span.specs.Scan.{value_at}
+use Rattle.mgn_span.specs.Sizes.{IsDelta, IsTotal}
 use Rattle.mgn_span.specs.Words.{month_share, scenario_share, short_share_of, total_of, value_share}
+use Rattle.mgn_span.proofs.DeltaLemmas.{month_delta_small_to}
 use Rattle.mgn_span.proofs.FlatLemmas.{month_share_flat, share_flat, short_share_flat, value_share_flat}
 use Rattle.mgn_span.proofs.PositionLemmas.{position_count_all, position_count_more, position_sum_all, position_sum_more}
-use Rattle.mgn_span.proofs.ShareLemmas.{month_share_small, scenario_share_small, share_sum_small, short_share_small, value_share_small}
+use Rattle.mgn_span.proofs.ShareLemmas.{scenario_share_in, scenario_total_small_to, share_sum_small, short_share_small, value_share_small}
 use Rattle.mgn_plain.specs.declared.sums.Sums.{Sums}
 use Rattle.mgn_plain.specs.Kept.{mark_at}
 use Rattle.mgn_plain.specs.Parts.{AreNets, AreSums}
@@ -92,16 +94,6 @@ count_small f most cs ns (suc i) e small h =
     omega (arith, before, more, share)
 
 -- how large the sums up to a contract are
-pub totals_small : (t : Tables) (nets : List ℤ) (i : ℕ) (sums : Sums) (g s : ℕ) → IsWithinLimits t → AreSumsTo t nets i sums → i ≤ length t.contracts → g < length t.commodities → s < 16 → unsigned_abs (total_of sums.totals.items g s) ≤ i * 10 ^ 15
-totals_small t nets i sums g s limits are h low k =
-    let small = share_sum_small (scenario_share g s) (10 ^ 15) t.contracts nets i are.of_nets.one_each (λ j p. scenario_share_small (length t.commodities) t.months g s (contract_at t.contracts j) (value_at nets j) (limits.contracts j no_contract p) (are.of_nets.small j (pos 0) (omega (arith, are.of_nets.one_each)))) h in
-    rw (are.totals g s low k) small
-
-pub deltas_small : (t : Tables) (nets : List ℤ) (i : ℕ) (sums : Sums) (m : ℕ) → IsWithinLimits t → AreSumsTo t nets i sums → i ≤ length t.contracts → m < length t.months → unsigned_abs (value_at sums.deltas.items m) ≤ i * 10 ^ 12
-deltas_small t nets i sums m limits are h low =
-    let small = share_sum_small (month_share m) (10 ^ 12) t.contracts nets i are.of_nets.one_each (λ j p. month_share_small (length t.commodities) t.months m (contract_at t.contracts j) (value_at nets j) (limits.contracts j no_contract p) (are.of_nets.small j (pos 0) (omega (arith, are.of_nets.one_each)))) h in
-    rw (are.deltas m low) small
-
 pub minimums_small : (t : Tables) (nets : List ℤ) (i : ℕ) (sums : Sums) (g : ℕ) → IsWithinLimits t → AreSumsTo t nets i sums → i ≤ length t.contracts → g < length t.commodities → slice_index sums.minimums.items g ≤ i * 10 ^ 16
 minimums_small t nets i sums g limits are h low =
     let charge = (commodity_at t.commodities g).short_option_charge in
@@ -113,6 +105,26 @@ pub value_small : (t : Tables) (nets : List ℤ) (i : ℕ) (sums : Sums) → IsW
 value_small t nets i sums limits are h =
     let small = share_sum_small value_share (10 ^ 15) t.contracts nets i are.of_nets.one_each (λ j p. value_share_small (length t.commodities) t.months (contract_at t.contracts j) (value_at nets j) (limits.contracts j no_contract p) (are.of_nets.small j (pos 0) (omega (arith, are.of_nets.one_each)))) h in
     rw are.value small
+
+-- the totals of a commodity with one position of it more are totals still
+pub totals_room : (t : Tables) (nets : List ℤ) (i : ℕ) (sums : Sums) (s : ℕ) → IsWithinLimits t → AreSumsTo t nets i sums → i < length t.contracts → s < 16 → let c = contract_at t.contracts i in IsTotal (total_of sums.totals.items c.commodity s +ℤ value_at nets i *ℤ value_at c.array s)
+totals_room t nets i sums s limits are h k =
+    let c : Contract = contract_at t.contracts i in
+    let one_each = are.of_nets.one_each in
+    let small = scenario_total_small_to t nets c.commodity s (i + 1) limits one_each are.of_nets.small (omega (arith, h)) in
+    let more = position_sum_more (scenario_share c.commodity s) t.contracts nets i h one_each in
+    let share = scenario_share_in c.commodity s c (value_at nets i) refl in
+    omega (arith, ints, small, more, share, are.totals c.commodity s (limits.contracts i no_contract h).commodity k)
+
+-- and so is the delta of its month a delta
+pub deltas_room : (t : Tables) (nets : List ℤ) (i : ℕ) (sums : Sums) → IsWithinLimits t → AreSumsTo t nets i sums → i < length t.contracts → let c = contract_at t.contracts i in IsDelta (value_at sums.deltas.items c.month +ℤ value_at nets i *ℤ c.delta)
+deltas_room t nets i sums limits are h =
+    let c : Contract = contract_at t.contracts i in
+    let one_each = are.of_nets.one_each in
+    let small = month_delta_small_to t nets c.month (i + 1) limits one_each are.of_nets.small (omega (arith, h)) in
+    let more = position_sum_more (month_share c.month) t.contracts nets i h one_each in
+    let share : month_share c.month (c, value_at nets i) ≡ value_at nets i *ℤ c.delta = rw (eq-eqb c.month c.month refl) refl in
+    omega (arith, ints, small, more, share, are.deltas c.month (limits.contracts i no_contract h).month)
 
 -- the sums of all positions
 pub sums_all : (t : Tables) (nets : List ℤ) (sums : Sums) → IsWithinLimits t → AreSumsTo t nets (length t.contracts) sums → AreSums t nets sums
@@ -131,7 +143,6 @@ sums_all t nets sums limits are =
         one_delta_each = are.one_delta_each;
         each = λ m h. are.deltas m h ∙ position_sum_all (month_share m) t.contracts nets n (omega arith) one_each;
       };
-      small_deltas = λ m h. let low = deltas_small t nets n sums m limits are (omega arith) (omega (arith, are.one_delta_each)) in omega (arith, low, few);
       minimums = record {
         one_each = are.one_minimum_each;
         each = λ g h. are.minimums g h ∙ position_count_all (short_share_of g (commodity_at t.commodities g).short_option_charge) t.contracts nets n (omega arith) one_each;

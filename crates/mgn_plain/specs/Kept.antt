@@ -1,9 +1,5 @@
 -- The rows that a calculation keeps: one for each commodity of a set, in file order.
-use Rattle.std.specs.Prelude.{◌≤◌, ◌*◌, ◌^◌, unsigned_abs, ℕ, ℤ, Bool, true, List, [], slice_index_or, slice_index}
-
--- at most 8 * 10^18 in size, so that 64 bits hold it (own profile)
-abbrev pub IsTotal : ℤ → Type 0
-IsTotal total = unsigned_abs total ≤ 8 * 10 ^ 18
+use Rattle.std.specs.Prelude.{ℕ, Bool, true, List, [], slice_index_or, slice_index}
 
 -- the row of a commodity's legs
 abbrev pub legs_row : List (List ℕ) → ℕ → List ℕ

@@ -7,6 +7,7 @@ use Rattle.mgn_span.specs.Options.{net_option_value}
 use Rattle.mgn_span.specs.Positions.{IsNet, positions}
 use Rattle.mgn_span.specs.Requirement.{credits, minimum}
 use Rattle.mgn_span.specs.Scan.{price_risk2, scenario_total, value_at}
+use Rattle.mgn_span.specs.Sizes.{IsStart}
 use Rattle.mgn_span.specs.Words.{net_delta, starts_of, total_of}
 use Rattle.mgn_plain.specs.declared.figure_rows.FigureRows.{FigureRows}
 use Rattle.mgn_plain.specs.declared.sums.Sums.{Sums}
@@ -44,7 +45,6 @@ pub record AreMarks (set : Tables) (nets : List ℤ) (marks : List Bool) : Type 
 pub record AreSums (set : Tables) (nets : List ℤ) (sums : Sums) : Type 0 where
   pub totals : AreTotals set nets sums.totals.items
   pub deltas : AreDeltas set nets sums.deltas.items
-  pub small_deltas : (m : ℕ) → m < length sums.deltas.items → unsigned_abs (value_at sums.deltas.items m) ≤ 10 ^ 16
   pub minimums : AreMinimums set nets sums.minimums.items
   pub held : AreMarks set nets sums.held.items
   pub value : sums.option_value ≡ net_option_value (positions set.contracts nets)
@@ -54,7 +54,7 @@ pub record AreSums (set : Tables) (nets : List ℤ) (sums : Sums) : Type 0 where
 pub record AreStarts (set : Tables) (nets : List ℤ) (starts : List (List ℕ)) : Type 0 where
   pub one_row_each : length starts ≡ length set.commodities
   pub each : (g : ℕ) → g < length set.commodities → legs_row starts g ≡ starts_of set.months (positions set.contracts nets) g
-  pub small : (g leg : ℕ) → g < length set.commodities → leg < 16 → leg_of starts g leg ≤ 10 ^ 16
+  pub small : (g leg : ℕ) → g < length set.commodities → IsStart (leg_of starts g leg)
 
 -- the net deltas of the commodities
 pub record AreNetDeltas (set : Tables) (nets row : List ℤ) : Type 0 where

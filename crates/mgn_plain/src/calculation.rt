@@ -62,14 +62,14 @@ fn cents_at(row: &[u128], commodity: usize) -> Cents
 // Scan risk and charges less the credit, and at least the minimum.
 fn risk_of(scan: Cents, intra: Cents, spot: Cents, credit: Cents, minimum: Cents) -> Cents
     requires scan { unsigned_abs scan ≤ 256 * 10 ^ 15 }
-    requires intra { unsigned_abs intra ≤ 64 * 10 ^ 25 }
-    requires spot { unsigned_abs spot ≤ 10 ^ 23 }
+    requires intra { unsigned_abs intra ≤ 2 * 10 ^ 27 }
+    requires spot { unsigned_abs spot ≤ 10 ^ 26 }
     requires credit { unsigned_abs credit ≤ 256 * 10 ^ 33 }
     requires a_credit { pos 0 ≤ℤ credit }
     requires minimum { unsigned_abs minimum ≤ 10 ^ 20 }
     requires a_minimum { pos 0 ≤ℤ minimum }
     ensures risk { result ≡ int_max (scan +ℤ intra +ℤ spot -ℤ credit) minimum }
-    ensures small { unsigned_abs result ≤ 10 ^ 27 }
+    ensures small { unsigned_abs result ≤ 3 * 10 ^ 27 }
 {
     let spread = scan.plus(intra).plus(spot).minus(credit);
     spread.larger(minimum)
@@ -82,7 +82,7 @@ fn figures_of(set: &ParamSet, rows: &FigureRows, commodity: usize) -> CommodityF
     ensures figures { (nets : List ℤ) →
         AreFigureRows set.now nets rows.now →
         result ≡ commodity_figures set.now (positions set.now.contracts nets) commodity }
-    ensures small { unsigned_abs result.risk ≤ 10 ^ 27 }
+    ensures small { unsigned_abs result.risk ≤ 3 * 10 ^ 27 }
 {
     set.limits();
     let scan = scan_figures(totals_row(&rows.sums.totals, commodity));
@@ -109,7 +109,7 @@ fn risk_at(set: &ParamSet, rows: &FigureRows, commodity: usize) -> Cents
     ensures risk { (nets : List ℤ) →
         AreFigureRows set.now nets rows.now →
         result ≡ risk set.now (positions set.now.contracts nets) commodity }
-    ensures small { unsigned_abs result ≤ 10 ^ 27 }
+    ensures small { unsigned_abs result ≤ 3 * 10 ^ 27 }
 {
     set.limits();
     if !mark_at(&rows.sums.held, commodity) {
@@ -125,7 +125,7 @@ fn sum_of_risks(set: &ParamSet, rows: &FigureRows) -> Cents
     ensures sum { (nets : List ℤ) →
         AreFigureRows set.now nets rows.now →
         result ≡ signed_sum_below (risk set.now (positions set.now.contracts nets)) (length set.now.commodities) }
-    ensures small { unsigned_abs result ≤ 256 * 10 ^ 27 }
+    ensures small { unsigned_abs result ≤ 768 * 10 ^ 27 }
 {
     let mut total = Cents::ZERO;
     for g in 0..set.commodity_count() {

@@ -1,17 +1,16 @@
 ghost use Rattle.std.specs.Prelude.{◌≡◌, ℕ, ◌+◌, ◌*◌, ◌<◌, ◌≤◌, ◌^◌, ℤ, ◌+ℤ◌, ◌*ℤ◌, unsigned_abs, List, length, IfOk};
-ghost use Rattle.mgn_span.specs.Deltas.{positive_part, negative_part};
-ghost use Rattle.mgn_span.specs.Positions.{IsNet};
 ghost use Rattle.mgn_span.specs.Scan.{value_at};
+ghost use Rattle.mgn_span.specs.Sizes.{IsDelta};
 ghost use Rattle.mgn_span.specs.Words.{month_share};
 ghost use Rattle.mgn_plain.specs.Kept.{leg_of, legs_row};
 ghost use Rattle.mgn_plain.specs.Months.{AreMonthSums, AreMonthSumsTo};
 ghost use Rattle.mgn_plain.specs.Parts.{AreDeltas};
 ghost use Rattle.mgn_span.specs.MonthDeltas.{month_net, start_share};
 
-use crate::delta::Delta;
-use crate::rows::filled;
 use mgn_num::{Quantity, TenThousandths};
+use mgn_params::rows::filled;
 use mgn_params::{Contract, Month, ParamSet};
+use mgn_span::Delta;
 use std::alloc::{AllocError, Global};
 
 // The delta at a place.
@@ -32,9 +31,7 @@ fn month_delta_at(deltas: &[Delta], month: usize) -> Delta
 
 // A delta and a net at a contract's delta more.
 fn plus_scaled(total: Delta, net: Quantity, delta: &i64) -> Delta
-    requires total { unsigned_abs total ≤ 7 * 10 ^ 18 }
-    requires net { IsNet net }
-    requires delta { unsigned_abs delta.now ≤ 10 ^ 5 }
+    requires { IsDelta (total +ℤ net *ℤ delta.now) }
     ensures { result ≡ total +ℤ net *ℤ delta.now }
 {
     total.plus(TenThousandths::product(net, *delta))
@@ -43,9 +40,7 @@ fn plus_scaled(total: Delta, net: Quantity, delta: &i64) -> Delta
 // Adds what a position in a contract counts for in its month.
 pub(crate) fn add_position(deltas: &mut [Delta], contract: &Contract, net: Quantity)
     requires month { contract.now.month < length deltas.old }
-    requires delta { unsigned_abs contract.now.delta ≤ 10 ^ 5 }
-    requires net { IsNet net }
-    requires room { (m : ℕ) → m < length deltas.old → unsigned_abs (value_at deltas.old m) ≤ 7 * 10 ^ 18 }
+    requires room { IsDelta (value_at deltas.old contract.now.month +ℤ net *ℤ contract.now.delta) }
     ensures one_each { length deltas.new ≡ length deltas.old }
     ensures deltas { (m : ℕ) → m < length deltas.old →
         value_at deltas.new m ≡ value_at deltas.old m +ℤ month_share m (contract.now, net) }
@@ -110,7 +105,6 @@ fn nothing(alloc: Global, set: &ParamSet) -> Result<MonthSums, AllocError>
 fn add_month(sums: &mut MonthSums, set: &ParamSet, deltas: &[Delta], m: usize)
     requires month { m < length set.now.months }
     requires deltas { (nets : List ℤ) × AreDeltas set.now nets deltas.now }
-    requires small { (k : ℕ) → k < length deltas.now → unsigned_abs (value_at deltas.now k) ≤ 10 ^ 16 }
     requires sums { AreMonthSumsTo set.now deltas.now m sums.old }
     ensures { AreMonthSumsTo set.now deltas.now (m + 1) sums.new }
 {
@@ -124,7 +118,6 @@ fn add_month(sums: &mut MonthSums, set: &ParamSet, deltas: &[Delta], m: usize)
 // Adds what all months count for. Nothing is read of a month where the delta is 0, as most are.
 fn add_months(sums: &mut MonthSums, set: &ParamSet, deltas: &[Delta])
     requires deltas { (nets : List ℤ) × AreDeltas set.now nets deltas.now }
-    requires small { (m : ℕ) → m < length deltas.now → unsigned_abs (value_at deltas.now m) ≤ 10 ^ 16 }
     requires sums { AreMonthSumsTo set.now deltas.now 0 sums.old }
     ensures { AreMonthSumsTo set.now deltas.now (length set.now.months) sums.new }
 {
@@ -141,8 +134,7 @@ pub(crate) fn month_sums(
     set: &ParamSet,
     deltas: &[Delta],
 ) -> Result<MonthSums, AllocError>
-    requires deltas { (nets : List ℤ) × AreDeltas set.now nets deltas.now }
-    requires small { (m : ℕ) → m < length deltas.now → unsigned_abs (value_at deltas.now m) ≤ 10 ^ 16 }
+    requires { (nets : List ℤ) × AreDeltas set.now nets deltas.now }
     ensures { IfOk result (λ sums. (nets : List ℤ) → AreDeltas set.now nets deltas.now → AreMonthSums set.now nets sums) }
 {
     set.limits();

@@ -5,7 +5,6 @@ mod calculation;
 mod charges;
 mod commodity;
 mod credits;
-mod delta;
 mod deltas;
 mod figure_rows;
 mod options;
@@ -13,10 +12,7 @@ mod parts;
 mod rows;
 mod scan;
 mod scanned;
-mod spot;
-mod stages;
 mod sums;
-mod total;
 mod whole;
 
 pub use calculation::{figures, requirement};

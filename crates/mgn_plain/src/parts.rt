@@ -4,12 +4,12 @@ ghost use Rattle.mgn_plain.specs.Kept.{mark_at};
 ghost use Rattle.mgn_plain.specs.Parts.{AreCredits, AreCreditsFrom, AreNetDeltas, AreRisks, AreSums};
 ghost use Rattle.mgn_plain.specs.Rests.{AreCreditNumbers};
 
-use crate::rows::filled;
 use crate::sums::Sums;
-use crate::total::Total;
 use crate::{credits, scan};
 use mgn_num::TenThousandths;
 use mgn_params::ParamSet;
+use mgn_params::rows::filled;
+use mgn_span::Total;
 use std::alloc::{AllocError, Global};
 
 // The doubled price risks of the commodities. Nothing is read of one of which each net is 0, as of most.
@@ -18,7 +18,6 @@ fn price_risks(
     totals: &[[Total; 16]],
     held: &[bool],
 ) -> Result<Vec<u128>, AllocError>
-    requires small { (g s : ℕ) → g < length totals.now → s < 16 → unsigned_abs (total_of totals.now g s) ≤ 256 * 10 ^ 15 }
     requires one_each { length held.now ≡ length totals.now }
     requires flat { (g s : ℕ) → mark_at held.now g ≡ false → g < length totals.now → s < 16 → total_of totals.now g s ≡ pos 0 }
     ensures { IfOk result (λ risks. AreRisks totals.now risks.items) }

@@ -2,13 +2,13 @@ ghost use Rattle.std.specs.Prelude.{◌≡◌, ◌<◌, ◌+◌, ℤ, List, leng
 ghost use Rattle.mgn_plain.specs.Parts.{AreNets, AreSums};
 ghost use Rattle.mgn_plain.specs.Sums.{AreSumsTo};
 
-use crate::delta::Delta;
-use crate::rows::filled;
-use crate::total::Total;
 use crate::{deltas, options, scan};
 use mgn_nets::Nets;
 use mgn_num::Cents;
+use mgn_params::rows::filled;
 use mgn_params::{ParamSet, Work};
+use mgn_span::shares::share_of_value;
+use mgn_span::{Delta, Total};
 use std::alloc::{AllocError, Global};
 
 // What positions come to.
@@ -52,9 +52,7 @@ fn add_position(sums: &mut Sums, set: &ParamSet, nets: &Nets, i: usize, work: &m
     deltas::add_position(&mut sums.deltas, contract, net);
     options::add_minimum(&mut sums.minimums, set, i, net);
     sums.held[contract.commodity] = true;
-    sums.option_value = sums
-        .option_value
-        .plus(options::share_of_value(contract, net));
+    sums.option_value = sums.option_value.plus(share_of_value(contract, net));
 }
 
 // Adds what all positions count for. Nothing is read of a contract where the net is 0, as most are.

@@ -1,3 +1,2 @@
 -- The totals after a change of one net.
-pub mod ProductLemmas
 pub mod TotalsLemmas

@@ -16,8 +16,9 @@ use Rattle.mgn_params.specs.Tables.{Tables, contract_at}
 use Rattle.mgn_span.proofs.FlatLemmas.{AreFlat-replicate, scenario_total_flat}
 use Rattle.mgn_span.proofs.PositionLemmas.{position_sum-set}
 use Rattle.mgn_span.proofs.ScanLemmas.{active_same, price_risk2_same, scan_risk_same}
-use Rattle.mgn_span.proofs.ShareLemmas.{scenario_share_out, scenario_total_small}
-use Rattle.mgn_scan.specs.Totals.{AreTotals, IsTotal}
+use Rattle.mgn_span.proofs.ShareLemmas.{scenario_share_in, scenario_share_out, scenario_total_small}
+use Rattle.mgn_span.specs.Sizes.{IsTotal}
+use Rattle.mgn_scan.specs.Totals.{AreTotals}
 
 -- The start.
 
@@ -47,9 +48,6 @@ scenario_total-set t nets g s i q h e =
     let c = contract_at t.contracts i in
     let moved = position_sum-set (scenario_share g s) t.contracts nets i (value_at nets i +ℤ q) h e in
     omega (arith, ints, moved, scenario_share-sum g s c (value_at nets i) q)
-
-scenario_share_in : (g s : ℕ) (c : Contract) (n : ℤ) → c.commodity ≡ g → scenario_share g s (c, n) ≡ n *ℤ value_at c.array s
-scenario_share_in g s c n e = grind arith
 
 -- each total of the contract's commodity moves by its array times the quantity
 changed_total : (t : Tables) (nets : List ℤ) (rows : List (List ℤ)) (i g s : ℕ) (q : ℤ) → AreTotals t nets rows → i < length t.contracts → (contract_at t.contracts i).commodity ≡ g → g < length t.commodities → s < 16 → scenario_total g (positions t.contracts (set nets i (value_at nets i +ℤ q))) s ≡ total_of rows g s +ℤ q *ℤ value_at (contract_at t.contracts i).array s

@@ -1,13 +1,9 @@
 -- Rows of totals: one row for each commodity of a set in file order, and in it one total for each of the 16 scenarios.
-use Rattle.std.specs.Prelude.{ℕ, ◌*◌, ◌≡◌, ◌<◌, ◌≤◌, ◌^◌, ℤ, unsigned_abs, List, length, All}
+use Rattle.std.specs.Prelude.{ℕ, ◌≡◌, ◌<◌, ℤ, List, length, All}
 use Rattle.mgn_span.specs.Positions.{IsNet, positions}
 use Rattle.mgn_span.specs.Scan.{scenario_total}
 use Rattle.mgn_params.specs.Tables.{Tables}
 use Rattle.mgn_span.specs.Words.{total_of}
-
--- at most 256 * 10^15 in size: 256 contracts at 10^7 each, with arrays of at most 10^8 (own profile)
-abbrev pub IsTotal : ℤ → Type 0
-IsTotal total = unsigned_abs total ≤ 256 * 10 ^ 15
 
 -- each is the total of these nets under this set (CME SPAN), one net for each contract and within its limit
 pub record AreTotals (set : Tables) (nets : List ℤ) (rows : List (List ℤ)) : Type 0 where

@@ -1,9 +1,7 @@
 //! The scan figures of the commodities of a set, kept up to date while nets change.
 #![tactic(auto)]
 
-mod figures;
-mod total;
 mod totals;
 
-pub use figures::ScanRisks;
+pub use mgn_span::scan::ScanRisks;
 pub use totals::ScanTotals;

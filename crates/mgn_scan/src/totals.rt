@@ -6,13 +6,14 @@ ghost use Rattle.mgn_params.specs.Tables.{Tables};
 ghost use Rattle.mgn_scan.specs.Totals.{AreTotals};
 ghost use Rattle.mgn_span.specs.Words.{totals_of};
 
-use crate::figures::{
-    ScanRisks, active_scenario, add_scaled, both_risks, doubled_risk, largest_total,
-};
-use crate::total::Total;
 use mgn_nets::Nets;
 use mgn_num::{Cents, Quantity};
+use mgn_params::rows::{fill, filled};
 use mgn_params::{ParamSet, Work};
+use mgn_span::Total;
+use mgn_span::scan::{
+    ScanRisks, active_scenario, add_scaled, both_risks, doubled_risk, largest_total,
+};
 use std::alloc::{AllocError, Global};
 use std::marker::Model;
 
@@ -33,30 +34,12 @@ impl Model for ScanTotals {
     ghost view = { λ t. t.rows.items };
 }
 
-// Rows of totals of 0.
-fn flat_rows(alloc: Global, count: usize) -> Result<Vec<[Total; 16]>, AllocError>
-    ensures { IfOk result (λ rows. rows.items ≡ replicate count (replicate 16 (pos 0))) }
-{
-    let mut rows = Vec::new(alloc);
-    rows.resize(count, [Total::ZERO; 16])?;
-    Ok(rows)
-}
-
-// Writes one value at each place.
-fn fill<T: Copy>(row: &mut Vec<T>, value: T)
-    ensures { row.new.items ≡ replicate (length row.old.items) value }
-{
-    for place in row.iter_mut() {
-        *place = value;
-    }
-}
-
 impl ScanTotals {
     /// The totals of nets of 0 under a set. An error says that memory was refused; no later call takes any.
     pub fn new(alloc: Global, set: &ParamSet) -> Result<Self, AllocError>
         ensures { IfOk result (AreTotals set.now (replicate (length set.now.contracts) (pos 0))) }
     {
-        let rows = flat_rows(alloc, set.commodity_count())?;
+        let rows = filled(alloc, set.commodity_count(), [Total::ZERO; 16])?;
         Ok(ScanTotals { rows })
     }
 

@@ -1,11 +1,11 @@
 -- How large the sums over the positions of a set are.
-use Rattle.std.proofs.Common.{◌≡◌, ◌≢◌, ℕ, zero, suc, ◌*◌, ◌<◌, ◌≤◌, ◌^◌, List, length, take, pos, ℤ, ⊎_elim, ap, arith, take_all, add-one, eq-eqb, ne_eqb, unsigned_abs}
-use Rattle.std.specs.Prelude.{◌==◌, All}
+use Rattle.std.proofs.Common.{◌≡◌, ◌≢◌, ℕ, zero, suc, ◌*◌, ◌<◌, ◌≤◌, ◌^◌, cond, List, length, take, pos, ℤ, ⊎_elim, ap, arith, take_all, add-one, eq-eqb, ne_eqb, unsigned_abs}
+use Rattle.std.specs.Prelude.{◌*ℤ◌, ◌==◌, All}
 use Rattle.std.specs.List.{count_by, sum_by}
-use Rattle.std.proofs.Math.Nat.{mul-le-mul}
+use Rattle.std.proofs.Math.Nat.{mul-le-mul, mul-le-mul_right}
 use Rattle.std.proofs.lemmas.Bool.{cases_eq}
 use Rattle.std.proofs.lemmas.Int.{ints}
-use Rattle.std.proofs.lemmas.List.Sums.{count_by_more_yes, count_by_more_no}
+use Rattle.std.proofs.lemmas.List.Sums.{count_by_more_yes, count_by_more_no, sum_by-take-le}
 use Rattle.mgn_num.specs.Signed.{signed_sum_by}
 use Rattle.mgn_num.proofs.SignedLemmas.{size-*ℤ-le}
 use Rattle.mgn_span.proofs.PositionLemmas.{position_count_all, position_count_more, position_sum_all, position_sum_more, value_at_small}
@@ -16,6 +16,7 @@ use Rattle.mgn_params.specs.Limits.{IsContract, IsWithinLimits}
 use Rattle.mgn_span.specs.Options.{net_option_value, short_option_minimum}
 use Rattle.mgn_span.specs.Positions.{Position, positions, IsNet}
 use Rattle.mgn_span.specs.Scan.{value_at, scenario_total}
+use Rattle.mgn_span.specs.Sizes.{IsTotal}
 use Rattle.mgn_span.specs.Words.{month_share, scenario_share, short_share_of, value_share}
 use Rattle.mgn_params.specs.Tables.{Tables, contract_at, no_contract}
 
@@ -46,7 +47,10 @@ value_share_small commodities months c n limits small =
     let product = size-*ℤ-le n (pos c.option_value) (10 ^ 7) (10 ^ 8) small limits.option_value in
     grind (arith, ints, product)
 
--- a position of another commodity counts for nothing
+-- a position of the commodity counts by its net, and one of another for nothing
+
+pub scenario_share_in : (g s : ℕ) (c : Contract) (n : ℤ) → c.commodity ≡ g → scenario_share g s (c, n) ≡ n *ℤ value_at c.array s
+scenario_share_in g s c n e = grind arith
 
 pub scenario_share_out : (g s : ℕ) (c : Contract) (n : ℤ) → c.commodity ≢ g → scenario_share g s (c, n) ≡ pos 0
 scenario_share_out g s c n e = grind arith
@@ -66,7 +70,7 @@ share_sum_small f most cs ns (suc i) e small h =
     omega (arith, ints, before, more, share)
 
 -- what only the positions of a commodity count for comes to no more than that for each of its contracts
-pub share_sum_by_count : (f : Position → ℤ) (g most : ℕ) (cs : List Contract) (ns : List ℤ) (i : ℕ) → length ns ≡ length cs → ((c : Contract) (n : ℤ) → c.commodity ≢ g → f (c, n) ≡ pos 0) → ((k : ℕ) → k < length cs → unsigned_abs (f (contract_at cs k, value_at ns k)) ≤ most) → i ≤ length cs → unsigned_abs (signed_sum_by f (take i (positions cs ns))) ≤ count_by (λ c. c.commodity == g) (take i cs) * most
+pub share_sum_by_count : (f : Position → ℤ) (g most : ℕ) (cs : List Contract) (ns : List ℤ) (i : ℕ) → length ns ≡ length cs → ((k : ℕ) → k < length cs → (contract_at cs k).commodity ≢ g → f (contract_at cs k, value_at ns k) ≡ pos 0) → ((k : ℕ) → k < length cs → unsigned_abs (f (contract_at cs k, value_at ns k)) ≤ most) → i ≤ length cs → unsigned_abs (signed_sum_by f (take i (positions cs ns))) ≤ count_by (λ c. c.commodity == g) (take i cs) * most
 share_sum_by_count f g most cs ns zero e outside small h = omega (arith, ints)
 share_sum_by_count f g most cs ns (suc i) e outside small h =
     let before = share_sum_by_count f g most cs ns i e outside small (omega arith) in
@@ -78,8 +82,16 @@ share_sum_by_count f g most cs ns (suc i) e outside small h =
     omega (arith, ints, before, more, share, ap (λ (n : ℕ). n * most) counted))
     (λ (other : (contract_at cs i).commodity ≢ g).
     let counted = rw add-one at (count_by_more_no (λ (c : Contract). c.commodity == g) cs i no_contract (omega arith) (ne_eqb (contract_at cs i).commodity g other)) in
-    omega (arith, ints, before, more, ap (λ (n : ℕ). n * most) counted, outside (contract_at cs i) (value_at ns i) other))
+    omega (arith, ints, before, more, ap (λ (n : ℕ). n * most) counted, outside i (omega arith) other))
     (cases_eq (contract_at cs i).commodity g)
+
+-- and so to no more than that for each of the 256 contracts that a commodity may have
+pub share_sum_of_commodity : (f : Position → ℤ) (t : Tables) (nets : List ℤ) (g most i : ℕ) → IsWithinLimits t → length nets ≡ length t.contracts → ((k : ℕ) → k < length t.contracts → (contract_at t.contracts k).commodity ≢ g → f (contract_at t.contracts k, value_at nets k) ≡ pos 0) → ((k : ℕ) → k < length t.contracts → unsigned_abs (f (contract_at t.contracts k, value_at nets k)) ≤ most) → i ≤ length t.contracts → unsigned_abs (signed_sum_by f (take i (positions t.contracts nets))) ≤ 256 * most
+share_sum_of_commodity f t nets g most i limits one_each outside small h =
+    let sum = share_sum_by_count f g most t.contracts nets i one_each outside small h in
+    let of_all = sum_by-take-le (λ (c : Contract). cond (c.commodity == g) 1 0) t.contracts i in
+    let few : count_by (λ (c : Contract). c.commodity == g) (take i t.contracts) ≤ 256 = omega (arith, of_all, limits.few_contracts_in_each g) in
+    omega (arith, sum, mul-le-mul_right most few)
 
 -- the same for what is counted without a sign
 pub share_count_by_count : (f : Position → ℕ) (g most : ℕ) (cs : List Contract) (ns : List ℤ) (i : ℕ) → length ns ≡ length cs → ((c : Contract) (n : ℤ) → c.commodity ≢ g → f (c, n) ≡ 0) → ((k : ℕ) → k < length cs → f (contract_at cs k, value_at ns k) ≤ most) → i ≤ length cs → sum_by f (take i (positions cs ns)) ≤ count_by (λ c. c.commodity == g) (take i cs) * most
@@ -97,15 +109,19 @@ share_count_by_count f g most cs ns (suc i) e outside small h =
     omega (arith, before, more, ap (λ (n : ℕ). n * most) counted, outside (contract_at cs i) (value_at ns i) other))
     (cases_eq (contract_at cs i).commodity g)
 
--- no total is larger than the 256 contracts of a commodity at their limits
-pub scenario_total_small : (t : Tables) (nets : List ℤ) (g s : ℕ) → IsWithinLimits t → length nets ≡ length t.contracts → All IsNet nets → unsigned_abs (scenario_total g (positions t.contracts nets) s) ≤ 256 * 10 ^ 15
+-- no total is larger than the 256 contracts of a commodity at their limits, however many positions are summed
+pub scenario_total_small_to : (t : Tables) (nets : List ℤ) (g s i : ℕ) → IsWithinLimits t → length nets ≡ length t.contracts → All IsNet nets → i ≤ length t.contracts → IsTotal (scenario_total g (take i (positions t.contracts nets)) s)
+scenario_total_small_to t nets g s i limits one_each small h =
+    share_sum_of_commodity (scenario_share g s) t nets g (10 ^ 15) i limits one_each
+    (λ k p other. scenario_share_out g s (contract_at t.contracts k) (value_at nets k) other)
+    (λ k p. scenario_share_small (length t.commodities) t.months g s (contract_at t.contracts k) (value_at nets k) (limits.contracts k no_contract p) (small k (pos 0) (omega (arith, one_each))))
+    h
+
+pub scenario_total_small : (t : Tables) (nets : List ℤ) (g s : ℕ) → IsWithinLimits t → length nets ≡ length t.contracts → All IsNet nets → IsTotal (scenario_total g (positions t.contracts nets) s)
 scenario_total_small t nets g s limits one_each small =
     let n = length t.contracts in
-    let sum = share_sum_by_count (scenario_share g s) g (10 ^ 15) t.contracts nets n one_each (λ c m h. scenario_share_out g s c m h) (λ k h. scenario_share_small (length t.commodities) t.months g s (contract_at t.contracts k) (value_at nets k) (limits.contracts k no_contract h) (small k (pos 0) (omega (arith, one_each)))) (omega arith) in
     let all = position_sum_all (scenario_share g s) t.contracts nets n (omega arith) one_each in
-    let every = ap (λ (cs : List Contract). count_by (λ (c : Contract). c.commodity == g) cs) (take_all n t.contracts (omega arith)) in
-    let few = limits.few_contracts_in_each g in
-    omega (arith, ints, sum, all, every, few)
+    omega (arith, ints, all, scenario_total_small_to t nets g s n limits one_each small (omega arith))
 
 -- nor any minimum
 pub short_option_minimum_small : (t : Tables) (nets : List ℤ) (g charge : ℕ) → IsWithinLimits t → length nets ≡ length t.contracts → All IsNet nets → charge ≤ 10 ^ 9 → short_option_minimum (positions t.contracts nets) g charge ≤ 256 * 10 ^ 16

@@ -1,8 +1,11 @@
 -- Words for laws, for the inside of other crates and for proofs. No definition of the requirement stands on them.
-use Rattle.std.specs.Prelude.{ℕ, ◌≡◌, ◌≤◌, ◌+◌, ◌-◌, ◌*◌, ◌==◌, ◌&&◌, if◌then◌else◌, ℤ, pos, ◌+ℤ◌, ◌-ℤ◌, ◌*ℤ◌, int_lt, unsigned_abs, List, [], ◌∷◌, length, slice_index_or}
+use Rattle.std.specs.Prelude.{ℕ, ◌≡◌, ◌<◌, ◌≤◌, ◌^◌, ◌+◌, ◌*◌, ◌==◌, ◌&&◌, if◌then◌else◌, ℤ, pos, ◌+ℤ◌, ◌-ℤ◌, ◌*ℤ◌, int_lt, unsigned_abs, List, [], ◌∷◌, length, slice_index_or, All}
 use Rattle.std.specs.Int.{div_ceil, int_max}
 use Rattle.std.specs.List.{range_with_len}
 use Rattle.mgn_params.specs.declared.tables.Month.{Month}
+use Rattle.mgn_params.specs.declared.tables.SpotCharge.{SpotCharge}
+use Rattle.mgn_params.specs.declared.tables.Spread.{Spread}
+use Rattle.mgn_params.specs.Limits.{IsSpread}
 use Rattle.mgn_params.specs.Tables.{Tables, is_option, is_premium, month_at}
 use Rattle.mgn_span.specs.declared.stage.Stage.{Stage}
 use Rattle.mgn_span.specs.Deltas.{is_in_tier, month_delta, negative_part, net_delta_from, positive_part, start_from, starts_from, tier_delta}
@@ -86,12 +89,32 @@ abbrev pub used_by : List ℕ → List Stage → ℕ → ℕ
 used_by left [] leg = 0
 used_by left (stage ∷ stages) leg = used_of left stage leg + used_by (left_after left stage) stages leg
 
+-- the stages of a spread: the first tier long and the second short, and the other way round
+abbrev pub there_of : Spread → Stage
+there_of s = record { first_leg = s.first_tier; first_ratio = s.first_ratio; second_leg = 8 + s.second_tier; second_ratio = s.second_ratio; charge = s.charge }
+
+abbrev pub back_of : Spread → Stage
+back_of s = record { first_leg = s.second_tier; first_ratio = s.second_ratio; second_leg = 8 + s.first_tier; second_ratio = s.first_ratio; charge = s.charge }
+
+-- a stage of ratios of 1
+abbrev pub even_stage : ℕ → ℕ → ℕ → Stage
+even_stage first second each = record { first_leg = first; first_ratio = 10000; second_leg = second; second_ratio = 10000; charge = each }
+
 -- a stage that stands at no place of a list; it uses and charges nothing
 abbrev pub no_stage : Stage
 no_stage = record { first_leg = 0; first_ratio = 0; second_leg = 0; second_ratio = 0; charge = 0 }
 
 abbrev pub stage_at : List Stage → ℕ → Stage
 stage_at stages i = slice_index_or stages i no_stage
+
+-- the spreads of one commodity of a set
+pub record AreSpreads (spreads : List Spread) : Type 0 where
+  pub limits : All (λ s. (commodities : ℕ) × IsSpread commodities s) spreads
+  pub few : length spreads ≤ 32
+
+-- and its spot month charge
+abbrev pub IsSpot : SpotCharge → Type 0
+IsSpot s = (s.tier < 8) × (s.spread_rate ≤ 10 ^ 9) × (s.outright_rate ≤ 10 ^ 9)
 
 -- Rows of numbers that are kept for the commodities of a set.
 

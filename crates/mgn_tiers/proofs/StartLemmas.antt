@@ -12,8 +12,8 @@ use Rattle.mgn_span.specs.Deltas.{negative_part, positive_part, start_from, star
 use Rattle.mgn_span.specs.MonthDeltas.{start_share, leg_share, net_delta_by, net_share_by, start_by, starts_by}
 use Rattle.mgn_span.specs.Scan.{value_at}
 use Rattle.mgn_params.specs.Tables.{month_at, no_month}
-use Rattle.mgn_tiers.specs.Sizes.{IsStart}
-use Rattle.mgn_tiers.proofs.SumLemmas.{signed_sum_below_moved, signed_sum_below_none, sum_below_at, sum_below_moved, sum_below_small}
+use Rattle.mgn_span.specs.Sizes.{IsStart}
+use Rattle.mgn_span.proofs.SumLemmas.{signed_sum_below_moved, signed_sum_below_none, sum_below_at, sum_below_moved, sum_below_small}
 use Rattle.mgn_span.proofs.MonthDeltaLemmas.{start_by-is}
 use Rattle.mgn_span.specs.Sizes.{IsDelta}
 

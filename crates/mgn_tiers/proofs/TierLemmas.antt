@@ -14,7 +14,7 @@ use Rattle.mgn_params.specs.Tables.{Tables, month_at, no_month}
 use Rattle.mgn_tiers.specs.Runs.{Run}
 use Rattle.mgn_tiers.specs.Tiers.{AreTiersOf, HasRoom, Tiers, moved, no_run, run_at, run_by, run_of}
 use Rattle.mgn_tiers.proofs.StartLemmas.{long_moved, long_there, net_moved, net_none, short_moved, short_there, start_small, starts_kept, starts_moved, starts_none}
-use Rattle.mgn_tiers.proofs.StageSteps.{charges_of_nothing, left_by_nothing, spot_charge_of_nothing}
+use Rattle.mgn_span.proofs.StageSteps.{charges_of_nothing, left_by_nothing, spot_charge_of_nothing}
 use Rattle.mgn_span.specs.Sizes.{IsDelta}
 
 -- the run of the month's commodity is formed of what its legs start with

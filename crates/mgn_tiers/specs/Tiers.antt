@@ -8,8 +8,7 @@ use Rattle.mgn_span.specs.Stages.{stages_of}
 use Rattle.mgn_params.specs.declared.tables.Month.{Month}
 use Rattle.mgn_params.specs.Tables.{Tables}
 use Rattle.mgn_tiers.specs.Runs.{Run, run_from}
-use Rattle.mgn_tiers.specs.Sizes.{IsStart}
-use Rattle.mgn_span.specs.Sizes.{IsDelta}
+use Rattle.mgn_span.specs.Sizes.{IsDelta, IsStart}
 
 -- the deltas of the months, and for each commodity the net delta and the charges
 pub record Tiers : Type 0 where

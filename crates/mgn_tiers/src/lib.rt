@@ -2,11 +2,8 @@
 //! charge, and the net deltas.
 #![tactic(auto)]
 
-mod delta;
 mod rows;
 mod run;
-mod spot;
-mod stages;
 mod tiers;
 
 pub use tiers::TierStages;

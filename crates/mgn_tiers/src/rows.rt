@@ -1,32 +1,13 @@
 //! The rows of a set: one for each month, or one for each commodity.
 
-ghost use Rattle.std.specs.Prelude.{◌≡◌, ◌+◌, ◌-◌, ◌<◌, ◌≤◌, length, replicate, IfOk};
+ghost use Rattle.std.specs.Prelude.{◌≡◌, ◌+◌, ◌-◌, ◌<◌, ◌≤◌, length};
 ghost use Rattle.mgn_span.specs.Scan.{value_at};
-ghost use Rattle.mgn_tiers.specs.Sizes.{IsStart};
+ghost use Rattle.mgn_span.specs.Sizes.{IsStart};
 ghost use Rattle.mgn_tiers.specs.Tiers.{HasRoom, moved, run_of};
 
-use crate::delta::Delta;
 use crate::run::StageRun;
 use mgn_params::{Month, ParamSet};
-use std::alloc::{AllocError, Global};
-
-// A row of equal values.
-pub(crate) fn filled<T: Copy>(alloc: Global, count: usize, value: T) -> Result<Vec<T>, AllocError>
-    ensures { IfOk result (λ row. row.items ≡ replicate count value) }
-{
-    let mut row = Vec::new(alloc);
-    row.resize(count, value)?;
-    Ok(row)
-}
-
-// Writes one value at each place.
-pub(crate) fn fill<T: Copy>(row: &mut Vec<T>, value: T)
-    ensures { row.new.items ≡ replicate (length row.old.items) value }
-{
-    for place in row.iter_mut() {
-        *place = value;
-    }
-}
+use mgn_span::Delta;
 
 // The delta at a place.
 pub(crate) fn delta_at(deltas: &[Delta], place: usize) -> Delta

@@ -6,12 +6,8 @@ use Rattle.mgn_span.specs.Stages.{charges_of, left_by, stages_of}
 use Rattle.mgn_span.specs.Words.{totals_of}
 use Rattle.mgn_plain.specs.Kept.{legs_row}
 use Rattle.mgn_plain.specs.Scans.{scanned}
-use Rattle.mgn_plain.proofs.PartLemmas.{figures_are, total_small}
+use Rattle.mgn_plain.proofs.PartLemmas.{figures_are}
 use Rattle.mgn_plain.proofs.calculation.figures_of.Goals as goal
-
-pub scan_figures-scan-requires : goal.scan_figures-scan-requires
-scan_figures-scan-requires c = λ s h.
-    rw (c.totals_row.ensures, c.deref.ensures.value) (total_small c.args.set.now c.requires.rows.0 c.args.rows.now.sums.totals.items c.args.commodity s c.limits.ensures c.requires.rows.1.sums.totals c.requires.commodity h)
 
 pub returns-clause-figures : goal.returns-clause-figures
 returns-clause-figures c =

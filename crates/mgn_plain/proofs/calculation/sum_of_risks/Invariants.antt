@@ -8,5 +8,5 @@ use Rattle.mgn_plain.proofs.calculation.sum_of_risks.Given as goal
 abbrev pub invariant-loop-g : goal.invariant-loop-g
 invariant-loop-g l = record {
   so_far : (nets : List ℤ) → AreFigureRows l.set nets l.rows → l.total ≡ signed_sum_below (risk l.set (positions l.set.contracts nets)) l.g;
-  size : unsigned_abs l.total ≤ l.g * 10 ^ 27;
+  size : unsigned_abs l.total ≤ l.g * (3 * 10 ^ 27);
 }

@@ -13,7 +13,7 @@ add_start-requires-clause-room c = λ g leg h k.
 pub add_net-requires-clause-room : goal.add_net-requires-clause-room
 add_net-requires-clause-room c = λ g h.
     let few = c.limits.ensures.few_months in
-    let low = net_small_to c.args.set.now c.args.deltas.now c.args.m c.args.sums.now g c.requires.deltas.1.one_delta_each c.requires.small c.requires.sums (omega arith) (omega (arith, c.requires.sums.one_net_each, c.deref_mut-2.ensures.len)) in
+    let low = net_small_to c.args.set.now c.requires.deltas.0 c.args.deltas.now c.args.m c.args.sums.now g c.limits.ensures c.requires.deltas.1 c.requires.sums (omega arith) (omega (arith, c.requires.sums.one_net_each, c.deref_mut-2.ensures.len)) in
     rw c.deref_mut-2.ensures.value (omega (arith, low, few))
 
 pub returns : goal.returns

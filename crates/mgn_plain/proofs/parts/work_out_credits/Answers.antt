@@ -1,13 +1,8 @@
 use Rattle.mgn_params.specs.declared.tables.CreditSpread.{CreditSpread}
 use Rattle.std.proofs.Common.{◌≡◌, ℕ, List, ap, ◌∙◌, length, replicate, arith, sym}
 use Rattle.mgn_plain.proofs.FlatLemmas.{totals_none}
-use Rattle.mgn_plain.proofs.PartLemmas.{credit_numbers, credits_are, if_ok_along, no_credits, total_small}
+use Rattle.mgn_plain.proofs.PartLemmas.{credit_numbers, credits_are, if_ok_along, no_credits}
 use Rattle.mgn_plain.proofs.parts.work_out_credits.Goals as goal
-
-pub price_risks-requires-clause-small : goal.price_risks-requires-clause-small
-price_risks-requires-clause-small c =
-    let are = c.requires.2.totals in
-    rw c.deref.ensures.value (λ g s h k. total_small c.args.set.now c.requires.0 c.args.sums.now.totals.items g s c.limits.ensures are (omega (arith, h, are.one_row_each)) k)
 
 pub price_risks-requires-clause-one_each : goal.price_risks-requires-clause-one_each
 price_risks-requires-clause-one_each c =

@@ -3,7 +3,6 @@ use Rattle.std.specs.Prelude.{slice_index}
 use Rattle.std.proofs.lemmas.List.{length-replicate}
 use Rattle.mgn_span.specs.Scan.{price_risk2, value_at}
 use Rattle.mgn_span.specs.Words.{total_of}
-use Rattle.mgn_plain.specs.declared.scanned.ScanFigures.{ScanFigures}
 use Rattle.mgn_plain.proofs.FlatLemmas.{price_risk_none}
 use Rattle.mgn_plain.proofs.scan.fill_price_risks.Goals as goal
 use Rattle.mgn_plain.proofs.scan.fill_price_risks.Goals.{then-mark_at, else-mark_at}
@@ -23,7 +22,7 @@ loop-g-preserved c =
     elim c.if-mark_at.branch [
       | then-mark_at w ↦
           let inside : c.loop-g.g < length c.loop-g.risks = omega (arith, c.loop-g-test.true, c.loop-g.auto.risks, ap (λ (xs : List ℕ). length xs) c.requires.zeros, length-replicate {A = ℕ} (length c.args.totals.now) 0) in
-          let is = w.size.ensures.value ∙ ap (λ (f : ScanFigures). unsigned_abs f.price_risk2) w.scan_figures.ensures.figures ∙ ap (λ (row : List ℤ). unsigned_abs (price_risk2 (value_at row))) w.totals_row.ensures in
+          let is = w.size.ensures.value ∙ ap unsigned_abs w.doubled_risk.ensures.value ∙ ap (λ (row : List ℤ). unsigned_abs (price_risk2 (value_at row))) w.totals_row.ensures in
           record {
             done = rw w.risks-is (written c.loop-g.risks (λ (k : ℕ). unsigned_abs (price_risk2 (total_of c.args.totals.now k))) c.loop-g.g w.size.result inside is c.loop-g.invariant.done);
             rest = rw w.risks-is (λ k from low. beyond c.loop-g.risks c.loop-g.g w.size.result k from ∙ c.loop-g.invariant.rest k (omega (arith, from)) low);

@@ -1,24 +1,22 @@
-use Rattle.std.proofs.Common.{ap, arith, length, length-set, true, ◌<◌, ◌∙◌}
+use Rattle.std.proofs.Common.{ap, arith, length, length-set, pos, true, ◌<◌, ◌∙◌}
 use Rattle.std.proofs.lemmas.Int.{ints}
 use Rattle.std.proofs.lemmas.List.{with_items_is}
 use Rattle.mgn_params.specs.declared.tables.Contract.{Contract}
-use Rattle.mgn_params.specs.Tables.{commodity_at, no_contract}
+use Rattle.mgn_params.specs.Tables.{commodity_at, contract_at, no_contract}
+use Rattle.mgn_span.specs.Scan.{value_at}
 use Rattle.mgn_span.specs.Words.{month_share, scenario_share, short_share_of, value_share}
 use Rattle.mgn_span.proofs.PositionLemmas.{position_count_more, position_sum_more}
-use Rattle.mgn_plain.proofs.PassLemmas.{deltas_small, flat_more, minimums_small, totals_small, value_small}
+use Rattle.mgn_span.proofs.ShareLemmas.{value_share_small}
+use Rattle.mgn_plain.proofs.PassLemmas.{deltas_room, flat_more, minimums_small, totals_room, value_small}
 use Rattle.mgn_plain.proofs.sums.add_position.Goals as goal
 
 pub add_position-requires-clause-room : goal.add_position-requires-clause-room
-add_position-requires-clause-room c = λ g s h k.
-    let few = c.limits.ensures.few_contracts in
-    let low = totals_small c.args.set.now c.args.nets.now c.args.i c.args.sums.now g s c.limits.ensures c.requires.sums (omega arith) (omega (arith, c.requires.sums.one_row_each, c.deref_mut.ensures.len)) k in
-    rw c.deref_mut.ensures.value (omega (arith, low, few))
+add_position-requires-clause-room c = λ s k.
+    rw (c.deref_mut.ensures.value, c.net_at-net.ensures) (totals_room c.args.set.now c.args.nets.now c.args.i c.args.sums.now s c.limits.ensures c.requires.sums c.requires.contract k)
 
 pub add_position-requires-2-clause-room : goal.add_position-requires-2-clause-room
-add_position-requires-2-clause-room c = λ m h.
-    let few = c.limits.ensures.few_contracts in
-    let low = deltas_small c.args.set.now c.args.nets.now c.args.i c.args.sums.now m c.limits.ensures c.requires.sums (omega arith) (omega (arith, c.requires.sums.one_delta_each, c.deref_mut-2.ensures.len)) in
-    rw c.deref_mut-2.ensures.value (omega (arith, low, few))
+add_position-requires-2-clause-room c =
+    rw (c.deref_mut-2.ensures.value, c.net_at-net.ensures, c.contract_at-contract.ensures) (deltas_room c.args.set.now c.args.nets.now c.args.i c.args.sums.now c.limits.ensures c.requires.sums c.requires.contract)
 
 pub add_minimum-requires-clause-room : goal.add_minimum-requires-clause-room
 add_minimum-requires-clause-room c = λ g h.
@@ -29,8 +27,12 @@ add_minimum-requires-clause-room c = λ g h.
 pub plus-sums-requires : goal.plus-sums-requires
 plus-sums-requires c =
     let few = c.limits.ensures.few_contracts in
-    let low = value_small c.args.set.now c.args.nets.now c.args.i c.args.sums.now c.limits.ensures c.requires.sums (omega arith) in
-    omega (arith, ints, low, few, c.share_of_value.ensures.small)
+    let set = c.args.set.now in
+    let net = value_at c.args.nets.now c.args.i in
+    let low = value_small set c.args.nets.now c.args.i c.args.sums.now c.limits.ensures c.requires.sums (omega arith) in
+    let share = rw (c.contract_at-contract.ensures, c.net_at-net.ensures) at c.share_of_value.ensures in
+    let small = value_share_small (length set.commodities) set.months (contract_at set.contracts c.args.i) net (c.limits.ensures.contracts c.args.i no_contract c.requires.contract) (c.requires.sums.of_nets.small c.args.i (pos 0) (omega (arith, c.requires.sums.of_nets.one_each, c.requires.contract))) in
+    omega (arith, ints, low, few, share, small)
 
 pub returns : goal.returns
 returns c =
@@ -65,6 +67,6 @@ returns c =
           let share = short_share_of g (commodity_at set.commodities g).short_option_charge in
           rw charges (omega (arith, added, are.minimums g h, position_count_more share set.contracts nets i inside one_each));
       value =
-          let share = rw (c.contract_at-contract.ensures, c.at-net.ensures) at c.share_of_value.ensures.share in
+          let share = rw (c.contract_at-contract.ensures, c.at-net.ensures) at c.share_of_value.ensures in
           omega (arith, ints, c.plus-sums.ensures, share, are.value, position_sum_more value_share set.contracts nets i inside one_each);
     }

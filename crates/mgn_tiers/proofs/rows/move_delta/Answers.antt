@@ -1,4 +1,4 @@
-use Rattle.mgn_tiers.proofs.SpreadLemmas.{are_spreads, is_spot}
+use Rattle.mgn_span.proofs.SpreadLemmas.{are_spreads, is_spot}
 use Rattle.mgn_tiers.proofs.rows.move_delta.Goals as goal
 
 pub change_tier-requires-clause-spreads : goal.change_tier-requires-clause-spreads

@@ -1,6 +1,6 @@
 use Rattle.std.specs.List.{flat_map}
 use Rattle.mgn_span.specs.Stages.{stages_of_spread}
-use Rattle.mgn_tiers.proofs.StageSteps.{left_by_le}
+use Rattle.mgn_span.proofs.StageSteps.{left_by_le}
 use Rattle.mgn_tiers.proofs.run.StageRun.form.Goals as goal
 
 pub spot_charge_of-spot_charged-requires-clause-left : goal.spot_charge_of-spot_charged-requires-clause-left
