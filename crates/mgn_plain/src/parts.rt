@@ -1,16 +1,15 @@
-ghost use Rattle.std.specs.Prelude.{◌≡◌, ℕ, ◌*◌, ◌<◌, ◌≤◌, ◌^◌, ℤ, List, unsigned_abs, length, IfOk};
+ghost use Rattle.std.specs.Prelude.{◌≡◌, ℤ, List, length, IfOk};
 ghost use Rattle.mgn_plain.specs.Parts.{AreCredits, AreCreditsFrom, AreNetDeltas, AreRisks, AreTotals};
-ghost use Rattle.mgn_plain.specs.Rests.{AreCreditNumbers};
+ghost use Rattle.mgn_span.specs.Words.{AreNumbers};
 
 use crate::{credits, scan};
-use mgn_num::TenThousandths;
 use mgn_params::ParamSet;
 use mgn_params::rows::filled;
-use mgn_span::Total;
+use mgn_span::{Delta, Total};
 use std::alloc::{AllocError, Global};
 
 // The doubled price risks of the commodities.
-fn price_risks(alloc: Global, totals: &[[Total; 16]]) -> Result<Vec<u128>, AllocError>
+fn price_risks(alloc: Global, totals: &[[Total; 16]]) -> Result<Vec<u64>, AllocError>
     ensures { IfOk result (λ risks. AreRisks totals.now risks.items) }
 {
     let mut risks = filled(alloc, totals.len(), 0)?;
@@ -22,11 +21,11 @@ fn price_risks(alloc: Global, totals: &[[Total; 16]]) -> Result<Vec<u128>, Alloc
 fn credit_row(
     alloc: Global,
     set: &ParamSet,
-    deltas: &[TenThousandths],
-    risks: &[u128],
+    deltas: &[Delta],
+    risks: &[u64],
 ) -> Result<Vec<u128>, AllocError>
     requires one_each { length deltas.now ≡ length set.now.commodities }
-    requires numbers { AreCreditNumbers deltas.now risks.now }
+    requires numbers { AreNumbers deltas.now risks.now }
     ensures { IfOk result (λ row. AreCreditsFrom set.now deltas.now risks.now row.items) }
 {
     set.limits();
@@ -41,7 +40,7 @@ fn credit_row(
 pub(crate) fn work_out_credits(
     alloc: Global,
     set: &ParamSet,
-    deltas: &[TenThousandths],
+    deltas: &[Delta],
     totals: &[[Total; 16]],
 ) -> Result<Vec<u128>, AllocError>
     requires { (nets : List ℤ) × AreNetDeltas set.now nets deltas.now × AreTotals set.now nets totals.now }

@@ -56,12 +56,12 @@ pub(crate) fn totals_row(totals: &[[Total; 16]], commodity: usize) -> &[Total; 1
 }
 
 // Twice the price risk of each commodity.
-pub(crate) fn fill_price_risks(risks: &mut [u128], totals: &[[Total; 16]])
+pub(crate) fn fill_price_risks(risks: &mut [u64], totals: &[[Total; 16]])
     requires one_each { length risks.old ≡ length totals.now }
     ensures one_each { length risks.new ≡ length totals.now }
     ensures risks { (g : ℕ) → g < length totals.now → slice_index risks.new g ≡ unsigned_abs (price_risk2 (total_of totals.now g)) }
 {
     for g in 0..totals.len() {
-        risks[g] = doubled_risk(totals_row(totals, g)).size();
+        risks[g] = doubled_risk(totals_row(totals, g)).size() as u64;
     }
 }
