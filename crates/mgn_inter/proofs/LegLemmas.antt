@@ -1,24 +1,23 @@
 -- The legs of one spread, one after the other.
-use Rattle.std.proofs.Common.{◌≡◌, ◌≢◌, ℕ, zero, suc, ◌+◌, ◌-◌, ◌*◌, ◌<◌, ◌≤◌, Bool, true, false, List, [], ◌∷◌, length, map, take, get_or, slice_index, slice_set, min, pos, negsuc, ℤ, unsigned_abs, ap, ◌∙◌, sym, subst, arith, refl, replicate, eq-eqb, ne_eqb, All, ⊎_elim, length-set, get_or-set_same, get_or-set_other}
+use Rattle.std.proofs.Common.{◌≡◌, ◌≢◌, ℕ, zero, suc, ◌+◌, ◌-◌, ◌<◌, ◌≤◌, Bool, true, false, List, [], ◌∷◌, length, map, take, get_or, slice_index, slice_set, min, pos, ℤ, ap, ◌∙◌, sym, subst, arith, refl, replicate, eq-eqb, ne_eqb, All, ⊎_elim, length-set, get_or-set_same, get_or-set_other}
 use Rattle.std.specs.Prelude.{◌==◌, if◌then◌else◌, not}
-use Rattle.std.specs.List.{AllByRecursion, IsDistinct, fold, list_all, sum_by, zip}
+use Rattle.std.specs.List.{IsDistinct, fold, list_all, sum_by, zip}
 use Rattle.std.specs.Ordering.{int_eq}
 use Rattle.std.proofs.lemmas.Bool.{cases_eq, cases_lt, false≢true, true≢false}
 use Rattle.std.proofs.lemmas.Bool.Decides.{Decides-int_eq}
-use Rattle.std.proofs.lemmas.Int.{ints}
 use Rattle.std.proofs.lemmas.List.{get_or-map, length-map, set_past}
 use Rattle.std.proofs.lemmas.Map.Keys.{apart_from_distinct}
 use Rattle.std.proofs.lemmas.List.Sums.{fold_more, sum_by-cons, sum_by-take-le, sum_by_more}
 use Rattle.std.proofs.lemmas.Slice.Zip.{get_or-zip, length-zip}
-use Rattle.std.proofs.lemmas.List.Elements.{All-from_recursion, All-head, All-nil, All-tail}
-use Rattle.std.proofs.lemmas.Grind.{common_steps}
+use Rattle.std.proofs.lemmas.List.Elements.{All-head, All-tail}
 use Rattle.mgn_num.specs.Amount.{nearer_zero}
 use Rattle.mgn_params.specs.declared.tables.Leg.{Leg}
 use Rattle.mgn_span.specs.Credits.{credits_after, fits, forms, leg_amount, leg_credit, rests_after, spread_amount}
 use Rattle.mgn_span.specs.Scan.{value_at}
 use Rattle.mgn_span.specs.Stages.{used}
 use Rattle.mgn_params.specs.Tables.{no_leg}
-use Rattle.mgn_inter.specs.Rows.{brought, leg_at, leg_share, marked, moved_at, names, share_of}
+use Rattle.mgn_inter.specs.Rows.{brought, leg_share, marked, moved_at, names, share_of}
+use Rattle.mgn_span.specs.Words.{leg_at}
 
 -- a choice of which both sides are right
 pub either_is : {X : Type 0} (b : Bool) (x y right : X) → (b ≡ true → x ≡ right) → (b ≡ false → y ≡ right) → (if b then x else y) ≡ right
@@ -36,17 +35,6 @@ names_other g leg legs h = λ e. let is = eq-eqb leg.commodity g e in cc
 names_tail : (g : ℕ) (leg : Leg) (legs : List Leg) → names g (leg ∷ legs) ≡ false → names g legs ≡ false
 names_tail g leg legs h = rw (ne_eqb leg.commodity g (names_other g leg legs h)) at h
 
--- legs keep the length of a row
-pub length-rests_after : (rests : List ℤ) (amount : ℕ) (legs : List Leg) → length (rests_after rests amount legs) ≡ length rests
-length-rests_after rests amount [] = refl
-length-rests_after rests amount (leg ∷ legs) =
-    length-rests_after (slice_set rests leg.commodity (nearer_zero (value_at rests leg.commodity) (used amount leg.ratio))) amount legs ∙ simp length-set
-
-pub length-credits_after : (deltas : List ℤ) (risks : List ℕ) (rate amount : ℕ) (credits : List ℕ) (legs : List Leg) → length (credits_after deltas risks rate amount credits legs) ≡ length credits
-length-credits_after deltas risks rate amount credits [] = refl
-length-credits_after deltas risks rate amount credits (leg ∷ legs) =
-    length-credits_after deltas risks rate amount (slice_set credits leg.commodity (slice_index credits leg.commodity + leg_credit deltas risks rate amount leg)) legs ∙ simp length-set
-
 -- a commodity that no leg names keeps its rest and its credit
 pub rests_after_out : (rests : List ℤ) (amount : ℕ) (legs : List Leg) (g : ℕ) → names g legs ≡ false → value_at (rests_after rests amount legs) g ≡ value_at rests g
 rests_after_out rests amount [] g h = refl
@@ -61,47 +49,6 @@ credits_after_out deltas risks rate amount credits (leg ∷ legs) g h =
     let n = slice_index credits leg.commodity + leg_credit deltas risks rate amount leg in
     credits_after_out deltas risks rate amount (slice_set credits leg.commodity n) legs g (names_tail g leg legs h)
     ∙ get_or-set_other credits leg.commodity g n 0 (λ e. names_other g leg legs h (sym e))
-
--- no use leads away from 0
-nearer_zero_size : (z : ℤ) (n : ℕ) → unsigned_abs (nearer_zero z n) ≤ unsigned_abs z
-nearer_zero_size (pos m) n = omega (arith, ints)
-nearer_zero_size (negsuc m) n = omega (arith, ints)
-
-pub rests_after_near : (rests : List ℤ) (amount : ℕ) (legs : List Leg) (g : ℕ) → unsigned_abs (value_at (rests_after rests amount legs) g) ≤ unsigned_abs (value_at rests g)
-rests_after_near rests amount [] g = omega arith
-rests_after_near rests amount (leg ∷ legs) g =
-    let d = nearer_zero (value_at rests leg.commodity) (used amount leg.ratio) in
-    let rest = rests_after_near (slice_set rests leg.commodity d) amount legs g in
-    let own : unsigned_abs (value_at (slice_set rests leg.commodity d) g) ≤ unsigned_abs (value_at rests g) =
-    grind (arith, common_steps, nearer_zero_size (value_at rests leg.commodity) (used amount leg.ratio)) in
-    omega (arith, rest, own)
-
--- what legs credit
-pub credits_after_small : (deltas : List ℤ) (risks : List ℕ) (rate amount : ℕ) (credits : List ℕ) (legs : List Leg) (most g : ℕ) → All (λ leg. leg_credit deltas risks rate amount leg ≤ most) legs → slice_index (credits_after deltas risks rate amount credits legs) g ≤ slice_index credits g + length legs * most
-credits_after_small deltas risks rate amount credits [] most g small = omega arith
-credits_after_small deltas risks rate amount credits (leg ∷ legs) most g small =
-    let credit = leg_credit deltas risks rate amount leg in
-    let n = slice_index credits leg.commodity + credit in
-    let rest = credits_after_small deltas risks rate amount (slice_set credits leg.commodity n) legs most g (All-tail (λ (l : Leg). leg_credit deltas risks rate amount l ≤ most) leg legs small) in
-    let head : credit ≤ most = All-head (λ (l : Leg). leg_credit deltas risks rate amount l ≤ most) leg legs small in
-    let own : slice_index (slice_set credits leg.commodity n) g ≤ slice_index credits g + credit = grind (arith, common_steps) in
-    omega (arith, rest, head, own)
-
--- the amount of a spread is at most that of each leg alone
-least_le : (rests : List ℤ) (least : ℕ) (legs : List Leg) → fold (λ n other. min n (leg_amount rests other)) least legs ≤ least
-least_le rests least [] = omega arith
-least_le rests least (leg ∷ legs) = omega (arith, least_le rests (min least (leg_amount rests leg)) legs)
-
-least_each : (rests : List ℤ) (most least : ℕ) (legs : List Leg) → most ≤ fold (λ n other. min n (leg_amount rests other)) least legs → AllByRecursion (λ leg. most ≤ leg_amount rests leg) legs
-least_each rests most least [] h = tt
-least_each rests most least (leg ∷ legs) h =
-    (omega (arith, h, least_le rests (min least (leg_amount rests leg)) legs), least_each rests most (min least (leg_amount rests leg)) legs h)
-
-pub spread_amount_least : (rests : List ℤ) (legs : List Leg) → All (λ leg. spread_amount rests legs ≤ leg_amount rests leg) legs
-spread_amount_least rests [] = All-nil (λ (leg : Leg). 0 ≤ leg_amount rests leg)
-spread_amount_least rests (leg ∷ legs) =
-    let least = spread_amount rests (leg ∷ legs) in
-    All-from_recursion (λ (l : Leg). least ≤ leg_amount rests l) (leg ∷ legs) (least_le rests (leg_amount rests leg) legs, least_each rests least (leg_amount rests leg) legs (omega arith))
 
 -- Two rows of rests in which the legs' commodities have equal ones.
 

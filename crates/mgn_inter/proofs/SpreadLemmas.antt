@@ -1,26 +1,21 @@
 -- One spread between commodities: what it keeps, how much it credits, and what a commodity means that it does not name.
-use Rattle.std.proofs.Common.{◌≡◌, ℕ, ◌+◌, ◌*◌, ◌/◌, ◌<◌, ◌≤◌, ◌^◌, Bool, true, false, List, [], ◌∷◌, length, get_or, slice_index, pos, ℤ, replicate, unsigned_abs, ap, ◌∙◌, sym, arith, refl, All, length-take}
-use Rattle.std.specs.List.{list_all, list_any}
-use Rattle.std.specs.Prelude.{◌||◌, if◌then◌else◌}
+use Rattle.std.proofs.Common.{◌≡◌, ℕ, ◌+◌, ◌*◌, ◌<◌, ◌≤◌, ◌^◌, Bool, true, false, List, [], ◌∷◌, length, get_or, slice_index, pos, ℤ, replicate, unsigned_abs, ap, ◌∙◌, sym, arith, refl, All, length-take}
+use Rattle.std.specs.List.{list_any}
+use Rattle.std.specs.Prelude.{if◌then◌else◌}
 use Rattle.std.proofs.lemmas.Bool.{false≢true}
-use Rattle.std.proofs.lemmas.Int.{ints}
 use Rattle.std.proofs.lemmas.List.{length-replicate}
 use Rattle.std.proofs.lemmas.List.Elements.{All-weaker}
-use Rattle.std.proofs.lemmas.List.Sums.{AllPass-from_list_all}
-use Rattle.std.proofs.lemmas.Nat.{div_below}
-use Rattle.std.proofs.Math.Nat.{mul-le-mul, mul-le-mul_left, mul-le-mul_right}
 use Rattle.mgn_params.specs.declared.tables.CreditSpread.{CreditSpread}
 use Rattle.mgn_params.specs.declared.tables.Leg.{Leg}
 use Rattle.mgn_span.specs.Credits.{credits_after, fits, formed, forms, is_long, leg_credit, rests_after, spread_amount}
 use Rattle.mgn_params.specs.Limits.{IsCreditSpread}
 use Rattle.mgn_span.specs.Scan.{value_at}
-use Rattle.mgn_span.specs.Stages.{used}
 use Rattle.mgn_params.specs.Tables.{is_side_a, legs_of}
-use Rattle.mgn_span.proofs.StageLemmas.{used_le_left}
 use Rattle.mgn_inter.specs.declared.kept.Kept.{Kept}
-use Rattle.mgn_inter.specs.Rows.{AreNear, AreNumbers, IsCreditable, IsKept, leg_at, names, share_of}
-use Rattle.mgn_span.specs.Words.{AreRests}
-use Rattle.mgn_inter.proofs.LegLemmas.{Agree, AgreeOn, either_is, credits_after_out, credits_after_same, credits_after_shares, credits_after_small, forms_same, length-credits_after, length-rests_after, rests_after_near, rests_after_out, rests_after_same, share_none, spread_amount_least, spread_amount_same}
+use Rattle.mgn_inter.specs.Rows.{IsKept, names, share_of}
+use Rattle.mgn_span.specs.Words.{AreRests, AreNumbers, IsCreditable, leg_at}
+use Rattle.mgn_inter.proofs.LegLemmas.{Agree, AgreeOn, either_is, credits_after_out, credits_after_same, credits_after_shares, forms_same, rests_after_out, rests_after_same, share_none, spread_amount_same}
+use Rattle.mgn_span.proofs.CreditLemmas.{credits_after_small, leg_credit_small, legs_creditable, length-credits_after, length-rests_after, rests_after_near}
 
 -- the rests and credits where a spread forms, and where it does not
 outcome : List ℤ → List ℕ → List ℤ × List ℕ → CreditSpread → ℕ → Bool → List ℤ × List ℕ
@@ -171,72 +166,6 @@ kept_no deltas risks rests s k they_dont rests_long after_long rests_are after_a
           ap (λ (p : List ℤ × List ℕ). slice_index p.1 g) (is x)
           ∙ omega (arith, ap (λ (r : List ℕ). share_of g legs r) credits, share_none g legs 4);
     }
-
--- a leg that fits has a rest other than 0
-fits_some : (a_long : Bool) (rests : List ℤ) (leg : Leg) → fits a_long rests leg ≡ true → 0 < unsigned_abs (value_at rests leg.commodity)
-fits_some a_long rests leg h = grind (arith, ints)
-
-pub all_fit_some : (a_long : Bool) (rests : List ℤ) (legs : List Leg) → list_all (fits a_long rests) legs ≡ true → All (λ leg. 0 < unsigned_abs (value_at rests leg.commodity)) legs
-all_fit_some a_long rests legs h k d inside =
-    fits_some a_long rests (get_or legs k d) (AllPass-from_list_all (fits a_long rests) legs h k d inside)
-
-either_true : (a b : Bool) (P : Type 0) → (a || b) ≡ true → (a ≡ true → P) → (b ≡ true → P) → P
-either_true true b P h left right = left refl
-either_true false b P h left right = right h
-
-pub forms_some : (rests : List ℤ) (legs : List Leg) → forms rests legs ≡ true → All (λ leg. 0 < unsigned_abs (value_at rests leg.commodity)) legs
-forms_some rests legs h =
-    either_true (list_all (fits true rests) legs) (list_all (fits false rests) legs) (All (λ leg. 0 < unsigned_abs (value_at rests leg.commodity)) legs) h (all_fit_some true rests legs) (all_fit_some false rests legs)
-
--- the legs of a spread that forms may be credited
-amount_product : (amount rest ratio : ℕ) → 0 < ratio → rest ≤ 256 * 10 ^ 12 → amount ≤ 10000 * rest / ratio → amount * ratio ≤ 256 * 10 ^ 16
-amount_product amount rest ratio h small k = let more = mul-le-mul_right ratio k in omega arith
-
-pub legs_creditable : (deltas rests : List ℤ) (risks : List ℕ) (n : ℕ) (s : CreditSpread) → AreNumbers deltas risks → AreNear deltas rests (legs_of s) → n ≡ length deltas → IsCreditSpread n s → forms rests (legs_of s) ≡ true → All (IsCreditable deltas risks (spread_amount rests (legs_of s))) (legs_of s)
-legs_creditable deltas rests risks n s numbers are count limits h k d inside =
-    let legs = legs_of s in
-    let leg : Leg = get_or legs k d in
-    let amount = spread_amount rests legs in
-    let limit = limits.legs k d inside in
-    let here : leg.commodity < length deltas = omega (arith, limit.commodity, count) in
-    let near = are k d inside in
-    let some = forms_some rests legs h k d inside in
-    let small = numbers.small_deltas leg.commodity (pos 0) here in
-    let least = spread_amount_least rests legs k d inside in
-    let left = used_le_left amount (unsigned_abs (value_at rests leg.commodity)) leg.ratio limit.ratio least in
-    record {
-      there = here;
-      risk_there = omega (arith, numbers.one_each, here);
-      some = omega (arith, near, some);
-      small = small;
-      risk = numbers.small_risks leg.commodity;
-      product = amount_product amount (unsigned_abs (value_at rests leg.commodity)) leg.ratio limit.ratio (omega (arith, near, small)) least;
-      use_small = omega (arith, near, left);
-    }
-
--- a leg is credited at most 10^33
-quotient_small : (p d most : ℕ) → 0 < d → p ≤ 20000 * most → p / (20000 * d) ≤ most
-quotient_small p d most h small =
-    let one : 20000 * 1 ≤ 20000 * d = omega arith in
-    let more = mul-le-mul_left (most + 1) one in
-    let below = div_below p (20000 * d) (most + 1) (omega arith) (omega (arith, more)) in
-    omega (arith, below)
-
-pub leg_credit_small : (deltas : List ℤ) (risks : List ℕ) (rate amount : ℕ) (leg : Leg) → rate ≤ 10000 → IsCreditable deltas risks amount leg → leg_credit deltas risks rate amount leg ≤ 10 ^ 33
-leg_credit_small deltas risks rate amount leg low is =
-    let used_small : used amount leg.ratio ≤ 256 * 10 ^ 12 = omega (arith, is.use_small, is.small) in
-    let first = mul-le-mul used_small low in
-    let second = mul-le-mul first is.risk in
-    quotient_small (used amount leg.ratio * rate * slice_index risks leg.commodity) (unsigned_abs (value_at deltas leg.commodity)) (10 ^ 33) is.some (omega (arith, second))
-
--- and no more than half of twice its price risk, so that 64 bits hold it
-pub leg_credit_tight : (deltas : List ℤ) (risks : List ℕ) (rate amount : ℕ) (leg : Leg) → rate ≤ 10000 → IsCreditable deltas risks amount leg → leg_credit deltas risks rate amount leg ≤ 55 * 10 ^ 16
-leg_credit_tight deltas risks rate amount leg low is =
-    let d = unsigned_abs (value_at deltas leg.commodity) in
-    let first = mul-le-mul is.use_small low in
-    let second = mul-le-mul first is.risk in
-    let below = div_below (used amount leg.ratio * rate * slice_index risks leg.commodity) (20000 * d) (55 * 10 ^ 16 + 1) (omega (arith, is.some)) (omega (arith, second, is.some)) in
-    omega (arith, below)
 
 -- and each commodity by one spread at most 4 * 10^33
 outcome_small : (deltas : List ℤ) (risks : List ℕ) (rests : List ℤ) (credits : List ℕ) (s : CreditSpread) (n : ℕ) (b : Bool) (g : ℕ) → AreNumbers deltas risks → AreRests deltas rests → n ≡ length deltas → IsCreditSpread n s → b ≡ forms rests (legs_of s) → slice_index (outcome deltas risks (rests, credits) s (spread_amount rests (legs_of s)) b).1 g ≤ slice_index credits g + 4 * 10 ^ 33

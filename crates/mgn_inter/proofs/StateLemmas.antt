@@ -9,9 +9,9 @@ use Rattle.mgn_span.specs.Scan.{value_at}
 use Rattle.mgn_params.specs.Limits.{IsCreditSpread}
 use Rattle.mgn_params.specs.Tables.{credit_spread_at, legs_of, no_credit_spread}
 use Rattle.mgn_inter.specs.declared.kept.Kept.{Kept}
-use Rattle.mgn_inter.specs.Rows.{IsKept, kept_at, leg_at, nothing_kept, rests_at, share_at, share_of, state_of}
+use Rattle.mgn_inter.specs.Rows.{IsKept, kept_at, nothing_kept, rests_at, share_at, share_of, state_of}
 use Rattle.mgn_inter.specs.Shares.{shares}
-use Rattle.mgn_span.specs.Words.{AreRests}
+use Rattle.mgn_span.specs.Words.{AreRests, leg_at}
 use Rattle.mgn_inter.proofs.SpreadLemmas.{formed_long, formed_near, formed_none}
 use Rattle.mgn_inter.proofs.LegLemmas.{share_none}
 

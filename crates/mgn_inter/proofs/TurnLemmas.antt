@@ -18,7 +18,8 @@ use Rattle.mgn_span.specs.Sizes.{IsDelta}
 use Rattle.mgn_inter.specs.declared.kept.Kept.{Kept}
 use Rattle.mgn_inter.specs.Sizes.{IsRisk}
 use Rattle.mgn_inter.specs.Credited.{AreCreditsOf, IsAtTurn}
-use Rattle.mgn_inter.specs.Rows.{AreNear, brought, Credited, AreWaiting, IsKept, kept_at, leg_at, marked, Misses, moved_at, names, nothing_kept, reached, rests_at, share_at, share_of, state_of}
+use Rattle.mgn_inter.specs.Rows.{brought, Credited, AreWaiting, IsKept, kept_at, marked, Misses, moved_at, names, nothing_kept, reached, rests_at, share_at, share_of, state_of}
+use Rattle.mgn_span.specs.Words.{AreNear, leg_at}
 use Rattle.mgn_inter.specs.Shares.{shares}
 use Rattle.mgn_inter.proofs.LegLemmas.{Agree, AgreeOn, brought_is, length-brought, length-marked, marked_is, marked_out, named_all, share_out}
 use Rattle.mgn_inter.proofs.SpreadLemmas.{formed_long, formed_out, formed_same, kept_same, kept_small}

@@ -3,7 +3,8 @@ use Rattle.std.specs.Prelude.{ℕ, ◌≡◌, ◌≢◌, ◌<◌, ◌≤◌, ◌
 use Rattle.mgn_params.specs.Tables.{Tables, credit_spread_at}
 use Rattle.mgn_span.specs.Credits.{credits_of}
 use Rattle.mgn_span.specs.Scan.{value_at}
-use Rattle.mgn_inter.specs.Rows.{AreNumbers, Credited, IsKept, Misses, kept_at, moved_at, rests_at}
+use Rattle.mgn_inter.specs.Rows.{Credited, IsKept, Misses, kept_at, moved_at, rests_at}
+use Rattle.mgn_span.specs.Words.{AreNumbers}
 use Rattle.mgn_inter.specs.Shares.{shares}
 
 -- as many rows as a set has commodities and intercommodity spreads

@@ -1,5 +1,5 @@
 -- The rows from which the spreads that a change reaches are formed again, one after the other.
-use Rattle.std.specs.Prelude.{ℕ, ◌≡◌, ◌+◌, ◌<◌, ◌≤◌, ◌*◌, ◌^◌, ◌==◌, ◌||◌, not, if◌then◌else◌, Bool, false, ℤ, pos, unsigned_abs, List, [], ◌∷◌, ◌++◌, ◌⊎◌, length, replicate, take, slice_index, slice_index_or, slice_set, All}
+use Rattle.std.specs.Prelude.{ℕ, ◌≡◌, ◌+◌, ◌<◌, ◌≤◌, ◌==◌, ◌||◌, not, if◌then◌else◌, Bool, false, ℤ, pos, List, [], ◌∷◌, ◌++◌, ◌⊎◌, length, replicate, take, slice_index, slice_index_or, slice_set}
 use Rattle.std.specs.Int.{bit_at}
 use Rattle.std.specs.List.{fold, list_any, sum_by, zip}
 use Rattle.std.specs.Ordering.{int_eq}
@@ -7,18 +7,13 @@ use Rattle.mgn_params.specs.declared.tables.CreditSpread.{CreditSpread}
 use Rattle.mgn_params.specs.declared.tables.Leg.{Leg}
 use Rattle.mgn_span.specs.Credits.{formed}
 use Rattle.mgn_span.specs.Scan.{value_at}
-use Rattle.mgn_span.specs.Stages.{used}
-use Rattle.mgn_params.specs.Tables.{credit_spread_at, legs_of, no_leg}
+use Rattle.mgn_params.specs.Tables.{credit_spread_at, legs_of}
 use Rattle.mgn_inter.specs.declared.kept.Kept.{Kept}
-use Rattle.mgn_inter.specs.Sizes.{IsRisk}
-use Rattle.mgn_span.specs.Sizes.{IsDelta}
+use Rattle.mgn_span.specs.Words.{leg_at}
 
 -- whether a leg is of a commodity
 abbrev pub names : ℕ → List Leg → Bool
 names g legs = list_any (λ leg. leg.commodity == g) legs
-
-abbrev pub leg_at : List Leg → ℕ → Leg
-leg_at legs k = slice_index_or legs k no_leg
 
 -- whether one of the spreads at some places names a commodity
 abbrev pub named : ℕ → List CreditSpread → List ℕ → Bool
@@ -53,27 +48,6 @@ leg_share g p = if p.0.commodity == g then p.1 else 0
 
 abbrev pub share_of : ℕ → List Leg → List ℕ → ℕ
 share_of g legs credits = sum_by (leg_share g) (zip legs credits)
-
--- one net delta and one doubled price risk for each commodity, within their sizes
-pub record AreNumbers (deltas : List ℤ) (risks : List ℕ) : Type 0 where
-  pub one_each : length risks ≡ length deltas
-  pub small_deltas : All IsDelta deltas
-  pub small_risks : (g : ℕ) → IsRisk (slice_index risks g)
-
--- a leg of a formed spread: its commodity has a net delta, and it uses no more of it than there is
-pub record IsCreditable (deltas : List ℤ) (risks : List ℕ) (amount : ℕ) (leg : Leg) : Type 0 where
-  pub there : leg.commodity < length deltas
-  pub risk_there : leg.commodity < length risks
-  pub some : 0 < unsigned_abs (value_at deltas leg.commodity)
-  pub small : unsigned_abs (value_at deltas leg.commodity) ≤ 256 * 10 ^ 12
-  pub risk : IsRisk (slice_index risks leg.commodity)
-  pub product : amount * leg.ratio ≤ 256 * 10 ^ 16
-  pub use_small : used amount leg.ratio ≤ unsigned_abs (value_at deltas leg.commodity)
-
--- no leg's rest is farther from 0 than its net delta
-abbrev pub AreNear : List ℤ → List ℤ → List Leg → Type 0
-AreNear deltas rests legs =
-    All (λ leg. unsigned_abs (value_at rests leg.commodity) ≤ unsigned_abs (value_at deltas leg.commodity)) legs
 
 -- a row of four that begins with the rests of the legs' commodities
 pub record AreRestsOf (legs : List Leg) (rests row : List ℤ) : Type 0 where

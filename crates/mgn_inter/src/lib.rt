@@ -3,7 +3,6 @@
 
 mod inter;
 mod kept;
-mod legs;
 mod naming;
 mod reworked;
 mod rows;

@@ -2,7 +2,8 @@
 
 ghost use Rattle.std.specs.Prelude.{◌≡◌, ◌≢◌, ℕ, ◌<◌, ◌≤◌, ◌==◌, false, true, length, All, slice_index, IfOk};
 ghost use Rattle.std.specs.Int.{bit_at};
-ghost use Rattle.mgn_inter.specs.Rows.{Misses, leg_at, moved_at, names};
+ghost use Rattle.mgn_inter.specs.Rows.{Misses, moved_at, names};
+ghost use Rattle.mgn_span.specs.Words.{leg_at};
 ghost use Rattle.mgn_params.specs.Limits.{IsCreditSpread};
 ghost use Rattle.mgn_params.specs.Tables.{credit_spread_at};
 

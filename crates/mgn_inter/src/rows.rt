@@ -1,17 +1,18 @@
 //! The rows of the commodities while spreads are formed.
 
-ghost use Rattle.std.specs.Prelude.{◌≡◌, ℕ, ℤ, ◌+◌, ◌*◌, ◌<◌, ◌≤◌, ◌^◌, ◌==◌, if◌then◌else◌, pos, length, map, replicate, All, not, slice_index, IfOk, List};
+ghost use Rattle.std.specs.Prelude.{◌≡◌, ℕ, ℤ, ◌+◌, ◌<◌, ◌≤◌, ◌^◌, ◌==◌, if◌then◌else◌, length, map, All, not, slice_index, List};
 ghost use Rattle.std.specs.List.{IsDistinct};
 ghost use Rattle.std.specs.Str.{bytes_eq};
-ghost use Rattle.mgn_inter.specs.Rows.{AreNear, AreNumbers, AreRestsOf, brought, IsKept, leg_at, marked, moved_at, reached, share_of};
+ghost use Rattle.mgn_inter.specs.Rows.{AreRestsOf, brought, IsKept, marked, moved_at, reached, share_of};
+ghost use Rattle.mgn_span.specs.Words.{AreNear, AreNumbers, leg_at};
 ghost use Rattle.mgn_span.specs.Credits.{formed};
 ghost use Rattle.mgn_params.specs.Limits.{IsCreditSpread};
 ghost use Rattle.mgn_span.specs.Scan.{value_at};
 ghost use Rattle.mgn_params.specs.Tables.{legs_of};
 
-use crate::legs::{amount_of_legs, credits_of_legs, rest_at, spread_forms, use_rests};
 use mgn_params::{CreditSpread, Leg};
-use mgn_span::Delta;
+use mgn_span::legs::{amount_of_legs, credits_of_legs, spread_forms, use_rests};
+use mgn_span::{Delta, delta_at};
 
 /// Whether a leg is of the commodity at a place, or of one whose rest has moved.
 pub(crate) fn is_reached(moved: &[bool], g: usize, legs: &[Leg]) -> bool
@@ -29,7 +30,7 @@ fn rest_at_turn(moved: &[bool], rests: &[Delta], commodity: usize, kept: Delta) 
     ensures { result ≡ (if moved_at moved.now commodity then value_at rests.now commodity else kept) }
 {
     if moved[commodity] {
-        rest_at(rests, commodity)
+        delta_at(rests, commodity)
     } else {
         kept
     }
@@ -136,7 +137,7 @@ pub(crate) fn mark_moved(moved: &mut [bool], rests: &[Delta], legs: &[Leg], kept
 {
     for k in 0..legs.len() {
         let commodity = legs[k].commodity;
-        let rest = rest_at(rests, commodity);
+        let rest = delta_at(rests, commodity);
         moved[commodity] = rest.differs(kept[k]);
         kept[k] = rest;
     }

@@ -36,8 +36,6 @@ impl Model for OptionSums {
     ghost invariant = { λ s. IsOptionValue s.value };
 }
 
-}
-
 fn minimum_at(minimums: &[Minimum], commodity: usize) -> Minimum
     requires { commodity < length minimums.now }
     ensures { result ≡ slice_index minimums.now commodity }

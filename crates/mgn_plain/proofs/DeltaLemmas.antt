@@ -1,6 +1,6 @@
 -- What deltas come to, and how large they are.
-use Rattle.std.proofs.Common.{◌≡◌, ℕ, zero, suc, ◌+◌, ◌-◌, ◌*◌, ◌<◌, ◌≤◌, ◌^◌, List, length, take, pos, ℤ, ap, ◌∙◌, arith, take_all, add-one, unsigned_abs, ⊎_elim}
-use Rattle.std.specs.Prelude.{nat_lt}
+use Rattle.std.proofs.Common.{◌≡◌, ℕ, zero, suc, ◌+◌, ◌-◌, ◌*◌, ◌<◌, ◌≤◌, ◌^◌, List, length, take, pos, ℤ, ap, ◌∙◌, arith, take_all, add-one, eq-eqb, refl, unsigned_abs, ⊎_elim}
+use Rattle.std.specs.Prelude.{◌+ℤ◌, nat_lt}
 use Rattle.std.proofs.lemmas.Bool.{cases_lt}
 use Rattle.std.proofs.lemmas.Int.{ints}
 use Rattle.std.proofs.lemmas.List.{get_or_past}
@@ -14,16 +14,17 @@ use Rattle.mgn_span.specs.Deltas.{month_delta, starts_from}
 use Rattle.mgn_params.specs.Limits.{IsWithinLimits}
 use Rattle.mgn_span.specs.Positions.{Position, positions}
 use Rattle.mgn_span.specs.Scan.{value_at}
+use Rattle.mgn_span.specs.Sizes.{IsDelta}
 use Rattle.mgn_span.specs.Words.{long_share, month_share, net_delta, net_share, short_share, start_of, starts_of}
-use Rattle.mgn_params.specs.Tables.{Tables, contract_at, no_contract, month_at}
+use Rattle.mgn_params.specs.Tables.{Tables, contract_at, no_contract, no_month, month_at}
 use Rattle.mgn_plain.specs.Kept.{leg_of, legs_row}
 use Rattle.mgn_plain.specs.declared.deltas.MonthSums.{MonthSums}
 use Rattle.mgn_plain.specs.Months.{AreMonthSums, AreMonthSumsTo}
 use Rattle.mgn_plain.specs.Parts.{AreDeltas, AreNets}
 use Rattle.mgn_span.proofs.PositionLemmas.{position_sum_more}
-use Rattle.mgn_span.proofs.DeltaLemmas.{month_delta_small}
+use Rattle.mgn_span.proofs.DeltaLemmas.{net_delta_small_to}
 use Rattle.mgn_span.proofs.ShareLemmas.{month_share_small}
-use Rattle.mgn_span.proofs.SumLemmas.{sum_below_same, signed_sum_below_same, sum_below_le, sum_below_none, sum_below_grown, sum_below_one, sum_below_if, sum_below_fewer, signed_sum_below_small}
+use Rattle.mgn_span.proofs.SumLemmas.{sum_below_same, signed_sum_below_same, sum_below_le, sum_below_none, sum_below_grown, sum_below_one, sum_below_if, sum_below_fewer}
 use Rattle.mgn_span.specs.MonthDeltas.{leg_share, month_net, net_share_by, start_share}
 
 -- a month counts for at most its delta's size
@@ -47,10 +48,6 @@ starts_are t nets deltas starts g are long each =
 pub net_is : (t : Tables) (nets deltas : List ℤ) (g : ℕ) → AreDeltas t nets deltas → signed_sum_below (net_share_by t.months deltas g) (length t.months) ≡ net_delta t.months (positions t.contracts nets) g
 net_is t nets deltas g are =
     signed_sum_below_same (net_share_by t.months deltas g) (net_share t.months (positions t.contracts nets) g) (length t.months) (λ m h. ap (λ (d : ℤ). month_net (month_at t.months m) d g) (are.each m h))
-
--- a month of a delta within the limits counts for as little in a net delta
-net_share_size : (month : Month) (delta : ℤ) (g : ℕ) → unsigned_abs (month_net month delta g) ≤ unsigned_abs delta
-net_share_size month delta g = grind (arith, ints)
 
 -- a delta of 0 counts for nothing
 
@@ -107,13 +104,15 @@ start_small_to t nets deltas m sums g leg limits are summed few h k =
     let fewer = sum_below_fewer (leg_share t.months deltas g leg) m (length t.months) few in
     omega (arith, summed.starts g leg h k, fewer, start_is t nets deltas g leg are, start_small t nets g leg limits are.of_nets)
 
--- and no net delta is large after them
-pub net_small_to : (t : Tables) (nets deltas : List ℤ) (m : ℕ) (sums : MonthSums) (g : ℕ) → IsWithinLimits t → AreDeltas t nets deltas → AreMonthSumsTo t deltas m sums → m ≤ length t.months → g < length t.commodities → unsigned_abs (value_at sums.nets.items g) ≤ m * (256 * 10 ^ 12)
-net_small_to t nets deltas m sums g limits are summed few h =
-    let low = signed_sum_below_small (net_share_by t.months deltas g) (256 * 10 ^ 12) m (λ k p.
-    let own = month_delta_small t nets k limits are.of_nets.one_each are.of_nets.small in
-    omega (arith, ints, own, are.each k (omega (arith, p, few)), net_share_size (month_at t.months k) (value_at deltas k) g)) in
-    rw (summed.nets g h) low
+-- and the net delta of a commodity with one month of it more is a delta
+pub net_room : (t : Tables) (nets deltas : List ℤ) (m : ℕ) (sums : MonthSums) → IsWithinLimits t → AreDeltas t nets deltas → AreMonthSumsTo t deltas m sums → m < length t.months → let g = (month_at t.months m).commodity in IsDelta (value_at sums.nets.items g +ℤ value_at deltas m)
+net_room t nets deltas m sums limits are summed h =
+    let g = (month_at t.months m).commodity in
+    let small = net_delta_small_to t nets g (m + 1) limits are.of_nets.one_each are.of_nets.small in
+    let same = signed_sum_below_same (net_share_by t.months deltas g) (net_share t.months (positions t.contracts nets) g) (m + 1) (λ k p. ap (λ (d : ℤ). month_net (month_at t.months k) d g) (are.each k (omega (arith, p, h)))) in
+    let more = signed_sum_below_more (net_share_by t.months deltas g) m in
+    let own : net_share_by t.months deltas g m ≡ value_at deltas m = rw (eq-eqb g g refl) refl in
+    omega (arith, ints, small, same, more, own, summed.nets g (limits.months m no_month h).commodity)
 
 -- the sums of all months
 pub months_all : (t : Tables) (nets deltas : List ℤ) (sums : MonthSums) → IsWithinLimits t → AreDeltas t nets deltas → AreMonthSumsTo t deltas (length t.months) sums → AreMonthSums t nets sums

@@ -10,7 +10,7 @@ use Rattle.std.proofs.lemmas.Int.{ints}
 use Rattle.std.proofs.lemmas.List.{get_or-replicate, get_or_default, get_or_past, length-replicate, nil_from_length}
 use Rattle.std.proofs.lemmas.List.FromFn.{fill_by_all, length-map-range_with_len}
 use Rattle.mgn_span.specs.Credits.{credits_of}
-use Rattle.mgn_span.specs.Words.{net_delta, price_risk2_of, total_of}
+use Rattle.mgn_span.specs.Words.{AreNumbers, net_delta, price_risk2_of, total_of}
 use Rattle.mgn_params.specs.Limits.{IsWithinLimits}
 use Rattle.mgn_span.specs.Positions.{Position, positions}
 use Rattle.mgn_span.specs.Requirement.{credit, credits, intra_charge, minimum, risk, spot_charge}
@@ -22,7 +22,6 @@ use Rattle.mgn_plain.specs.declared.figure_rows.FigureRows.{FigureRows}
 use Rattle.mgn_plain.specs.declared.scanned.ScanFigures.{ScanFigures}
 use Rattle.mgn_plain.specs.Kept.{legs_row}
 use Rattle.mgn_plain.specs.Parts.{AreCredits, AreCreditsFrom, AreNetDeltas, AreFigureRows, AreRisks, AreTotals}
-use Rattle.mgn_plain.specs.Rests.{AreCreditNumbers}
 use Rattle.mgn_plain.specs.Scans.{scanned}
 use Rattle.mgn_span.proofs.DeltaLemmas.{net_delta_small}
 use Rattle.mgn_span.proofs.ShareLemmas.{scenario_total_small}
@@ -38,7 +37,7 @@ scanned_same : (f h : ℕ → ℤ) → ((s : ℕ) → s < 16 → f s ≡ h s) �
 scanned_same f h same = rw (price_risk2_same f h same, scan_risk_same f h same, active_same f h same) refl
 
 -- the numbers that credits are worked out from are within their limits
-pub credit_numbers : (t : Tables) (nets row : List ℤ) (totals : List (List ℤ)) (risks : List ℕ) → IsWithinLimits t → AreNetDeltas t nets row → AreTotals t nets totals → AreRisks totals risks → AreCreditNumbers row risks
+pub credit_numbers : (t : Tables) (nets row : List ℤ) (totals : List (List ℤ)) (risks : List ℕ) → IsWithinLimits t → AreNetDeltas t nets row → AreTotals t nets totals → AreRisks totals risks → AreNumbers row risks
 credit_numbers t nets row totals risks limits netted totalled priced = record {
   one_each = priced.one_each ∙ totalled.one_row_each ∙ sym netted.one_each;
   small_deltas = λ k d h.

@@ -3,6 +3,5 @@ pub mod Figures
 pub mod Kept
 pub mod Months
 pub mod Parts
-pub mod Rests
 pub mod Scans
 pub mod Sums

@@ -10,24 +10,8 @@ ghost use Rattle.mgn_span.specs.MonthDeltas.{month_net, start_share};
 use mgn_num::{Quantity, TenThousandths};
 use mgn_params::rows::filled;
 use mgn_params::{Contract, Month, ParamSet};
-use mgn_span::Delta;
+use mgn_span::{Delta, delta_at};
 use std::alloc::{AllocError, Global};
-
-// The delta at a place.
-pub(crate) fn delta_at(deltas: &[TenThousandths], place: usize) -> TenThousandths
-    requires { place < length deltas.now }
-    ensures { result ≡ value_at deltas.now place }
-{
-    deltas[place]
-}
-
-// The delta of a month.
-fn month_delta_at(deltas: &[Delta], month: usize) -> Delta
-    requires { month < length deltas.now }
-    ensures { result ≡ value_at deltas.now month }
-{
-    deltas[month]
-}
 
 // A delta and a net at a contract's delta more.
 fn plus_scaled(total: Delta, net: Quantity, delta: &i64) -> Delta
@@ -46,7 +30,7 @@ pub(crate) fn add_position(deltas: &mut [Delta], contract: &Contract, net: Quant
         value_at deltas.new m ≡ value_at deltas.old m +ℤ month_share m (contract.now, net) }
 {
     let month = contract.month;
-    deltas[month] = plus_scaled(month_delta_at(deltas, month), net, &contract.delta);
+    deltas[month] = plus_scaled(delta_at(deltas, month), net, &contract.delta);
 }
 
 // Adds a month's delta to the leg of its tier that has the delta's direction.
@@ -70,10 +54,9 @@ fn add_start(starts: &mut [[u64; 16]], month: &Month, delta: TenThousandths)
 }
 
 // Adds a month's delta to the net delta of its commodity.
-fn add_net(nets: &mut [TenThousandths], month: &Month, delta: TenThousandths)
+fn add_net(nets: &mut [Delta], month: &Month, delta: TenThousandths)
     requires commodity { month.now.commodity < length nets.old }
-    requires delta { unsigned_abs delta ≤ 10 ^ 20 }
-    requires room { (g : ℕ) → g < length nets.old → unsigned_abs (value_at nets.old g) ≤ 10 ^ 30 }
+    requires room { IsDelta (value_at nets.old month.now.commodity +ℤ delta) }
     ensures one_each { length nets.new ≡ length nets.old }
     ensures nets { (g : ℕ) → g < length nets.old →
         value_at nets.new g ≡ value_at nets.old g +ℤ month_net month.now delta g }
@@ -88,7 +71,7 @@ pub(crate) struct MonthSums {
     // What the legs of the commodities start with.
     pub starts: Vec<[u64; 16]>,
     // The net deltas of the commodities.
-    pub nets: Vec<TenThousandths>,
+    pub nets: Vec<Delta>,
 }
 
 // What no month comes to.
@@ -97,7 +80,7 @@ fn nothing(alloc: Global, set: &ParamSet) -> Result<MonthSums, AllocError>
 {
     Ok(MonthSums {
         starts: filled(alloc, set.commodity_count(), [0; 16])?,
-        nets: filled(alloc, set.commodity_count(), TenThousandths::ZERO)?,
+        nets: filled(alloc, set.commodity_count(), Delta::ZERO)?,
     })
 }
 
@@ -109,7 +92,7 @@ fn add_month(sums: &mut MonthSums, set: &ParamSet, deltas: &[Delta], m: usize)
     ensures { AreMonthSumsTo set.now deltas.now (m + 1) sums.new }
 {
     set.limits();
-    let delta = month_delta_at(deltas, m).ten_thousandths();
+    let delta = delta_at(deltas, m).ten_thousandths();
     let month = set.month_at(m);
     add_start(&mut sums.starts, month, delta);
     add_net(&mut sums.nets, month, delta);
@@ -122,7 +105,7 @@ fn add_months(sums: &mut MonthSums, set: &ParamSet, deltas: &[Delta])
     ensures { AreMonthSumsTo set.now deltas.now (length set.now.months) sums.new }
 {
     for m in 0..set.month_count() {
-        if month_delta_at(deltas, m) != Delta::ZERO {
+        if delta_at(deltas, m) != Delta::ZERO {
             add_month(sums, set, deltas, m);
         }
     }

@@ -1,15 +1,13 @@
-ghost use Rattle.std.specs.Prelude.{◌≡◌, ℕ, ◌*◌, ◌<◌, ◌≤◌, ◌^◌, ℤ, List, pos, unsigned_abs, length, false, IfOk};
-ghost use Rattle.mgn_span.specs.Words.{total_of};
+ghost use Rattle.std.specs.Prelude.{◌≡◌, ℕ, ◌<◌, ℤ, List, pos, length, false, IfOk};
+ghost use Rattle.mgn_span.specs.Words.{AreNumbers, total_of};
 ghost use Rattle.mgn_plain.specs.Kept.{mark_at};
 ghost use Rattle.mgn_plain.specs.Parts.{AreCredits, AreCreditsFrom, AreNetDeltas, AreRisks, AreSums};
-ghost use Rattle.mgn_plain.specs.Rests.{AreCreditNumbers};
 
 use crate::sums::Sums;
 use crate::{credits, scan};
-use mgn_num::TenThousandths;
 use mgn_params::ParamSet;
 use mgn_params::rows::filled;
-use mgn_span::Total;
+use mgn_span::{Delta, Total};
 use std::alloc::{AllocError, Global};
 
 // The doubled price risks of the commodities. Nothing is read of one of which each net is 0, as of most.
@@ -17,7 +15,7 @@ fn price_risks(
     alloc: Global,
     totals: &[[Total; 16]],
     held: &[bool],
-) -> Result<Vec<u128>, AllocError>
+) -> Result<Vec<u64>, AllocError>
     requires one_each { length held.now ≡ length totals.now }
     requires flat { (g s : ℕ) → mark_at held.now g ≡ false → g < length totals.now → s < 16 → total_of totals.now g s ≡ pos 0 }
     ensures { IfOk result (λ risks. AreRisks totals.now risks.items) }
@@ -31,11 +29,11 @@ fn price_risks(
 fn credit_row(
     alloc: Global,
     set: &ParamSet,
-    deltas: &[TenThousandths],
-    risks: &[u128],
+    deltas: &[Delta],
+    risks: &[u64],
 ) -> Result<Vec<u128>, AllocError>
     requires one_each { length deltas.now ≡ length set.now.commodities }
-    requires numbers { AreCreditNumbers deltas.now risks.now }
+    requires numbers { AreNumbers deltas.now risks.now }
     ensures { IfOk result (λ row. AreCreditsFrom set.now deltas.now risks.now row.items) }
 {
     set.limits();
@@ -50,7 +48,7 @@ fn credit_row(
 pub(crate) fn work_out_credits(
     alloc: Global,
     set: &ParamSet,
-    deltas: &[TenThousandths],
+    deltas: &[Delta],
     sums: &Sums,
 ) -> Result<Vec<u128>, AllocError>
     requires { (nets : List ℤ) × AreNetDeltas set.now nets deltas.now × AreSums set.now nets sums.now }

@@ -58,7 +58,7 @@ pub(crate) fn totals_row(totals: &[[Total; 16]], commodity: usize) -> &[Total; 1
 }
 
 // Twice the price risk of each commodity, of which those without a mark have totals of 0.
-pub(crate) fn fill_price_risks(risks: &mut [u128], totals: &[[Total; 16]], held: &[bool])
+pub(crate) fn fill_price_risks(risks: &mut [u64], totals: &[[Total; 16]], held: &[bool])
     requires zeros { risks.old ≡ replicate (length totals.now) 0 }
     requires one_each { length held.now ≡ length totals.now }
     requires flat { (g s : ℕ) → mark_at held.now g ≡ false → g < length totals.now → s < 16 → total_of totals.now g s ≡ pos 0 }
@@ -67,7 +67,7 @@ pub(crate) fn fill_price_risks(risks: &mut [u128], totals: &[[Total; 16]], held:
 {
     for g in 0..totals.len() {
         if mark_at(held, g) {
-            risks[g] = doubled_risk(totals_row(totals, g)).size();
+            risks[g] = doubled_risk(totals_row(totals, g)).size() as u64;
         }
     }
 }

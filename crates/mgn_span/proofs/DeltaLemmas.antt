@@ -1,9 +1,10 @@
 -- How large the deltas of months and of commodities are, where each net is within its limit.
-use Rattle.std.proofs.Common.{◌≡◌, ◌≢◌, ℕ, ◌≤◌, ◌^◌, true, false, List, [], ◌∷◌, length, take, pos, ℤ, unsigned_abs, ap, ◌∙◌, sym, arith, refl, All, eq-eqb, ne_eqb}
-use Rattle.std.specs.Prelude.{◌+ℤ◌, ◌*ℤ◌, ◌==◌, if◌then◌else◌}
+use Rattle.std.proofs.Common.{◌≡◌, ◌≢◌, ℕ, ◌<◌, ◌≤◌, ◌^◌, true, false, List, [], ◌∷◌, length, take, pos, ℤ, unsigned_abs, ap, ◌∙◌, sym, arith, refl, All, eq-eqb, ne_eqb, ⊎_elim}
+use Rattle.std.specs.Prelude.{◌+ℤ◌, ◌*ℤ◌, ◌==◌, if◌then◌else◌, nat_lt}
+use Rattle.std.proofs.lemmas.Bool.{cases_lt, le-ltb, lt-ltb}
 use Rattle.std.proofs.lemmas.Int.{ints}
 use Rattle.std.proofs.lemmas.List.Elements.{All-head, All-tail}
-use Rattle.mgn_num.specs.Signed.{signed_sum_by}
+use Rattle.mgn_num.specs.Signed.{signed_sum_below, signed_sum_by}
 use Rattle.mgn_num.proofs.SignedLemmas.{signed_sum_by-cons, size-*ℤ-le}
 use Rattle.mgn_params.specs.declared.tables.Contract.{Contract}
 use Rattle.mgn_params.specs.declared.tables.Month.{Month}
@@ -70,27 +71,51 @@ net_share-cons months g p held m =
     let more = signed_sum_by-cons (month_share m) p held in
     elim ((month_at months m).commodity == g) as (λ b. (if b then month_delta (p ∷ held) m else pos 0) ≡ (if b then month_delta held m else pos 0) +ℤ (if b then month_share m p else pos 0)) [ true ↦ omega (arith, ints, more) | false ↦ refl ]
 
-net_delta_is : (commodities : ℕ) (months : List Month) (g : ℕ) (cs : List Contract) (ns : List ℤ) → All (IsContract commodities months) cs → net_delta months (positions cs ns) g ≡ signed_sum_by (own_share g) (positions cs ns)
-net_delta_is commodities months g [] ns limits =
-    signed_sum_below_none (net_share months [] g) (length months) (λ m h. elim ((month_at months m).commodity == g) as (λ b. (if b then pos 0 else pos 0) ≡ pos 0) [ true ↦ refl | false ↦ refl ])
-net_delta_is commodities months g (c ∷ cs) [] limits =
-    signed_sum_below_none (net_share months [] g) (length months) (λ m h. elim ((month_at months m).commodity == g) as (λ b. (if b then pos 0 else pos 0) ≡ pos 0) [ true ↦ refl | false ↦ refl ])
-net_delta_is commodities months g (c ∷ cs) (n ∷ ns) limits =
+-- the first so many months come to what the positions in them do
+abbrev own_share_to : ℕ → ℕ → Position → ℤ
+own_share_to g n p = if nat_lt p.0.month n then own_share g p else pos 0
+
+own_share_to_out : (g n : ℕ) (c : Contract) (x : ℤ) → c.commodity ≢ g → own_share_to g n (c, x) ≡ pos 0
+own_share_to_out g n c x other =
+    elim (nat_lt c.month n) as (λ b. (if b then own_share g (c, x) else pos 0) ≡ pos 0) [ true ↦ own_share_out g c x other | false ↦ refl ]
+
+own_share_to_small : (commodities : ℕ) (months : List Month) (g n : ℕ) (c : Contract) (x : ℤ) → IsContract commodities months c → IsNet x → unsigned_abs (own_share_to g n (c, x)) ≤ 10 ^ 12
+own_share_to_small commodities months g n c x limit net =
+    let own = own_share_small commodities months g c x limit net in
+    elim (nat_lt c.month n) as (λ b. unsigned_abs (if b then own_share g (c, x) else pos 0) ≤ 10 ^ 12) [ true ↦ own | false ↦ omega (arith, ints) ]
+
+share_in_sum : (months : List Month) (g n : ℕ) (c : Contract) (x : ℤ) → (month_at months c.month).commodity ≡ c.commodity → signed_sum_below (share_in months g (c, x)) n ≡ own_share_to g n (c, x)
+share_in_sum months g n c x own =
+    ⊎_elim
+    (λ (low : c.month < n). signed_sum_below_one (share_in months g (c, x)) c.month n low (share_in_other months g c x) ∙ rw (lt-ltb c.month n low) (share_in_own months g c x own))
+    (λ (past : n ≤ c.month). signed_sum_below_none (share_in months g (c, x)) n (λ m h. share_in_other months g c x m (λ e. absurd (omega (arith, e, h, past)))) ∙ rw (le-ltb c.month n past) refl)
+    (cases_lt c.month n)
+
+net_delta_is : (commodities : ℕ) (months : List Month) (g n : ℕ) (cs : List Contract) (ns : List ℤ) → All (IsContract commodities months) cs → signed_sum_below (net_share months (positions cs ns) g) n ≡ signed_sum_by (own_share_to g n) (positions cs ns)
+net_delta_is commodities months g n [] ns limits =
+    signed_sum_below_none (net_share months [] g) n (λ m h. elim ((month_at months m).commodity == g) as (λ b. (if b then pos 0 else pos 0) ≡ pos 0) [ true ↦ refl | false ↦ refl ])
+net_delta_is commodities months g n (c ∷ cs) [] limits =
+    signed_sum_below_none (net_share months [] g) n (λ m h. elim ((month_at months m).commodity == g) as (λ b. (if b then pos 0 else pos 0) ≡ pos 0) [ true ↦ refl | false ↦ refl ])
+net_delta_is commodities months g n (c ∷ cs) (x ∷ ns) limits =
     let held : List Position = positions cs ns in
     let own = All-head (IsContract commodities months) c cs limits in
-    let others = net_delta_is commodities months g cs ns (All-tail (IsContract commodities months) c cs limits) in
-    let grown = signed_sum_below_grown (net_share months held g) (net_share months ((c, n) ∷ held) g) (share_in months g (c, n)) (length months) (λ m h. net_share-cons months g (c, n) held m) in
-    let one = signed_sum_below_one (share_in months g (c, n)) c.month (length months) own.month (share_in_other months g c n) in
-    let more = signed_sum_by-cons (own_share g) (c, n) held in
-    omega (arith, ints, others, grown, one, more, share_in_own months g c n own.own_month)
+    let others = net_delta_is commodities months g n cs ns (All-tail (IsContract commodities months) c cs limits) in
+    let grown = signed_sum_below_grown (net_share months held g) (net_share months ((c, x) ∷ held) g) (share_in months g (c, x)) n (λ m h. net_share-cons months g (c, x) held m) in
+    let one = share_in_sum months g n c x own.own_month in
+    let more = signed_sum_by-cons (own_share_to g n) (c, x) held in
+    omega (arith, ints, others, grown, one, more)
 
-pub net_delta_small : (t : Tables) (nets : List ℤ) (g : ℕ) → IsWithinLimits t → length nets ≡ length t.contracts → All IsNet nets → IsDelta (net_delta t.months (positions t.contracts nets) g)
-net_delta_small t nets g limits one_each small =
-    let n = length t.contracts in
-    let is = net_delta_is (length t.commodities) t.months g t.contracts nets limits.contracts in
-    let all = position_sum_all (own_share g) t.contracts nets n (omega arith) one_each in
-    let sum = share_sum_of_commodity (own_share g) t nets g (10 ^ 12) n limits one_each
-    (λ k h other. own_share_out g (contract_at t.contracts k) (value_at nets k) other)
-    (λ k h. own_share_small (length t.commodities) t.months g (contract_at t.contracts k) (value_at nets k) (limits.contracts k no_contract h) (small k (pos 0) (omega (arith, one_each))))
+-- the net delta of a commodity, however many months are summed
+pub net_delta_small_to : (t : Tables) (nets : List ℤ) (g n : ℕ) → IsWithinLimits t → length nets ≡ length t.contracts → All IsNet nets → IsDelta (signed_sum_below (net_share t.months (positions t.contracts nets) g) n)
+net_delta_small_to t nets g n limits one_each small =
+    let count = length t.contracts in
+    let is = net_delta_is (length t.commodities) t.months g n t.contracts nets limits.contracts in
+    let all = position_sum_all (own_share_to g n) t.contracts nets count (omega arith) one_each in
+    let sum = share_sum_of_commodity (own_share_to g n) t nets g (10 ^ 12) count limits one_each
+    (λ k h other. own_share_to_out g n (contract_at t.contracts k) (value_at nets k) other)
+    (λ k h. own_share_to_small (length t.commodities) t.months g n (contract_at t.contracts k) (value_at nets k) (limits.contracts k no_contract h) (small k (pos 0) (omega (arith, one_each))))
     (omega arith) in
     omega (arith, ints, is, all, sum)
+
+pub net_delta_small : (t : Tables) (nets : List ℤ) (g : ℕ) → IsWithinLimits t → length nets ≡ length t.contracts → All IsNet nets → IsDelta (net_delta t.months (positions t.contracts nets) g)
+net_delta_small t nets g limits one_each small = net_delta_small_to t nets g (length t.months) limits one_each small

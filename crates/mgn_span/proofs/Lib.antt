@@ -9,6 +9,7 @@ pub mod ShareLemmas
 pub mod ActiveLemmas
 pub mod ScanLemmas
 pub mod StageLemmas
+pub mod CreditLemmas
 pub mod StageSteps
 pub mod SpreadLemmas
 pub mod MonthDeltaLemmas

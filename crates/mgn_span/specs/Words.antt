@@ -1,16 +1,18 @@
 -- Words for laws, for the inside of other crates and for proofs. No definition of the requirement stands on them.
-use Rattle.std.specs.Prelude.{ℕ, ◌≡◌, ◌<◌, ◌≤◌, ◌^◌, ◌+◌, ◌*◌, ◌==◌, ◌&&◌, if◌then◌else◌, ℤ, pos, ◌+ℤ◌, ◌-ℤ◌, ◌*ℤ◌, int_lt, unsigned_abs, List, [], ◌∷◌, length, slice_index_or, All}
+use Rattle.std.specs.Prelude.{ℕ, ◌≡◌, ◌<◌, ◌≤◌, ◌^◌, ◌+◌, ◌*◌, ◌==◌, ◌&&◌, if◌then◌else◌, ℤ, pos, ◌+ℤ◌, ◌-ℤ◌, ◌*ℤ◌, int_lt, unsigned_abs, List, [], ◌∷◌, length, slice_index, slice_index_or, All}
 use Rattle.std.specs.Int.{div_ceil, int_max}
 use Rattle.std.specs.List.{range_with_len}
+use Rattle.mgn_params.specs.declared.tables.Leg.{Leg}
 use Rattle.mgn_params.specs.declared.tables.Month.{Month}
 use Rattle.mgn_params.specs.declared.tables.SpotCharge.{SpotCharge}
 use Rattle.mgn_params.specs.declared.tables.Spread.{Spread}
 use Rattle.mgn_params.specs.Limits.{IsSpread}
-use Rattle.mgn_params.specs.Tables.{Tables, is_option, is_premium, month_at}
+use Rattle.mgn_params.specs.Tables.{Tables, is_option, is_premium, month_at, no_leg}
 use Rattle.mgn_span.specs.declared.stage.Stage.{Stage}
 use Rattle.mgn_span.specs.Deltas.{is_in_tier, month_delta, negative_part, net_delta_from, positive_part, start_from, starts_from, tier_delta}
 use Rattle.mgn_span.specs.Positions.{Position}
 use Rattle.mgn_span.specs.Scan.{pair_of, price_risk2, scenario_total, value_at}
+use Rattle.mgn_span.specs.Sizes.{IsDelta, IsRisk}
 use Rattle.mgn_span.specs.Stages.{amount_of, left_after, used}
 
 -- What one position or one month counts for in a sum.
@@ -129,3 +131,29 @@ total_of rows commodity scenario = value_at (totals_of rows commodity) scenario
 pub record AreRests (deltas rests : List ℤ) : Type 0 where
   pub one_each : length rests ≡ length deltas
   pub near : (g : ℕ) → unsigned_abs (value_at rests g) ≤ unsigned_abs (value_at deltas g)
+
+-- The legs of one spread between commodities.
+
+abbrev pub leg_at : List Leg → ℕ → Leg
+leg_at legs k = slice_index_or legs k no_leg
+
+-- one net delta and one doubled price risk for each commodity, within their sizes
+pub record AreNumbers (deltas : List ℤ) (risks : List ℕ) : Type 0 where
+  pub one_each : length risks ≡ length deltas
+  pub small_deltas : All IsDelta deltas
+  pub small_risks : (g : ℕ) → IsRisk (slice_index risks g)
+
+-- a leg of a formed spread: its commodity has a net delta, and it uses no more of it than there is
+pub record IsCreditable (deltas : List ℤ) (risks : List ℕ) (amount : ℕ) (leg : Leg) : Type 0 where
+  pub there : leg.commodity < length deltas
+  pub risk_there : leg.commodity < length risks
+  pub some : 0 < unsigned_abs (value_at deltas leg.commodity)
+  pub small : unsigned_abs (value_at deltas leg.commodity) ≤ 256 * 10 ^ 12
+  pub risk : IsRisk (slice_index risks leg.commodity)
+  pub product : amount * leg.ratio ≤ 256 * 10 ^ 16
+  pub use_small : used amount leg.ratio ≤ unsigned_abs (value_at deltas leg.commodity)
+
+-- no leg's rest is farther from 0 than its net delta
+abbrev pub AreNear : List ℤ → List ℤ → List Leg → Type 0
+AreNear deltas rests legs =
+    All (λ leg. unsigned_abs (value_at rests leg.commodity) ≤ unsigned_abs (value_at deltas leg.commodity)) legs

@@ -1,8 +1,9 @@
 //! The delta of a month or of a commodity, in the 64 bits that the limits of a set let it have.
 
-ghost use Rattle.std.specs.Prelude.{◌≡◌, ◌≤◌, ◌*◌, ◌^◌, ◌<ℤ◌, ◌+ℤ◌, pos, unsigned_abs, IsTrue, not, ◌↔◌};
+ghost use Rattle.std.specs.Prelude.{◌≡◌, ◌≤◌, ◌*◌, ◌^◌, ◌<◌, ◌<ℤ◌, ◌+ℤ◌, pos, unsigned_abs, length, IsTrue, not, ◌↔◌};
 ghost use Rattle.std.specs.Ordering.{int_eq};
 ghost use Rattle.mgn_span.specs.Deltas.{negative_part, positive_part};
+ghost use Rattle.mgn_span.specs.Scan.{value_at};
 
 use mgn_num::TenThousandths;
 use std::marker::Model;
@@ -25,6 +26,14 @@ impl Model for Delta {
     ghost invariant = { λ d. IsDelta d.parts };
 
     ghost inverse = { λ z. record { parts = z } };
+}
+
+/// The delta at a place of a row.
+pub fn delta_at(deltas: &[Delta], place: usize) -> Delta
+    requires { place < length deltas.now }
+    ensures { result ≡ value_at deltas.now place }
+{
+    deltas[place]
 }
 
 impl Delta {

@@ -4,6 +4,7 @@
 #![tactic(auto)]
 
 mod delta;
+pub mod legs;
 pub mod scan;
 pub mod shares;
 pub mod spot;
@@ -12,6 +13,6 @@ mod stage;
 mod stages;
 mod total;
 
-pub use delta::Delta;
+pub use delta::{Delta, delta_at};
 pub use stage::Stage;
 pub use total::Total;

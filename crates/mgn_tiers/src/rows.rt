@@ -1,21 +1,12 @@
 //! The rows of a set: one for each month, or one for each commodity.
 
 ghost use Rattle.std.specs.Prelude.{◌≡◌, ◌+◌, ◌-◌, ◌<◌, ◌≤◌, length};
-ghost use Rattle.mgn_span.specs.Scan.{value_at};
 ghost use Rattle.mgn_span.specs.Sizes.{IsStart};
 ghost use Rattle.mgn_tiers.specs.Tiers.{HasRoom, moved, run_of};
 
 use crate::run::StageRun;
 use mgn_params::{Month, ParamSet};
 use mgn_span::Delta;
-
-// The delta at a place.
-pub(crate) fn delta_at(deltas: &[Delta], place: usize) -> Delta
-    requires { place < length deltas.now }
-    ensures { result ≡ value_at deltas.now place }
-{
-    deltas[place]
-}
 
 // What a leg starts with once a share of it is replaced by another.
 fn replaced(start: u64, old: u64, new: u64) -> u64

@@ -5,12 +5,12 @@ ghost use Rattle.mgn_params.specs.Tables.{month_at, Tables};
 ghost use Rattle.mgn_tiers.specs.Tiers.{AreTiersOf, AreTierRows};
 ghost use Rattle.mgn_span.specs.Sizes.{IsDelta};
 
-use crate::rows::{delta_at, move_delta};
+use crate::rows::move_delta;
 use crate::run::StageRun;
 use mgn_num::{Cents, TenThousandths};
 use mgn_params::ParamSet;
 use mgn_params::rows::{fill, filled};
-use mgn_span::Delta;
+use mgn_span::{Delta, delta_at};
 use std::alloc::{AllocError, Global};
 use std::marker::Model;
 

@@ -1,6 +1,7 @@
 use Rattle.std.proofs.Common.{◌≡◌, ◌<◌, ℕ, true, slice_index}
 use Rattle.std.specs.Int.{bit_at}
-use Rattle.mgn_inter.specs.Rows.{leg_at, moved_at}
+use Rattle.mgn_inter.specs.Rows.{moved_at}
+use Rattle.mgn_span.specs.Words.{leg_at}
 use Rattle.mgn_inter.proofs.naming.await_moved.Given as goal
 
 abbrev pub invariant-loop-leg : goal.invariant-loop-leg

@@ -5,7 +5,8 @@ use Rattle.std.proofs.lemmas.List.{get_or_read}
 use Rattle.std.proofs.lemmas.Slice.Zip.{length-zip}
 use Rattle.mgn_params.specs.declared.tables.Leg.{Leg}
 use Rattle.mgn_span.specs.Scan.{value_at}
-use Rattle.mgn_inter.specs.Rows.{bring, leg_at, moved_at}
+use Rattle.mgn_inter.specs.Rows.{bring, moved_at}
+use Rattle.mgn_span.specs.Words.{leg_at}
 use Rattle.mgn_inter.proofs.LegLemmas.{kept_so_far, legs_more}
 use Rattle.mgn_inter.proofs.rows.bring_rests.Goals as goal
 

@@ -2,9 +2,10 @@ use Rattle.std.proofs.Common.{◌≡◌, ◌<◌, ◌≤◌, ◌∙◌, ℕ, ℤ
 use Rattle.mgn_span.specs.Credits.{forms, rests_after}
 use Rattle.mgn_span.specs.Scan.{value_at}
 use Rattle.mgn_params.specs.Tables.{legs_of}
-use Rattle.mgn_inter.specs.Rows.{leg_at}
-use Rattle.mgn_inter.proofs.SpreadLemmas.{kept_no, kept_yes, legs_creditable}
+use Rattle.mgn_span.specs.Words.{leg_at}
+use Rattle.mgn_inter.proofs.SpreadLemmas.{kept_no, kept_yes}
 use Rattle.mgn_inter.proofs.rows.form_spread.Goals as goal
+use Rattle.mgn_span.proofs.CreditLemmas.{legs_creditable}
 
 pub credits_of_legs-credits-requires-clause-legs : goal.credits_of_legs-credits-requires-clause-legs
 credits_of_legs-credits-requires-clause-legs c =

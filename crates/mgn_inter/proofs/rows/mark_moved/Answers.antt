@@ -6,7 +6,8 @@ use Rattle.std.proofs.lemmas.List.{get_or_read}
 use Rattle.std.proofs.lemmas.Slice.Zip.{length-zip}
 use Rattle.mgn_params.specs.declared.tables.Leg.{Leg}
 use Rattle.mgn_span.specs.Scan.{value_at}
-use Rattle.mgn_inter.specs.Rows.{leg_at, mark}
+use Rattle.mgn_inter.specs.Rows.{mark}
+use Rattle.mgn_span.specs.Words.{leg_at}
 use Rattle.mgn_inter.proofs.LegLemmas.{legs_more}
 use Rattle.mgn_inter.proofs.rows.mark_moved.Goals as goal
 
@@ -23,8 +24,8 @@ loop-k-preserved c =
     let here : k < length kept = omega (arith, c.loop-k.invariant.long, c.requires.few, c.loop-k-test.true) in
     let item = get_or kept k c.index-kept-k.result in
     let read : item ≡ value_at first k = sym c.index-kept-k.is ∙ get_or_read kept k c.index-kept-k.result here c.index-kept-k.is (pos 0) ∙ c.loop-k.invariant.left k (omega arith) in
-    let given : c.differs.result ≡ not (int_eq c.rest_at-rest.result item) = c.differs.ensures in
-    let is = given ∙ ap (λ (z : ℤ). not (int_eq z item)) c.rest_at-rest.ensures ∙ ap (λ (z : ℤ). not (int_eq (value_at rests leg.commodity) z)) read in
+    let given : c.differs.result ≡ not (int_eq c.delta_at-rest.result item) = c.differs.ensures in
+    let is = given ∙ ap (λ (z : ℤ). not (int_eq z item)) c.delta_at-rest.ensures ∙ ap (λ (z : ℤ). not (int_eq (value_at rests leg.commodity) z)) read in
     record {
       marks = ap (λ (b : Bool). slice_set c.loop-k.moved leg.commodity b) is
           ∙ ap (λ (row : List Bool). mark rests row (leg, value_at first k)) c.loop-k.invariant.marks

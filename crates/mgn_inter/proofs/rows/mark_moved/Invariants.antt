@@ -1,7 +1,8 @@
 use Rattle.std.proofs.Common.{◌≡◌, ◌<◌, ◌≤◌, ℕ, length, take}
 use Rattle.std.specs.List.{fold, zip}
 use Rattle.mgn_span.specs.Scan.{value_at}
-use Rattle.mgn_inter.specs.Rows.{leg_at, mark}
+use Rattle.mgn_inter.specs.Rows.{mark}
+use Rattle.mgn_span.specs.Words.{leg_at}
 use Rattle.mgn_inter.proofs.rows.mark_moved.Given as goal
 
 abbrev pub invariant-loop-k : goal.invariant-loop-k

@@ -1,7 +1,7 @@
 use Rattle.std.proofs.Common.{rules, ◌≡◌, ◌∙◌, ◌<◌, ◌≤◌, arith, length, length-set, slice_index, take_all}
 use Rattle.std.specs.List.{zip}
 use Rattle.std.proofs.lemmas.Slice.Zip.{length-zip}
-use Rattle.mgn_inter.specs.Rows.{leg_at}
+use Rattle.mgn_span.specs.Words.{leg_at}
 use Rattle.mgn_inter.proofs.LegLemmas.{credit_moved, share_within}
 use Rattle.mgn_inter.proofs.rows.move_credits.Goals as goal
 

@@ -12,11 +12,11 @@ use Rattle.mgn_plain.proofs.sums.add_position.Goals as goal
 
 pub add_position-requires-clause-room : goal.add_position-requires-clause-room
 add_position-requires-clause-room c = λ s k.
-    rw (c.deref_mut.ensures.value, c.net_at-net.ensures) (totals_room c.args.set.now c.args.nets.now c.args.i c.args.sums.now s c.limits.ensures c.requires.sums c.requires.contract k)
+    rw (c.deref_mut.ensures.value, c.at-net.ensures) (totals_room c.args.set.now c.args.nets.now c.args.i c.args.sums.now s c.limits.ensures c.requires.sums c.requires.contract k)
 
 pub add_position-requires-2-clause-room : goal.add_position-requires-2-clause-room
 add_position-requires-2-clause-room c =
-    rw (c.deref_mut-2.ensures.value, c.net_at-net.ensures, c.contract_at-contract.ensures) (deltas_room c.args.set.now c.args.nets.now c.args.i c.args.sums.now c.limits.ensures c.requires.sums c.requires.contract)
+    rw (c.deref_mut-2.ensures.value, c.at-net.ensures, c.contract_at-contract.ensures) (deltas_room c.args.set.now c.args.nets.now c.args.i c.args.sums.now c.limits.ensures c.requires.sums c.requires.contract)
 
 pub add_minimum-requires-clause-room : goal.add_minimum-requires-clause-room
 add_minimum-requires-clause-room c = λ g h.
@@ -30,7 +30,7 @@ plus-sums-requires c =
     let set = c.args.set.now in
     let net = value_at c.args.nets.now c.args.i in
     let low = value_small set c.args.nets.now c.args.i c.args.sums.now c.limits.ensures c.requires.sums (omega arith) in
-    let share = rw (c.contract_at-contract.ensures, c.net_at-net.ensures) at c.share_of_value.ensures in
+    let share = rw (c.contract_at-contract.ensures, c.at-net.ensures) at c.share_of_value.ensures in
     let small = value_share_small (length set.commodities) set.months (contract_at set.contracts c.args.i) net (c.limits.ensures.contracts c.args.i no_contract c.requires.contract) (c.requires.sums.of_nets.small c.args.i (pos 0) (omega (arith, c.requires.sums.of_nets.one_each, c.requires.contract))) in
     omega (arith, ints, low, few, share, small)
 

@@ -9,7 +9,8 @@ use Rattle.mgn_params.specs.Tables.{credit_spread_at, legs_of}
 use Rattle.mgn_inter.specs.CreditRows.{credited_of}
 use Rattle.mgn_inter.specs.Credited.{IsAtTurn}
 use Rattle.mgn_inter.specs.declared.kept.Kept.{Kept}
-use Rattle.mgn_inter.specs.Rows.{AreRestsOf, brought, Credited, IsKept, kept_at, leg_at, moved_at, nothing_kept}
+use Rattle.mgn_inter.specs.Rows.{AreRestsOf, brought, Credited, IsKept, kept_at, moved_at, nothing_kept}
+use Rattle.mgn_span.specs.Words.{leg_at}
 use Rattle.mgn_span.specs.Scan.{value_at}
 use Rattle.mgn_inter.specs.Told.{credits_else}
 use Rattle.mgn_inter.proofs.LegLemmas.{marked_out}

@@ -1,28 +1,18 @@
 //! The legs of one spread between commodities.
 
-ghost use Rattle.std.specs.Prelude.{◌≡◌, ℕ, ◌+◌, ◌*◌, ◌<◌, ◌≤◌, ◌^◌, length, All, unsigned_abs, slice_index, IsTrue};
+ghost use Rattle.std.specs.Prelude.{◌≡◌, ℕ, ◌*◌, ◌<◌, ◌≤◌, ◌^◌, length, All, slice_index};
 ghost use Rattle.std.specs.List.{list_all};
-ghost use Rattle.mgn_inter.specs.Rows.{IsCreditable, leg_at};
 ghost use Rattle.mgn_span.specs.Credits.{fits, forms, is_long, leg_amount, leg_credit, rests_after, spread_amount};
-ghost use Rattle.mgn_span.specs.Scan.{value_at};
 ghost use Rattle.mgn_span.specs.Stages.{used};
-ghost use Rattle.mgn_span.specs.Sizes.{IsDelta};
+ghost use Rattle.mgn_span.specs.Words.{IsCreditable, leg_at};
 
+use crate::delta::{Delta, delta_at};
 use mgn_params::{Leg, LegSide};
-use mgn_span::Delta;
 
 // Below these 64 bits hold their product, which saves the long division of 128 bits. Nearly all numbers are.
 const SHORT_PART: u64 = 10_000_000_000;
 
 const SHORT_RISK: u64 = 1_000_000_000;
-
-/// The rest of a commodity.
-pub(crate) fn rest_at(rests: &[Delta], commodity: usize) -> Delta
-    requires { commodity < length rests.now }
-    ensures { result ≡ value_at rests.now commodity }
-{
-    rests[commodity]
-}
 
 fn is_long_leg(a_long: bool, side: LegSide) -> bool
     ensures { result ≡ is_long a_long side }
@@ -38,7 +28,7 @@ fn leg_fits(a_long: bool, rests: &[Delta], leg: &Leg) -> bool
     requires { leg.now.commodity < length rests.now }
     ensures { result ≡ fits a_long rests.now leg.now }
 {
-    let rest = rest_at(rests, leg.commodity);
+    let rest = delta_at(rests, leg.commodity);
     if is_long_leg(a_long, leg.side) {
         rest.is_positive()
     } else {
@@ -54,7 +44,7 @@ fn all_fit(a_long: bool, rests: &[Delta], legs: &[Leg]) -> bool
 }
 
 /// Whether a spread forms: all legs of side A of one sign, and all of side B of the other.
-pub(crate) fn spread_forms(rests: &[Delta], legs: &[Leg]) -> bool
+pub fn spread_forms(rests: &[Delta], legs: &[Leg]) -> bool
     requires { All (λ leg. leg.commodity < length rests.now) legs.now }
     ensures { result ≡ forms rests.now legs.now }
 {
@@ -68,12 +58,12 @@ fn amount_of_leg(rests: &[Delta], leg: &Leg) -> u64
     ensures amount { result ≡ leg_amount rests.now leg.now }
     ensures small { result ≤ 256 * 10 ^ 16 }
 {
-    10000 * rest_at(rests, leg.commodity).size() / leg.ratio
+    10000 * delta_at(rests, leg.commodity).size() / leg.ratio
 }
 
-/// How many spreads the legs form together: the least of what each alone would.
+/// How many spreads the legs form together, in ten-thousandths: the least of what each alone would.
 #[tactic(auto, using(std::proofs::lemmas::List::Sums::fold_more))]
-pub(crate) fn amount_of_legs(rests: &[Delta], legs: &[Leg]) -> u64
+pub fn amount_of_legs(rests: &[Delta], legs: &[Leg]) -> u64
     requires legs { All (λ leg. leg.commodity < length rests.now) legs.now }
     requires ratios { All (λ leg. 0 < leg.ratio) legs.now }
     ensures { result ≡ spread_amount rests.now legs.now }
@@ -97,26 +87,26 @@ fn used_of(amount: &u64, leg: &Leg) -> u64
 }
 
 /// Takes the legs' uses off the rests.
-pub(crate) fn use_rests(rests: &mut [Delta], amount: &u64, legs: &[Leg])
+pub fn use_rests(rests: &mut [Delta], amount: &u64, legs: &[Leg])
     requires legs { All (λ leg. leg.commodity < length rests.old) legs.now }
     requires products { All (λ leg. amount.now * leg.ratio ≤ 256 * 10 ^ 16) legs.now }
     ensures { rests.new ≡ rests_after rests.old amount.now legs.now }
 {
     for leg in legs {
-        let rest = rest_at(rests, leg.commodity);
+        let rest = delta_at(rests, leg.commodity);
         rests[leg.commodity] = rest.nearer_zero(used_of(amount, leg));
     }
 }
 
 // A leg's credit: the part of its commodity's doubled price risk that its use is of the net delta, at half the rate.
-#[tactic(auto, using(crate::proofs::SpreadLemmas::leg_credit_tight))]
+#[tactic(auto, using(crate::proofs::CreditLemmas::leg_credit_tight))]
 fn credit_of_leg(deltas: &[Delta], risks: &[u64], rate: &u64, amount: &u64, leg: &Leg) -> u64
     requires leg { IsCreditable deltas.now risks.now amount.now leg.now }
     requires rate { rate.now ≤ 10000 }
     ensures credit { result ≡ leg_credit deltas.now risks.now rate.now amount.now leg.now }
     ensures small { result ≤ 55 * 10 ^ 16 }
 {
-    let delta = rest_at(deltas, leg.commodity).size();
+    let delta = delta_at(deltas, leg.commodity).size();
     let part = used_of(amount, leg) * *rate;
     let risk = risks[leg.commodity];
     if part < SHORT_PART && risk < SHORT_RISK {
@@ -125,8 +115,8 @@ fn credit_of_leg(deltas: &[Delta], risks: &[u64], rate: &u64, amount: &u64, leg:
     (u128::from(part) * u128::from(risk) / (20000 * u128::from(delta))) as u64
 }
 
-/// What each leg of a formed spread is credited.
-pub(crate) fn credits_of_legs(
+/// What each leg of a formed spread is credited, in cents, by its commodity's net delta and doubled price risk.
+pub fn credits_of_legs(
     deltas: &[Delta],
     risks: &[u64],
     rate: &u64,

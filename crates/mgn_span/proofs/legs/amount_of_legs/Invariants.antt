@@ -1,7 +1,7 @@
 use Rattle.std.proofs.Common.{◌≡◌, min, take}
 use Rattle.std.specs.List.{fold}
 use Rattle.mgn_span.specs.Credits.{leg_amount}
-use Rattle.mgn_inter.proofs.legs.amount_of_legs.Given as goal
+use Rattle.mgn_span.proofs.legs.amount_of_legs.Given as goal
 
 abbrev pub invariant-loop-other : goal.invariant-loop-other
 invariant-loop-other l =

@@ -1,7 +1,7 @@
 use Rattle.std.proofs.Common.{◌≡◌, ◌<◌, ℕ, length, slice_index}
-use Rattle.mgn_inter.specs.Rows.{leg_at}
+use Rattle.mgn_span.specs.Words.{leg_at}
 use Rattle.mgn_span.specs.Credits.{leg_credit}
-use Rattle.mgn_inter.proofs.legs.credits_of_legs.Given as goal
+use Rattle.mgn_span.proofs.legs.credits_of_legs.Given as goal
 
 abbrev pub invariant-loop-k : goal.invariant-loop-k
 invariant-loop-k l = record {
