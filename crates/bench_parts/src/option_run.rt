@@ -11,13 +11,7 @@ use std::rt::Clock;
 use std::time::Instant;
 
 /// Changes a net and its sums. A change that would take the net past its limit is not made.
-pub fn follow(
-    set: &ParamSet,
-    nets: &mut Nets,
-    sums: &mut OptionSums,
-    i: usize,
-    quantity: Quantity,
-)
+pub fn follow(set: &ParamSet, nets: &mut Nets, sums: &mut OptionSums, i: usize, quantity: Quantity)
     requires sums { AreSums set.now nets.old sums.old }
     requires contract { i < length set.now.contracts }
     requires quantity { unsigned_abs quantity ≤ 2 * 10 ^ 7 }

@@ -11,9 +11,7 @@ use mgn_num::{Cents, Quantity};
 use mgn_params::{ParamSet, Work};
 use mgn_plain::requirement;
 use mgn_setfile::read_set;
-use mgn_unit::{
-    Change, Gain, PortfolioRow, PreparedPortfolio, PreparedUnit, Priced, Row, Switch,
-};
+use mgn_unit::{Change, Gain, PortfolioRow, PreparedPortfolio, PreparedUnit, Priced, Row, Switch};
 use std::alloc::{AllocError, Global};
 use std::process::Abort;
 use std::test::Fail;

@@ -11,11 +11,7 @@ use mgn_span::{Delta, Total};
 use std::alloc::{AllocError, Global};
 
 // The doubled price risks of the commodities. Nothing is read of one of which each net is 0, as of most.
-fn price_risks(
-    alloc: Global,
-    totals: &[[Total; 16]],
-    held: &[bool],
-) -> Result<Vec<u64>, AllocError>
+fn price_risks(alloc: Global, totals: &[[Total; 16]], held: &[bool]) -> Result<Vec<u64>, AllocError>
     requires one_each { length held.now ≡ length totals.now }
     requires flat { (g s : ℕ) → mark_at held.now g ≡ false → g < length totals.now → s < 16 → total_of totals.now g s ≡ pos 0 }
     ensures { IfOk result (λ risks. AreRisks totals.now risks.items) }

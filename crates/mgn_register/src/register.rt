@@ -1,5 +1,5 @@
 ghost use Rattle.std.specs.Prelude.{◌≡◌, ◌<◌, ◌≤◌, ◌≤ℤ◌, ◌+ℤ◌, ◌*◌, ◌^◌, ◌==◌, ◌||◌, IfOk, IfSome, OnOk, Ok, [], length, pos, false, true, unsigned_abs, int_lt};
-ghost use Rattle.mgn_params.specs.Tables.{Tables, contract_at, is_premium};
+ghost use Rattle.mgn_params.specs.Tables.{Tables, contract_at};
 ghost use Rattle.mgn_lots.specs.Lots.{has_number, is_busted, is_full, is_live, is_moved, lot_at, place_of_lot};
 ghost use Rattle.mgn_machine.specs.declared.reply.Refusal.TheVariants.{NoTrade};
 ghost use Rattle.mgn_machine.specs.State.{account_at, put, with_amount};
@@ -16,7 +16,7 @@ use mgn_ids::{AccountName, ClassName, ContractName, LotId, LotQuantity, Places, 
 use mgn_lots::Mark;
 use mgn_machine::{Origin, Refusal, Trade};
 use mgn_num::Quantity;
-use mgn_params::{ParamSet, Style, Version};
+use mgn_params::{ParamSet, Version};
 use mgn_unit::{Account, Row};
 use std::alloc::Global;
 use std::marker::Model;
@@ -82,16 +82,7 @@ pub(crate) fn premium_fits(set: &ParamSet, contract: usize, premium: Premium) ->
     requires { contract < length set.now.contracts }
     ensures { result ≡ premium_fits set.now contract premium }
 {
-    premium.cents() == 0 || is_premium(set.contract_at(contract).style)
-}
-
-fn is_premium(style: Style) -> bool
-    ensures { result ≡ is_premium style }
-{
-    match style {
-        Style::Premium => true,
-        Style::Other => false,
-    }
+    premium.cents() == 0 || set.contract_at(contract).style.is_premium()
 }
 
 // Where the lot of a number stands among the lots of an account.

@@ -1,7 +1,7 @@
 //! Nets on plain values.
 
-use mgn_num::Quantity;
 use mgn_nets::Nets;
+use mgn_num::Quantity;
 use std::test::Fail;
 
 #[test]
