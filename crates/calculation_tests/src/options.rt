@@ -3,7 +3,8 @@
 ghost use Rattle.std.specs.Prelude.{◌≡◌, ◌*◌, ◌<◌, ◌≤◌, ◌^◌, length, unsigned_abs};
 ghost use Rattle.mgn_option.specs.Sums.{AreSums};
 
-use crate::sets::{Worked, flat_nets};
+use crate::sets::Worked;
+use mgn_nets::Nets;
 use mgn_num::Quantity;
 use mgn_option::OptionSums;
 use mgn_params::ParamSet;
@@ -24,22 +25,16 @@ fn some_quantity(rt: &impl Abort, contracts: i64) -> Quantity
 }
 
 // Makes a change, which leaves the net within its limit.
-fn follow(
-    rt: &impl Abort,
-    set: &ParamSet,
-    nets: &mut [Quantity],
-    sums: &mut OptionSums,
-    change: &Change,
-)
+fn follow(rt: &impl Abort, set: &ParamSet, nets: &mut Nets, sums: &mut OptionSums, change: &Change)
     requires { AreSums set.now nets.old sums.old }
     ensures { AreSums set.now nets.new sums.new }
 {
     let quantity = some_quantity(rt, change.1);
     assert!(rt; change.0 < set.contract_count());
-    let net = nets[change.0].plus(quantity);
+    let net = nets.at(change.0).plus(quantity);
     assert!(rt; net.size() <= 10_000_000);
     sums.add(set, nets, change.0, quantity);
-    nets[change.0] = net;
+    nets.add(change.0, quantity);
 }
 
 fn amounts_of(sums: &OptionSums) -> [i128; 3]
@@ -61,7 +56,8 @@ fn check_under(
 ) -> Result<(), Fail> {
     assert_eq!(rt; set.commodity_count(), 2);
     let mut sums = OptionSums::new(alloc, set)?;
-    let mut nets = flat_nets(alloc, set)?;
+    set.limits();
+    let mut nets = Nets::flat(alloc, set.contract_count())?;
     for change in changes {
         follow(rt, set, &mut nets, &mut sums, change);
         assert_eq!(rt; amounts_of(&sums), change.2);

@@ -3,7 +3,8 @@
 ghost use Rattle.std.specs.Prelude.{◌≡◌, ◌*◌, ◌<◌, ◌≤◌, ◌^◌, length, unsigned_abs};
 ghost use Rattle.mgn_scan.specs.Totals.{AreTotals};
 
-use crate::sets::{Worked, flat_nets};
+use crate::sets::Worked;
+use mgn_nets::Nets;
 use mgn_num::Quantity;
 use mgn_params::{ParamSet, Work};
 use mgn_scan::ScanTotals;
@@ -32,7 +33,7 @@ fn some_quantity(rt: &impl Abort, contracts: i64) -> Quantity
 fn follow(
     rt: &impl Abort,
     set: &ParamSet,
-    nets: &mut [Quantity],
+    nets: &mut Nets,
     totals: &mut ScanTotals,
     change: &Change,
     work: &mut Work,
@@ -42,10 +43,10 @@ fn follow(
 {
     let quantity = some_quantity(rt, change.1);
     assert!(rt; change.0 < set.contract_count());
-    let net = nets[change.0].plus(quantity);
+    let net = nets.at(change.0).plus(quantity);
     assert!(rt; net.size() <= 10_000_000);
     totals.add(set, nets, change.0, quantity, work);
-    nets[change.0] = net;
+    nets.add(change.0, quantity);
 }
 
 fn figures_of(totals: &ScanTotals, commodity: usize) -> Scanned
@@ -67,7 +68,8 @@ fn check_under(
 ) -> Result<(), Fail> {
     assert_eq!(rt; set.commodity_count(), 2);
     let mut totals = ScanTotals::new(alloc, set)?;
-    let mut nets = flat_nets(alloc, set)?;
+    set.limits();
+    let mut nets = Nets::flat(alloc, set.contract_count())?;
     let mut work = Work::new();
     for change in changes {
         follow(rt, set, &mut nets, &mut totals, change, &mut work);
