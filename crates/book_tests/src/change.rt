@@ -7,7 +7,7 @@ use std::process::Abort;
 use std::test::Fail;
 
 fn numbers(gain: &Gain) -> (i64, i128) {
-    (gain.quantity.contracts(), gain.worth.amount())
+    (gain.quantity.contracts(), gain.worth.cents().amount())
 }
 
 // Asserts what a change in contract 2 comes to in size, and what lots, buys, sales and all gain by it.

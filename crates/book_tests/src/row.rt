@@ -11,7 +11,9 @@ use mgn_num::{Cents, Quantity};
 use mgn_params::{ParamSet, Work};
 use mgn_plain::requirement;
 use mgn_setfile::read_set;
-use mgn_unit::{Change, Gain, PortfolioRow, PreparedPortfolio, PreparedUnit, Priced, Row, Switch};
+use mgn_unit::{
+    Change, Gain, PortfolioRow, PreparedPortfolio, PreparedUnit, Priced, Row, Switch, WorthChange,
+};
 use std::alloc::{AllocError, Global};
 use std::process::Abort;
 use std::test::Fail;
@@ -117,7 +119,7 @@ fn gain_two(
 {
     let gain = Gain {
         quantity: Quantity::new(2),
-        worth: Cents::ZERO,
+        worth: WorthChange::ZERO,
     };
     let requirement = side.priced_with(alloc, set, 0, &gain, &mut Work::new())?;
     let room = side.room_after(set, 0, &gain, requirement);

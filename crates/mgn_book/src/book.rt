@@ -13,6 +13,7 @@ ghost use Rattle.mgn_book.specs.BookViews.{Committed, Leaves, LeavesRows, Shelve
 
 use crate::history::History;
 use crate::in_force::switch_set;
+use crate::names::Likely;
 use mgn_ids::{AccountName, SessionNo};
 use mgn_machine::{Command, Reply, Statement};
 use mgn_params::{ParamSet, Shelf, Version, Work};
@@ -244,7 +245,8 @@ impl Book {
             return Outcome::Memory;
         };
         self.counts[count_place(session)] = number;
-        self.history.push(session, number, command, kept);
+        self.history
+            .push(session, number, command, &likely_places(plan), kept);
         Outcome::Done(self.history.len() as u64, reply)
     }
 
@@ -322,6 +324,17 @@ impl Book {
         let own = count_place(session);
         self.counts[own] = number;
         Outcome::Done(self.history.len() as u64, reply)
+    }
+}
+
+// Where the names of a command may be found, by its plan.
+fn likely_places(plan: &Plan) -> Likely {
+    match plan {
+        Plan::One(found) => Likely {
+            account: found.account,
+            contract: found.change.contract,
+        },
+        Plan::Nothing | Plan::Two(..) => Likely::NOWHERE,
     }
 }
 

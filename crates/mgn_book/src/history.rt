@@ -9,7 +9,7 @@ ghost use Rattle.mgn_params.specs.Tables.{no_tables};
 ghost use Rattle.mgn_book.specs.BookViews.{command_of};
 ghost use Rattle.mgn_book.specs.Replies.{Grows};
 
-use crate::names::Names;
+use crate::names::{Likely, Names};
 use crate::replies::{Replies, StoredReply};
 use crate::stored::{StoredEntry, StoredRequest, command_in, store_command};
 use mgn_ids::SessionNo;
@@ -104,13 +104,20 @@ impl History {
     }
 
     /// Writes the entry of a command for which memory is reserved.
-    pub fn push(&mut self, session: SessionNo, number: u64, command: &Command, reply: Reply)
+    pub fn push(
+        &mut self,
+        session: SessionNo,
+        number: u64,
+        command: &Command,
+        likely: &Likely,
+        reply: Reply,
+    )
         requires reserved { self.old.reserved ≡ true }
         requires few { length self.old.entries < 1000000 }
         requires number { number ≤ 1000000 }
         ensures { self.new.entries ≡ self.old.entries ++ entry session number (Asked command.now) reply ∷ [] }
     {
-        let request = store_command(&mut self.names, command);
+        let request = store_command(&mut self.names, command, likely);
         let reply = self.replies.store(reply);
         self.entries.push_reserved(StoredEntry {
             session,

@@ -1,4 +1,4 @@
-ghost use Rattle.std.specs.Prelude.{◌≡◌, ◌+◌, ◌<◌, ◌≤◌, ◌^◌, [], length, OnOk};
+ghost use Rattle.std.specs.Prelude.{◌≡◌, ◌+◌, ◌<◌, ◌≤◌, ◌^◌, [], length, true, IfSome, OnOk};
 ghost use Rattle.mgn_book.specs.History.{HasRoom, KeepsNames, name_at};
 ghost use Rattle.mgn_book.specs.Replies.{Grows};
 
@@ -7,12 +7,34 @@ use mgn_ids::{AccountName, ContractName};
 use std::alloc::{AllocError, Global};
 use std::marker::Model;
 
+// How many contracts a set has at most.
+const MOST_CONTRACTS: usize = 4096;
+
+/// Where the names of a command may be found without a hash. Nothing rests on it.
+#[derive(Clone, Copy)]
+pub(crate) struct Likely {
+    /// The place of the account in the book: accounts are mostly named in the order in which they are opened.
+    pub account: usize,
+    /// The place of the contract in the set in force.
+    pub contract: usize,
+}
+
+impl Likely {
+    /// Nowhere: names are looked for by hash.
+    pub const NOWHERE: Likely = Likely {
+        account: usize::MAX,
+        contract: usize::MAX,
+    };
+}
+
 /// The names of accounts and contracts that entries have, each once and found by its place. Contracts see the lists, and
 /// for how many more names there is room.
 #[derive(Drop)]
 pub(crate) struct Names {
     accounts: IndexSet<AccountName>,
     contracts: IndexSet<ContractName>,
+    // By the place of a contract in a set, where its name was found last.
+    found: Vec<u32>,
 }
 
 impl Model for Names {
@@ -38,6 +60,7 @@ impl Names {
         Names {
             accounts: IndexSet::new(alloc),
             contracts: IndexSet::new(alloc),
+            found: Vec::new(alloc),
         }
     }
 
@@ -48,6 +71,9 @@ impl Names {
         ensures contracts { self.new.contracts ≡ self.old.contracts }
         ensures ok { OnOk result (HasRoom self.new) }
     {
+        if self.found.is_empty() {
+            self.found = vec![in *self.found.allocator(); 0; MOST_CONTRACTS]?;
+        }
         self.accounts.reserve(2)?;
         self.contracts.reserve(1)
     }
@@ -74,8 +100,40 @@ impl Names {
         }
     }
 
+    // Whether an account stands at a place.
+    fn is_account(&self, place: usize, name: AccountName) -> bool
+        ensures name { result ≡ true → name_at self.now.accounts place ≡ name }
+        ensures within { result ≡ true → place < length self.now.accounts }
+    {
+        match self.accounts.get_index(place) {
+            Some(there) => *there == name,
+            None => false,
+        }
+    }
+
+    // Where the contract of a place in a set was found last, if that is the contract of this name.
+    fn found_before(&self, name: ContractName, contract: usize) -> Option<u32>
+        ensures name { IfSome result (λ place. name_at self.now.contracts place ≡ name) }
+        ensures within { IfSome result (λ place. place < length self.now.contracts) }
+    {
+        let before = *self.found.get(contract)?;
+        match self.contracts.get_index(before as usize) {
+            Some(there) if *there == name => Some(before),
+            _ => None,
+        }
+    }
+
+    // Notes where the contract of a place in a set was found.
+    fn note(&mut self, contract: usize, place: u32)
+        ensures { self.new ≡ self.old }
+    {
+        if let Some(found) = self.found.get_mut(contract) {
+            *found = place;
+        }
+    }
+
     /// The place of an account, which is added where it is not there.
-    pub fn place_of_account(&mut self, name: AccountName) -> u32
+    pub fn place_of_account(&mut self, name: AccountName, likely: usize) -> u32
         requires room { 1 ≤ self.old.account_room }
         requires few { length self.old.accounts < 2 ^ 32 }
         ensures name { name_at self.new.accounts result ≡ name }
@@ -86,6 +144,9 @@ impl Names {
         ensures contracts { self.new.contracts ≡ self.old.contracts }
         ensures same_room { self.new.contract_room ≡ self.old.contract_room }
     {
+        if self.is_account(likely, name) {
+            return likely as u32;
+        }
         match self.accounts.insert_full(name) {
             Ok((place, _)) => place as u32,
             Err(_) => unreachable!(),
@@ -93,7 +154,7 @@ impl Names {
     }
 
     /// The place of a contract, which is added where it is not there.
-    pub fn place_of_contract(&mut self, name: ContractName) -> u32
+    pub fn place_of_contract(&mut self, name: ContractName, likely: usize) -> u32
         requires room { 1 ≤ self.old.contract_room }
         requires few { length self.old.contracts < 2 ^ 32 }
         ensures name { name_at self.new.contracts result ≡ name }
@@ -102,9 +163,14 @@ impl Names {
         ensures few { length self.new.contracts ≤ length self.old.contracts + 1 }
         ensures accounts { self.new.accounts ≡ self.old.accounts }
     {
-        match self.contracts.insert_full(name) {
+        if let Some(place) = self.found_before(name, likely) {
+            return place;
+        }
+        let place = match self.contracts.insert_full(name) {
             Ok((place, _)) => place as u32,
             Err(_) => unreachable!(),
-        }
+        };
+        self.note(likely, place);
+        place
     }
 }

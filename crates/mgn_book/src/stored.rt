@@ -6,7 +6,7 @@ ghost use Rattle.mgn_params.specs.Tables.{Tables};
 ghost use Rattle.mgn_book.specs.BookViews.{command_of};
 ghost use Rattle.mgn_book.specs.History.{AddsFew, AreFew, HasRoom, IsNamed, is_fill_or_transfer, is_order, KeepsNames, recorded_of, sets_needed};
 
-use crate::names::Names;
+use crate::names::{Likely, Names};
 use crate::replies::StoredReply;
 use mgn_ids::{ClassName, LotId, LotQuantity, OrderId, OriginName, Premium, SessionNo, Units};
 use mgn_machine::{Command, Fill, Hold, Mode, Trade, Transfer};
@@ -70,7 +70,7 @@ pub(crate) struct StoredEntry {
 
 const _: () = prove!(size_of::<StoredEntry>() == 48);
 
-fn store_trade(names: &mut Names, trade: &Trade) -> StoredRequest
+fn store_trade(names: &mut Names, trade: &Trade, likely: &Likely) -> StoredRequest
     requires room { HasRoom names.old }
     requires few { AreFew 1000000 names.old }
     ensures kept { KeepsNames names.old names.new }
@@ -81,15 +81,15 @@ fn store_trade(names: &mut Names, trade: &Trade) -> StoredRequest
     ensures few { AddsFew names.old names.new }
 {
     StoredRequest::Trade {
-        account: names.place_of_account(trade.account),
-        contract: names.place_of_contract(trade.contract),
+        account: names.place_of_account(trade.account, likely.account),
+        contract: names.place_of_contract(trade.contract, likely.contract),
         quantity: trade.quantity,
         premium: trade.premium,
         lot: trade.lot,
     }
 }
 
-fn store_hold(names: &mut Names, hold: &Hold) -> StoredRequest
+fn store_hold(names: &mut Names, hold: &Hold, likely: &Likely) -> StoredRequest
     requires room { HasRoom names.old }
     requires few { AreFew 1000000 names.old }
     ensures kept { KeepsNames names.old names.new }
@@ -100,15 +100,15 @@ fn store_hold(names: &mut Names, hold: &Hold) -> StoredRequest
     ensures few { AddsFew names.old names.new }
 {
     StoredRequest::Hold {
-        account: names.place_of_account(hold.account),
-        contract: names.place_of_contract(hold.contract),
+        account: names.place_of_account(hold.account, likely.account),
+        contract: names.place_of_contract(hold.contract, likely.contract),
         quantity: hold.quantity,
         limit: hold.limit,
         order: hold.order,
     }
 }
 
-fn store_fill(names: &mut Names, fill: &Fill) -> StoredRequest
+fn store_fill(names: &mut Names, fill: &Fill, likely: &Likely) -> StoredRequest
     requires room { HasRoom names.old }
     requires few { AreFew 1000000 names.old }
     ensures kept { KeepsNames names.old names.new }
@@ -119,7 +119,7 @@ fn store_fill(names: &mut Names, fill: &Fill) -> StoredRequest
     ensures few { AddsFew names.old names.new }
 {
     StoredRequest::Fill {
-        account: names.place_of_account(fill.account),
+        account: names.place_of_account(fill.account, likely.account),
         order: fill.order,
         lot: fill.lot,
         quantity: fill.quantity,
@@ -127,7 +127,7 @@ fn store_fill(names: &mut Names, fill: &Fill) -> StoredRequest
     }
 }
 
-fn store_transfer(names: &mut Names, transfer: &Transfer) -> StoredRequest
+fn store_transfer(names: &mut Names, transfer: &Transfer, likely: &Likely) -> StoredRequest
     requires room { HasRoom names.old }
     requires few { AreFew 1000000 names.old }
     ensures kept { KeepsNames names.old names.new }
@@ -138,16 +138,16 @@ fn store_transfer(names: &mut Names, transfer: &Transfer) -> StoredRequest
     ensures few { AddsFew names.old names.new }
 {
     StoredRequest::Transfer {
-        from: names.place_of_account(transfer.from),
-        to: names.place_of_account(transfer.to),
-        contract: names.place_of_contract(transfer.contract),
+        from: names.place_of_account(transfer.from, likely.account),
+        to: names.place_of_account(transfer.to, likely.account),
+        contract: names.place_of_contract(transfer.contract, likely.contract),
         quantity: transfer.quantity,
         lot: transfer.lot,
     }
 }
 
 /// A command with the places of its names, which are added where they are not there.
-pub(crate) fn store_command(names: &mut Names, command: &Command) -> StoredRequest
+pub(crate) fn store_command(names: &mut Names, command: &Command, likely: &Likely) -> StoredRequest
     requires room { HasRoom names.old }
     requires few { AreFew 1000000 names.old }
     ensures kept { KeepsNames names.old names.new }
@@ -159,25 +159,42 @@ pub(crate) fn store_command(names: &mut Names, command: &Command) -> StoredReque
     match *command {
         Command::NewOrigin(origin, mode) => StoredRequest::NewOrigin(origin, mode),
         Command::NewAccount(account, origin) => {
-            StoredRequest::NewAccount(names.place_of_account(account), origin)
+            StoredRequest::NewAccount(names.place_of_account(account, likely.account), origin)
         }
-        Command::Trade(trade) => store_trade(names, &trade),
-        Command::Bust(account, lot) => StoredRequest::Bust(names.place_of_account(account), lot),
-        Command::Hold(hold) => store_hold(names, &hold),
-        Command::Fill(fill) => store_fill(names, &fill),
+        Command::Trade(trade) => store_trade(names, &trade, likely),
+        Command::Bust(account, lot) => StoredRequest::Bust(
+            names.place_of_account(account, likely.account),
+            lot,
+        ),
+        Command::Hold(hold) => store_hold(names, &hold, likely),
+        Command::Fill(fill) => store_fill(names, &fill, likely),
         Command::Release(account, order) => {
-            StoredRequest::Release(names.place_of_account(account), order)
+            StoredRequest::Release(names.place_of_account(account, likely.account), order)
         }
-        Command::Transfer(transfer) => store_transfer(names, &transfer),
+        Command::Transfer(transfer) => store_transfer(names, &transfer, likely),
         Command::Post(account, class, units) => {
-            StoredRequest::Post(class, names.place_of_account(account), units)
+            StoredRequest::Post(
+                class,
+                names.place_of_account(account, likely.account),
+                units,
+            )
         }
         Command::Draw(account, class, units) => {
-            StoredRequest::Draw(class, names.place_of_account(account), units)
+            StoredRequest::Draw(
+                class,
+                names.place_of_account(account, likely.account),
+                units,
+            )
         }
-        Command::Ask(account) => StoredRequest::Ask(names.place_of_account(account)),
+        Command::Ask(account) => StoredRequest::Ask(names.place_of_account(
+            account,
+            likely.account,
+        )),
         Command::Total(origin) => StoredRequest::Total(origin),
-        Command::Statement(account) => StoredRequest::Statement(names.place_of_account(account)),
+        Command::Statement(account) => StoredRequest::Statement(names.place_of_account(
+            account,
+            likely.account,
+        )),
         Command::EndDay => StoredRequest::EndDay,
     }
 }

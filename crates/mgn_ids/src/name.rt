@@ -49,6 +49,17 @@ fn are_name_bytes(word: &[u8]) -> bool
     word.iter().all(|byte| is_name_byte(*byte))
 }
 
+// Whether two rows are the same. No byte ends the loop, so that all are compared at once.
+fn are_same(row: &[u8; 16], other: &[u8; 16]) -> bool
+    ensures { result ≡ bytes_eq row.now other.now }
+{
+    let mut same = true;
+    for i in 0..16 {
+        same &= row[i] == other[i];
+    }
+    same
+}
+
 impl Name {
     /// The name that a word spells. `Syntax` where a byte is none of a name's or there is none, `Range` where there
     /// are more than 16. Takes no memory.
@@ -88,7 +99,7 @@ impl PartialEq for Name {
 
     // Two rows of 16 bytes, and no loop over as many as the names have.
     fn eq(&self, other: &Name) -> bool {
-        self.len == other.len && self.bytes == other.bytes
+        self.len == other.len && are_same(&self.bytes, &other.bytes)
     }
 }
 

@@ -12,7 +12,7 @@ ghost use Rattle.mgn_span.specs.Sizes.{IsDelta};
 use crate::kept::Kept;
 use crate::naming::{await_moved, first_place, name_again, naming_spreads, next_place, spread_at};
 use crate::reworked::Reworked;
-use crate::rows::{bring_rests, change_credits, form_spread, is_reached, mark_moved};
+use crate::rows::{bring_rests, change_credits, form_spread, mark_moved};
 use mgn_num::{Cents, TenThousandths};
 use mgn_params::ParamSet;
 use mgn_params::rows::{fill, filled};
@@ -133,7 +133,7 @@ impl InterCredits {
         change_credits(&mut self.credits, legs, &mut kept.credits, &credits)
     }
 
-    // Forms the spread at a place again if the change reaches it. Those that it reaches then wait too.
+    // Forms the spread at a place again. Those that the change then reaches wait too.
     fn turn(
         &mut self,
         set: &ParamSet,
@@ -161,11 +161,9 @@ impl InterCredits {
         set.limits();
         let spread = spread_at(set.credits(), i);
         let legs = &spread.legs[..spread.count];
-        if is_reached(moved, g, legs) {
-            let is_told = self.rework(set, i, moved);
-            await_moved(waiting, &self.naming, moved, legs);
-            reworked.tell(is_told, i as u8);
-        }
+        let is_told = self.rework(set, i, moved);
+        await_moved(waiting, &self.naming, moved, legs);
+        reworked.tell(is_told, i as u8);
     }
 
     // Forms again the spreads that a change of a commodity reaches. Those that name it wait for their turn, and those

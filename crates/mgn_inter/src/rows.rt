@@ -14,15 +14,6 @@ use mgn_params::{CreditSpread, Leg};
 use mgn_span::legs::{amount_of_legs, credits_of_legs, spread_forms, use_rests};
 use mgn_span::{Delta, delta_at};
 
-/// Whether a leg is of the commodity at a place, or of one whose rest has moved.
-pub(crate) fn is_reached(moved: &[bool], g: usize, legs: &[Leg]) -> bool
-    requires { All (λ leg. leg.commodity < length moved.now) legs.now }
-    ensures { result ≡ reached moved.now g legs.now }
-{
-    legs.iter()
-        .any(|leg| leg.commodity == g || moved[leg.commodity])
-}
-
 // The rest of a commodity at a spread's turn: that of the row if it has moved, else the one that is kept.
 fn rest_at_turn(moved: &[bool], rests: &[Delta], commodity: usize, kept: Delta) -> Delta
     requires mark { commodity < length moved.now }

@@ -1,12 +1,12 @@
 -- Pages that are kept from now on, and quantities that are written in them.
-use Rattle.std.proofs.Common.{◌≡◌, ◌≢◌, ◌∙◌, ◌+◌, ◌*◌, ◌/◌, ◌%◌, ◌<◌, ◌≤◌, ◌++◌, ℕ, zero, suc, ℤ, pos, List, length, length-append, set, take, drop, get_or, replicate, ap, sym, refl, subst, arith, ⊎_elim, length-set, get_or-set_same, get_or-set_other}
+use Rattle.std.proofs.Common.{◌≡◌, ◌≢◌, ◌∙◌, ◌+◌, ◌*◌, ◌/◌, ◌%◌, ◌<◌, ◌≤◌, ◌++◌, ℕ, zero, suc, ℤ, pos, List, length, length-append, set, take, get_or, replicate, ap, sym, refl, subst, arith, ⊎_elim, length-set, get_or-set_same, get_or-set_other}
 use Rattle.std.specs.List.{sum_by}
 use Rattle.std.proofs.Math.Nat.{div-eq_of_lt-le, mod-lt}
 use Rattle.std.proofs.lemmas.Bool.{cases_eq, cases_lt}
 use Rattle.std.proofs.lemmas.Grind.{div_ceil_times}
 use Rattle.std.specs.Int.{div_ceil}
 use Rattle.std.proofs.lemmas.Nat.{div-add-mod', div-mul-add, mod-mul-add}
-use Rattle.std.proofs.lemmas.List.{ext_get_or, get_or-drop, get_or-take, length-drop, length-take-le, get_or-append-add, get_or_append_left, get_or-replicate, get_or_past, length-replicate}
+use Rattle.std.proofs.lemmas.List.{ext_get_or, get_or-take, length-take-le, get_or-append-add, get_or_append_left, get_or-replicate, get_or_past, length-replicate}
 use Rattle.std.proofs.lemmas.List.Folds.{sum_by-replicate}
 use Rattle.std.proofs.lemmas.List.FromFn.{get_or-map-range_with_len, length-map-range_with_len}
 use Rattle.std.proofs.lemmas.List.Sums.{sum_by-set}
@@ -277,29 +277,6 @@ pub cell-as : (starts starts' : List ℕ) (cells cells' : List ℤ) → starts' 
 cell-as starts starts' cells cells' s c contract = λ i. cell (s i) (c i) contract
 
 -- Pages of two lists.
-
-part-at : (xs : List ℤ) (s n i : ℕ) → i < n → get_or (take n (drop s xs)) i (pos 0) ≡ value_at xs (s + i)
-part-at xs s n i small = get_or-take n (drop s xs) i (pos 0) small ∙ get_or-drop s xs i (pos 0)
-
-part-long : (xs : List ℤ) (s n : ℕ) → s + n ≤ length xs → length (take n (drop s xs)) ≡ n
-part-long xs s n inside = length-take-le n (drop s xs) (omega (arith, length-drop s xs, inside))
-
-pub parts-same : (xs ys : List ℤ) (s t n m : ℕ) → n ≡ 16 → m ≡ 16 → s + 16 ≤ length xs → t + 16 ≤ length ys → take n (drop s xs) ≡ take m (drop t ys) → (i : ℕ) → i < 16 → value_at xs (s + i) ≡ value_at ys (t + i)
-parts-same xs ys s t n m n_is m_is inside other_inside same i small =
-    sym (part-at xs s n i (omega (arith, n_is, small))) ∙ ap (λ (zs : List ℤ). get_or zs i (pos 0)) same ∙ part-at ys t m i (omega (arith, m_is, small))
-
-pub parts-are : (xs ys : List ℤ) (s t n m : ℕ) → n ≡ 16 → m ≡ 16 → s + 16 ≤ length xs → t + 16 ≤ length ys → ((i : ℕ) → i < 16 → value_at xs (s + i) ≡ value_at ys (t + i)) → take n (drop s xs) ≡ take m (drop t ys)
-parts-are xs ys s t n m n_is m_is inside other_inside each =
-    ext_get_or (pos 0) (take n (drop s xs)) (take m (drop t ys)) (omega (arith, here, there, n_is, m_is))
-    (λ i small.
-    let within : i < 16 = omega (arith, small, here, n_is) in
-    part-at xs s n i (omega (arith, within, n_is)) ∙ each i within ∙ sym (part-at ys t m i (omega (arith, within, m_is))))
-  where
-    here : length (take n (drop s xs)) ≡ n
-    here = part-long xs s n (omega (arith, inside, n_is))
-
-    there : length (take m (drop t ys)) ≡ m
-    there = part-long ys t m (omega (arith, other_inside, m_is))
 
 -- the contract at a place of a page
 pub cell-in : (starts : List ℕ) (cells : List ℤ) (page i : ℕ) → i < 16 → cell starts cells (page * 16 + i) ≡ value_at cells (get_or starts page 0 + i)

@@ -160,13 +160,15 @@ impl Nets {
         None
     }
 
-    /// The quantity at a place, with another added.
+    /// The quantity at a place, with another added. One of 0 is not looked for, and has no page kept.
     pub fn add(&mut self, contract: usize, quantity: Quantity)
         requires contract { contract < length self.old }
         requires small { IsQuantity (value_at self.old contract +ℤ quantity) }
         ensures { self.new ≡ slice_set self.old contract (value_at self.old contract +ℤ quantity) }
     {
-        add_to(&mut self.starts, &mut self.cells, contract, quantity);
+        if quantity.size() != 0 {
+            add_to(&mut self.starts, &mut self.cells, contract, quantity);
+        }
     }
 
     /// Quantities of 0 in place of these. It takes no memory.

@@ -110,7 +110,12 @@ fn is_same_page(cells: &[Quantity], start: usize, others: &[Quantity], other_sta
     requires other_inside { other_start + 16 ≤ length others.now }
     ensures { IsTrue result ↔ ((i : ℕ) → i < 16 → value_at cells.now (start + i) ≡ value_at others.now (other_start + i)) }
 {
-    cells[start..start + PAGE] == others[other_start..other_start + PAGE]
+    let mut same = true;
+    // No quantity ends the loop, so that several are compared at once.
+    for i in 0..PAGE {
+        same &= cells[start + i] == others[other_start + i];
+    }
+    same
 }
 
 // Whether all quantities are the same in both.

@@ -1,5 +1,5 @@
-ghost use Rattle.std.specs.Prelude.{◌≡◌, ◌≢◌, ◌+◌, ◌*◌, ◌^◌, ◌<◌, ◌≤◌, length, slice_index, IfOk, IfSome, IsTrue, ◌↔◌, Some, unsigned_abs};
-ghost use Rattle.mgn_num.specs.Text.{capped_number};
+ghost use Rattle.std.specs.Prelude.{◌≡◌, ◌≢◌, ◌+◌, ◌*◌, ◌^◌, ◌<◌, ◌≤◌, length, slice_index, IfOk, IfSome, IsTrue, ◌↔◌, Some, true, unsigned_abs};
+ghost use Rattle.mgn_num.specs.Text.{capped_number, is_positive, number_from};
 ghost use Rattle.mgn_num.specs.Reading.{number_of, unsigned_in, signed_in};
 
 /// Why a text is not a number in its range.
@@ -13,27 +13,30 @@ pub enum NumFault {
 
 const LARGEST: u128 = 1_000_000_000_000_000_000_000_000_000_000_000_000;
 
-// A number up to this one and a digit more fit in 64 bits.
-const SHORT: u64 = 1_000_000_000_000_000_000;
+// So many digits spell a number that fits in 64 bits.
+const SHORT: usize = 18;
 
-// What digits spell, of which the first is not 0, in 64 bits; none where it is too large for these, as few numbers are.
-#[tactic(auto, using(std::proofs::lemmas::List::Sums::fold_more, std::proofs::lemmas::List::Folds::list_all_more, std::proofs::lemmas::List::Folds::list_all_at))]
+// A digit 1 to 9 and further digits, as a number in 64 bits; none where there are too many for these, as few numbers have.
+#[tactic(auto, using(std::proofs::lemmas::Grind::pow_more, std::proofs::lemmas::List::Sums::fold_more, std::proofs::lemmas::List::Folds::list_all_more, std::proofs::lemmas::List::Folds::list_all_at))]
+#[inline(always)]
 fn read_short(digits: &[u8]) -> Option<u64>
-    requires some { 0 < length digits.now }
-    requires first { slice_index digits.now 0 ≢ 48 }
-    ensures { IfSome result (λ n. capped_number digits.now ≡ Some n) }
+    ensures { IfSome result (λ n. (is_positive digits.now ≡ true) × (number_from digits.now ≡ n)) }
 {
+    if digits.is_empty() || SHORT < digits.len() || digits[0] == b'0' {
+        return None;
+    }
     let mut number: u64 = 0;
     for byte in digits {
-        if *byte < b'0' || *byte > b'9' || SHORT < number {
+        let digit = u64::from(*byte).wrapping_sub(u64::from(b'0'));
+        if digit > 9 {
             return None;
         }
-        number = number * 10 + (*byte - b'0') as u64;
+        number = number * 10 + digit;
     }
     Some(number)
 }
 
-// The same of any number; one above the limit where it is larger.
+// What digits spell, of which the first is not 0; one above the limit where it is larger.
 #[tactic(auto, using(std::proofs::lemmas::List::Sums::fold_more, std::proofs::lemmas::List::Folds::list_all_more, std::proofs::lemmas::List::Folds::list_all_at))]
 fn read_long(digits: &[u8]) -> Option<u128>
     requires some { 0 < length digits.now }
@@ -90,10 +93,11 @@ pub(crate) fn read_number(text: &[u8]) -> Result<i128, NumFault>
     Ok(if negative { -size } else { size })
 }
 
-/// The number from `low` to `high` that a word spells. `Syntax` where it spells none, `Range` where it spells
-/// another number, a negative one too. Takes no memory.
+// The same as `read_unsigned`, by any number.
 #[tactic(auto, unfolding(crate::specs::Reading::unsigned_in))]
-pub fn read_unsigned(word: &[u8], low: u64, high: u64) -> Result<u64, NumFault>
+#[cold]
+#[inline(never)]
+fn read_long_unsigned(word: &[u8], low: u64, high: u64) -> Result<u64, NumFault>
     ensures value { result ≡ unsigned_in low high word.now }
     ensures bound { IfOk result (λ n. (low ≤ n) × (n ≤ high)) }
 {
@@ -104,10 +108,28 @@ pub fn read_unsigned(word: &[u8], low: u64, high: u64) -> Result<u64, NumFault>
     Ok(number as u64)
 }
 
-/// The number of at most `high` in size that a word spells. `Syntax` where it spells none, `Range` where it spells
-/// a larger one. Takes no memory.
+/// The number from `low` to `high` that a word spells. `Syntax` where it spells none, `Range` where it spells
+/// another number, a negative one too. Takes no memory.
+#[tactic(auto, unfolding(crate::specs::Reading::unsigned_in))]
+#[inline(always)]
+pub fn read_unsigned(word: &[u8], low: u64, high: u64) -> Result<u64, NumFault>
+    ensures value { result ≡ unsigned_in low high word.now }
+    ensures bound { IfOk result (λ n. (low ≤ n) × (n ≤ high)) }
+{
+    let Some(number) = read_short(word) else {
+        return read_long_unsigned(word, low, high);
+    };
+    if number < low || high < number {
+        return Err(NumFault::Range);
+    }
+    Ok(number)
+}
+
+// The same as `read_signed`, by any number.
 #[tactic(auto, unfolding(crate::specs::Reading::signed_in))]
-pub fn read_signed(word: &[u8], high: u64) -> Result<i64, NumFault>
+#[cold]
+#[inline(never)]
+fn read_long_signed(word: &[u8], high: u64) -> Result<i64, NumFault>
     requires { high < 2 ^ 63 }
     ensures value { result ≡ signed_in high word.now }
     ensures bound { IfOk result (λ z. unsigned_abs z ≤ high) }
@@ -117,4 +139,25 @@ pub fn read_signed(word: &[u8], high: u64) -> Result<i64, NumFault>
         return Err(NumFault::Range);
     }
     Ok(number as i64)
+}
+
+/// The number of at most `high` in size that a word spells. `Syntax` where it spells none, `Range` where it spells
+/// a larger one. Takes no memory.
+#[tactic(auto, unfolding(crate::specs::Reading::signed_in))]
+#[inline(always)]
+pub fn read_signed(word: &[u8], high: u64) -> Result<i64, NumFault>
+    requires { high < 2 ^ 63 }
+    ensures value { result ≡ signed_in high word.now }
+    ensures bound { IfOk result (λ z. unsigned_abs z ≤ high) }
+{
+    let is_negative = word.len() > 0 && word[0] == b'-';
+    let digits = if is_negative { &word[1..] } else { word };
+    let Some(size) = read_short(digits) else {
+        return read_long_signed(word, high);
+    };
+    if high < size {
+        return Err(NumFault::Range);
+    }
+    let number = size as i64;
+    Ok(if is_negative { -number } else { number })
 }

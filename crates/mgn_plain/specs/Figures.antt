@@ -21,6 +21,11 @@ commodity_figures set held commodity = record {
   risk = risk set held commodity;
 }
 
+-- a set and a net for each contract of it
+pub record SetAndNets : Type 0 where
+  pub set : Tables
+  pub nets : List ℤ
+
 -- the figures of all commodities in file order, with the net option value and the requirement
 pub record WholeFigures : Type 0 where
   pub commodities : List CommodityFigures

@@ -23,7 +23,7 @@ use mgn_params::{ParamSet, Work};
 use std::alloc::{AllocError, Global};
 
 // One pass over the contracts, then those over the months, the spreads and the commodities.
-fn work_out(
+pub(crate) fn work_out(
     alloc: Global,
     set: &ParamSet,
     nets: &Nets,
@@ -76,7 +76,7 @@ fn risk_of(scan: Cents, intra: Cents, spot: Cents, credit: Cents, minimum: Cents
 }
 
 // The figures of a commodity.
-fn figures_of(set: &ParamSet, rows: &FigureRows, commodity: usize) -> CommodityFigures
+pub(crate) fn figures_of(set: &ParamSet, rows: &FigureRows, commodity: usize) -> CommodityFigures
     requires rows { (nets : List ℤ) × AreFigureRows set.now nets rows.now }
     requires commodity { commodity < length set.now.commodities }
     ensures figures { (nets : List ℤ) →

@@ -7,6 +7,7 @@ mod commodity;
 mod credits;
 mod deltas;
 mod figure_rows;
+mod net_figures;
 mod options;
 mod parts;
 mod rows;
@@ -17,4 +18,5 @@ mod whole;
 
 pub use calculation::{figures, requirement};
 pub use commodity::CommodityFigures;
+pub use net_figures::NetFigures;
 pub use whole::Figures;

@@ -9,3 +9,4 @@ pub mod ReadLemmas
 pub mod NumberLemmas
 pub mod BodyLemmas
 pub mod ScanLemmas
+pub mod BareLemmas

@@ -25,7 +25,7 @@ is_unquoted st.InEscape = false
 is_unquoted st.InComment = false
 is_unquoted st.AfterCr = false
 
-none_of : (p q r : Bool) → (not p && not q && not r) ≡ true → (p ≡ false) × (q ≡ false) × (r ≡ false)
+pub none_of : (p q r : Bool) → (not p && not q && not r) ≡ true → (p ≡ false) × (q ≡ false) × (r ≡ false)
 none_of true q r e = cc
 none_of false true r e = cc
 none_of false false true e = cc
@@ -98,3 +98,7 @@ pub bare_shape : (line : List ℕ) → list_all is_bare_byte (strip_carriage_ret
 bare_shape line bare =
     let view = returned_or_not line in
     ap (shape st.StartRecord) view.1 ∙ closed st.StartRecord refl (strip_carriage_return line) bare view.0
+
+-- the same of a line that has no carriage return at its end either
+pub bare_line : (line : List ℕ) → list_all is_bare_byte line ≡ true → shape st.StartRecord line ≡ Closed
+bare_line line bare = ap (shape st.StartRecord) (sym (append-nil line)) ∙ closed st.StartRecord refl line bare false

@@ -1,7 +1,7 @@
 -- Files that one reader reads, and what it has read of one.
 use Rattle.std.specs.Borrow.{Bor}
 use Rattle.std.specs.Prelude.{◌≡◌, ◌⊎◌, ◌+◌, ◌^◌, ◌<◌, ◌≤◌, ℕ, ◌==◌, ◌&&◌, if◌then◌else◌, Bool, true, false, List, [], ◌∷◌, ◌++◌, Option, None, Some, Err, not, length, map, drop, option_map}
-use Rattle.std.specs.List.{list_all, slice_split}
+use Rattle.std.specs.List.{list_all, list_any, slice_split}
 use Rattle.csv.specs.declared.parser.Action.{Action}
 use Rattle.csv.specs.declared.parser.State.{State}
 use Rattle.csv.specs.declared.parser.State.TheVariants as st
@@ -68,6 +68,10 @@ is_plain_line line = not (has_mark line) && is_closed (shape st.StartRecord line
 
 abbrev pub is_plain : List ℕ → Bool
 is_plain text = list_all is_plain_line (slice_split (λ b. b == 10) text)
+
+-- no quote, no carriage return and no byte that begins a byte order mark
+abbrev pub is_bare_text : List ℕ → Bool
+is_bare_text text = not (list_any (λ b. b == 34) text) && not (list_any (λ b. b == 13) text) && not (list_any (λ b. b == 239) text)
 
 -- what ends a line of this shape so that a reader may go on behind it: a quote that is left open is closed
 abbrev pub end_of : Shape → Option (List ℕ)

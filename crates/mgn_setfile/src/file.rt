@@ -12,7 +12,7 @@ use crate::detail::{Detail, misfit_of};
 use crate::draft::{Draft, SetFile};
 use crate::fault::{Cause, RecordFault, SetFault};
 use crate::fields::read_set_name;
-use crate::line::fields;
+use crate::line::{SHORT_RECORD, fields, short_fields};
 use crate::place::Field;
 use crate::plain::is_plain;
 use crate::read::{read_body, read_closed};
@@ -233,6 +233,11 @@ pub(crate) fn add_next(
     ensures ok { OnOk result (judged (Some draft.old) (Some (fields_of row.now)) ≡ Ok draft.new) }
     ensures err { IfErr result (λ e. (e.cause ≡ Cause.Memory) ⊎ (judged (Some draft.old) (Some (fields_of row.now)) ≡ Err e)) }
 {
+    let count = row.len();
+    if count <= SHORT_RECORD {
+        let words = short_fields(row);
+        return add_later(alloc, draft.version, &mut draft.set, &words[..count]);
+    }
     let Ok(words) = fields(alloc, row) else {
         return Err(RecordFault::whole(Cause::Memory));
     };

@@ -1,6 +1,6 @@
 //! The lines of a file, and the fields of a record.
 
-ghost use Rattle.std.specs.Prelude.{◌≡◌, ◌<◌, ◌∷◌, ◌==◌, length, map, option_map, position, IfOk, IfSome};
+ghost use Rattle.std.specs.Prelude.{◌≡◌, ◌<◌, ◌≤◌, ◌∷◌, ◌==◌, length, map, option_map, position, take, IfOk, IfSome};
 ghost use Rattle.std.specs.List.{slice_split};
 ghost use Rattle.csv.specs.Records.{fields_of};
 ghost use Rattle.csv.specs.Reading.{strip_bom};
@@ -68,6 +68,25 @@ pub(crate) fn line_of(text: &[u8], number: u64) -> u64
         }
     }
     1
+}
+
+/// How many fields a record may have to be read without memory of its own: those of a contract. Only a spread between
+/// commodities of many legs has more.
+pub(crate) const SHORT_RECORD: usize = 24;
+
+// The fields of a short record, and then empty ones.
+pub(crate) fn short_fields(row: &ByteRecord) -> [&[u8]; 24]
+    requires { length (fields_of row.now) ≤ 24 }
+    ensures fields { map (λ s. s.now) (take (length (fields_of row.now)) result) ≡ fields_of row.now }
+    ensures len { length result ≡ 24 }
+{
+    let mut words = [b"".as_slice(); 24];
+    for i in 0..row.len() {
+        if let Some(word) = row.get(i) {
+            words[i] = word;
+        }
+    }
+    words
 }
 
 // The fields of a record.

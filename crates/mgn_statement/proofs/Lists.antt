@@ -1,10 +1,10 @@
 -- Lists of what passes a test, as loops grow them.
-use Rattle.std.proofs.Common.{◌≡◌, ℕ, zero, suc, ◌+◌, ◌-◌, ◌<◌, ◌≤◌, Bool, true, false, List, [], ◌∷◌, ◌++◌, length, take, map, filter, set, get_or, cond, replicate, ⊎_elim, refl, ap, sym, ◌∙◌, arith, append-nil, take_all}
+use Rattle.std.proofs.Common.{◌≡◌, ℕ, zero, suc, ◌+◌, ◌-◌, ◌<◌, ◌≤◌, Bool, true, false, List, [], ◌∷◌, ◌++◌, length, take, map, filter, count_by, set, get_or, cond, replicate, ⊎_elim, refl, ap, sym, ◌∙◌, arith, append-nil, take_all}
 use Rattle.std.specs.Prelude.{ℤ, pos, unsigned_abs, nat_lt, ◌==◌, ◌&&◌, ◌||◌}
 use Rattle.std.specs.List.{range_with_len}
 use Rattle.std.proofs.lemmas.List.{map-append}
 use Rattle.std.proofs.lemmas.List.Elements.{filter_more, filter-append}
-use Rattle.std.proofs.lemmas.List.FromFn.{get_or-map-range_with_len, length-map-range_with_len}
+use Rattle.std.proofs.lemmas.List.Sums.{count_by_more_yes, sum_by-take-le}
 use Rattle.std.proofs.Math.Bool.{or-false, or-true, and-false}
 use Rattle.std.proofs.lemmas.Bool.{cases_lt, eqb-false, eqb-true}
 use Rattle.std.proofs.lemmas.Grind.{get_or-set_at}
@@ -35,6 +35,12 @@ pub left_more : {X Y : Type 0} (f : X → Y) (p : X → Bool) (xs : List X) (i :
     → map f (filter p (take (i + 1) xs)) ≡ map f (filter p (take i xs))
 left_more {X = X} f p xs i d h e =
     ap (λ (ys : List X). map f ys) (filter_more p xs i d h ∙ ap (λ (b : Bool). filter p (take i xs) ++ cond b (get_or xs i d ∷ []) []) e ∙ append-nil (filter p (take i xs)))
+
+-- before an element that passes fewer pass than of all
+pub count_room : {X : Type 0} (p : X → Bool) (xs : List X) (i : ℕ) (d : X) → i < length xs → p (get_or xs i d) ≡ true → count_by p (take i xs) < count_by p xs
+count_room {X = X} p xs i d h e =
+    let most : count_by p (take (i + 1) xs) ≤ count_by p xs = sum_by-take-le (λ (x : X). cond (p x) 1 0) xs (i + 1) in
+    omega (arith, count_by_more_yes p xs i d h e, most)
 
 -- the same of the first numbers
 
@@ -125,15 +131,6 @@ pub all_marked : (marks : List Bool) (cs : List Contract) (ns : List ℤ) (i : �
     → ((g : ℕ) → get_or marks g false ≡ is_held (take i (positions cs ns)) g) → (g : ℕ) → get_or marks g false ≡ is_held (positions cs ns) g
 all_marked marks cs ns i h e before g =
     before g ∙ ap (λ (ps : List Position). is_held ps g) (take_all i (positions cs ns) (omega (arith, length_positions cs ns e)))
-
--- a list of what numbers give
-
-pub long_by_number : {Y : Type 0} (f : ℕ → Y) (ys : List Y) (n : ℕ) → ys ≡ map f (range_with_len 0 n) → length ys ≡ n
-long_by_number {Y = Y} f ys n e = ap (λ (l : List Y). length l) e ∙ length-map-range_with_len f 0 n
-
-pub at_number : {Y : Type 0} (f : ℕ → Y) (ys : List Y) (n k : ℕ) (d : Y) → ys ≡ map f (range_with_len 0 n) → k < n → get_or ys k d ≡ f k
-at_number {Y = Y} f ys n k d e inside =
-    ap (λ (l : List Y). get_or l k d) e ∙ get_or-map-range_with_len f 0 n k k d inside (omega arith)
 
 -- statements of the same parts
 

@@ -10,7 +10,7 @@ use crate::lines::{class_lines, commodity_lines, live_lots};
 use mgn_machine::{CommodityLine, Heading, Mode, Origin, Statement};
 use mgn_num::Cents;
 use mgn_params::{ParamSet, Version, Work};
-use mgn_plain::figures;
+use mgn_plain::NetFigures;
 use mgn_unit::{Account, PortfolioRow, Row};
 use std::alloc::{AllocError, Global};
 
@@ -56,7 +56,6 @@ fn heading(
 }
 
 // The figures of the commodities that the lots are in, and the net option value, worked out anew.
-#[tactic(auto, unfolding(mgn_plain::specs::Figures::figures_of))]
 fn commodity_figures(
     alloc: Global,
     set: &ParamSet,
@@ -66,8 +65,8 @@ fn commodity_figures(
     ensures lines { IfOk result (λ told. told.0.items ≡ commodity_lines set.now (positions set.now.contracts lots.now.nets)) }
     ensures value { IfOk result (λ told. told.1 ≡ net_option_value (positions set.now.contracts lots.now.nets)) }
 {
-    let figures = figures(alloc, set, &lots.nets, &mut Work::new())?;
-    let lines = commodity_lines(alloc, set, &lots.nets, figures.commodities())?;
+    let figures = NetFigures::of(alloc, set, &lots.nets, &mut Work::new())?;
+    let lines = commodity_lines(alloc, set, &lots.nets, &figures)?;
     Ok((lines, figures.option_value()))
 }
 

@@ -1,11 +1,9 @@
-ghost use Rattle.std.specs.Prelude.{◌≡◌, ◌<◌, ◌≤◌, ◌^◌, ℕ, IfOk, false, filter, length, map, slice_index_or};
+ghost use Rattle.std.specs.Prelude.{◌≡◌, ◌<◌, ◌≤◌, ◌^◌, ℕ, IfOk, false, filter, length, slice_index_or};
 ghost use Rattle.mgn_lots.specs.declared.lot.Lot.{Lot as LotValue};
 ghost use Rattle.mgn_lots.specs.Lots.{is_live};
 ghost use Rattle.mgn_coll.specs.Posted.{class_value};
 ghost use Rattle.mgn_params.specs.Limits.{IsClass};
 ghost use Rattle.mgn_span.specs.Positions.{positions};
-ghost use Rattle.mgn_span.specs.Words.{commodities_of};
-ghost use Rattle.mgn_plain.specs.Figures.{commodity_figures};
 ghost use Rattle.mgn_machine.specs.Statements.{class_lines, commodity_lines, is_held};
 ghost use Rattle.mgn_statement.specs.Statement.{line_by};
 
@@ -14,7 +12,7 @@ use mgn_lots::Lot;
 use mgn_machine::{ClassLine, CommodityLine};
 use mgn_nets::Nets;
 use mgn_params::{Class, ParamSet};
-use mgn_plain::CommodityFigures;
+use mgn_plain::{CommodityFigures, NetFigures};
 use std::alloc::{AllocError, Global};
 
 // Of each commodity by its place whether a net in a contract of it is not 0. Nets of 0 are passed over.
@@ -51,37 +49,39 @@ fn line_of(set: &ParamSet, commodity: usize, figures: &CommodityFigures) -> Comm
     }
 }
 
-#[tactic(auto, using(crate::proofs::Lists::kept_number, crate::proofs::Lists::left_number, crate::proofs::Lists::long_by_number, crate::proofs::Lists::at_number, mgn_span::proofs::ScanLemmas::active_small), unfolding(mgn_machine::specs::Statements::commodity_lines, mgn_plain::specs::Figures::commodity_figures))]
+#[tactic(auto, using(mgn_span::proofs::ScanLemmas::active_small), unfolding(mgn_machine::specs::Statements::commodity_lines, mgn_plain::specs::Figures::commodity_figures))]
 /// The figures of the commodities in which a net is not 0, in file order.
 pub(crate) fn commodity_lines(
     alloc: Global,
     set: &ParamSet,
     nets: &Nets,
-    figures: &[CommodityFigures],
+    figures: &NetFigures,
 ) -> Result<Vec<CommodityLine>, AllocError>
     requires one_each { length nets.now ≡ length set.now.contracts }
-    requires figures { figures.now ≡ map (commodity_figures set.now (positions set.now.contracts nets.now)) (commodities_of set.now) }
+    requires figures { figures.now ≡ record { set = set.now; nets = nets.now } }
     ensures { IfOk result (λ lines. lines.items ≡ commodity_lines set.now (positions set.now.contracts nets.now)) }
 {
     let held = held_commodities(set, nets);
-    let mut lines = Vec::new(alloc);
+    let count = held.iter().filter(|&&mark| mark).count();
+    let mut lines = Vec::with_capacity(alloc, count)?;
     for commodity in 0..set.commodity_count() {
         if held[commodity] {
-            lines.push(line_of(set, commodity, &figures[commodity]))?;
+            lines.push_reserved(line_of(set, commodity, &figures.commodity(commodity)));
         }
     }
     Ok(lines)
 }
 
-#[tactic(auto, using(std::proofs::lemmas::List::Elements::filter_more))]
+#[tactic(auto, using(std::proofs::lemmas::List::Elements::filter_more, crate::proofs::Lists::count_room))]
 /// The live lots, in order of entry.
 pub(crate) fn live_lots(alloc: Global, lots: &[Lot]) -> Result<Vec<Lot>, AllocError>
     ensures { IfOk result (λ live. live.items ≡ filter (λ (x : LotValue). is_live x.mark) lots.now) }
 {
-    let mut live = Vec::new(alloc);
+    let count = lots.iter().filter(|lot| lot.mark.is_live()).count();
+    let mut live = Vec::with_capacity(alloc, count)?;
     for lot in lots {
         if lot.mark.is_live() {
-            live.push(*lot)?;
+            live.push_reserved(*lot);
         }
     }
     Ok(live)
@@ -100,7 +100,7 @@ fn class_line(class: &Class, units: u64) -> ClassLine
     }
 }
 
-#[tactic(auto, using(crate::proofs::Lists::kept_more, crate::proofs::Lists::left_more), unfolding(mgn_machine::specs::Statements::class_lines))]
+#[tactic(auto, using(crate::proofs::Lists::kept_more, crate::proofs::Lists::left_more, crate::proofs::Lists::count_room), unfolding(mgn_machine::specs::Statements::class_lines))]
 /// The classes of which units are posted, in file order.
 pub(crate) fn class_lines(
     alloc: Global,
@@ -110,11 +110,16 @@ pub(crate) fn class_lines(
     ensures { IfOk result (λ lines. lines.items ≡ class_lines set.now.classes collateral.now.units) }
 {
     set.limits();
-    let mut lines = Vec::new(alloc);
-    for class in set.classes() {
+    let classes = set.classes();
+    let count = classes
+        .iter()
+        .filter(|class| collateral.class_units(&class.name) > 0)
+        .count();
+    let mut lines = Vec::with_capacity(alloc, count)?;
+    for class in classes {
         let units = collateral.class_units(&class.name);
         if 0 < units {
-            lines.push(class_line(class, units))?;
+            lines.push_reserved(class_line(class, units));
         }
     }
     Ok(lines)

@@ -4,3 +4,4 @@ pub mod Changes
 pub mod Laws
 pub mod NewSets
 pub mod Prepared
+pub mod Worths

@@ -3,9 +3,10 @@ ghost use Rattle.mgn_lots.specs.Lots.{IsLot};
 ghost use Rattle.mgn_unit.specs.Changes.{gain};
 ghost use Rattle.mgn_unit.specs.Rows.{IsGain};
 
+use crate::worth_change::WorthChange;
 use mgn_ids::{LotQuantity, Premium};
 use mgn_lots::Lot;
-use mgn_num::{Cents, Quantity};
+use mgn_num::Quantity;
 
 /// What one portfolio gains by a command.
 #[derive(Clone, Copy)]
@@ -13,7 +14,7 @@ pub struct Gain {
     /// Contracts more, below 0 where there are fewer.
     pub quantity: Quantity,
     /// Cents more, below 0 where there are fewer.
-    pub worth: Cents,
+    pub worth: WorthChange,
 }
 
 /// What a command changes in the row of a margin unit, in one contract.
@@ -72,10 +73,9 @@ fn bust_gain(lot: &Lot) -> Gain
     ensures gain { result ≡ gain (neg_ℤ lot.now.quantity) (lot.now.quantity *ℤ pos lot.now.premium) }
     ensures limits { IsGain result }
 {
-    let worth = Cents::product(lot.quantity, i64::from(lot.premium));
     Gain {
         quantity: lot.quantity.negated(),
-        worth,
+        worth: WorthChange::of(lot.quantity, lot.premium),
     }
 }
 
@@ -90,9 +90,8 @@ fn lot_gain(quantity: LotQuantity, premium: Premium) -> Gain
     ensures gain { result ≡ gain quantity (neg_ℤ (quantity *ℤ pos premium)) }
     ensures limits { IsGain result }
 {
-    let worth = Cents::product(quantity.quantity(), i64::from(premium.cents())).negated();
     Gain {
         quantity: quantity.quantity(),
-        worth,
+        worth: WorthChange::of(quantity.quantity(), premium.cents()).negated(),
     }
 }

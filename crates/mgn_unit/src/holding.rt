@@ -10,6 +10,7 @@ ghost use Rattle.mgn_unit.specs.Laws.{FillAtLimitKeeps};
 use crate::account::Account;
 use crate::change::{Change, Gain};
 use crate::row::{PortfolioRow, Priced, Row};
+use crate::worth_change::WorthChange;
 use mgn_holds::Held;
 use mgn_ids::{LotId, LotQuantity, OrderId, Premium};
 use mgn_lots::Lot;
@@ -88,7 +89,7 @@ impl Account {
 // Nothing gained.
 const NOTHING: Gain = Gain {
     quantity: Quantity::ZERO,
-    worth: Cents::ZERO,
+    worth: WorthChange::ZERO,
 };
 
 impl Change {
@@ -100,7 +101,7 @@ impl Change {
         let quantity = quantity.quantity();
         let own = Gain {
             quantity,
-            worth: cost(quantity, limit.cents()).negated(),
+            worth: WorthChange::of(quantity, limit.cents()).negated(),
         };
         held_change(contract, size(quantity), is_buy(quantity), &NOTHING, &own)
     }
@@ -114,7 +115,7 @@ impl Change {
         let quantity = held.quantity;
         let own = Gain {
             quantity: quantity.negated(),
-            worth: cost(quantity, held.limit),
+            worth: WorthChange::of(quantity, held.limit),
         };
         held_change(
             contract,
@@ -132,14 +133,14 @@ impl Change {
         ensures limits { (set : Tables) → contract < length set.contracts → IsChange set result }
     {
         let quantity = quantity.quantity();
-        let paid = cost(quantity, premium.cents()).negated();
+        let paid = WorthChange::of(quantity, premium.cents()).negated();
         let apart = Gain {
             quantity,
             worth: paid,
         };
         let own = Gain {
             quantity: Quantity::ZERO,
-            worth: paid.plus(cost(quantity, limit)),
+            worth: paid.plus(WorthChange::of(quantity, limit)),
         };
         held_change(contract, Quantity::ZERO, is_buy(quantity), &apart, &own)
     }
@@ -158,16 +159,6 @@ fn size(quantity: Quantity) -> Quantity
     ensures { result ≡ pos (unsigned_abs quantity) }
 {
     Quantity::new(quantity.size() as i64)
-}
-
-// What a quantity costs, in cents.
-fn cost(quantity: Quantity, each: u32) -> Cents
-    requires quantity { unsigned_abs quantity ≤ 10 ^ 6 }
-    requires each { each ≤ 10 ^ 8 }
-    ensures cost { result ≡ quantity *ℤ pos each }
-    ensures small { unsigned_abs result ≤ 10 ^ 14 }
-{
-    Cents::product(quantity, i64::from(each))
 }
 
 // One gain for the two portfolios that count what is held on a side, another for the two that do not.
@@ -236,7 +227,7 @@ impl PortfolioRow {
         requires priced { PricesPortfolio set.now contract gain.now self.now requirement }
         ensures { result ≡ portfolio_room (portfolio_with set.now contract gain.now self.now) }
     {
-        self.worth.plus(gain.worth).minus(requirement)
+        self.worth.plus(gain.worth.cents()).minus(requirement)
     }
 }
 

@@ -11,6 +11,7 @@ mod prepared_units;
 mod row;
 mod rows;
 mod transfer;
+mod worth_change;
 
 pub use account::Account;
 pub use change::{Change, Gain};
@@ -20,3 +21,4 @@ pub use prepared::{CopiedNets, KeptNets};
 pub use prepared_units::PreparedUnits;
 pub use row::{PortfolioRow, PreparedPortfolio, PreparedUnit, Priced, Row};
 pub use transfer::add_both;
+pub use worth_change::WorthChange;

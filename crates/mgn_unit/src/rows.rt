@@ -89,7 +89,7 @@ impl PortfolioRow {
         ensures { self.new ≡ portfolio_with set.now contract gain.now self.old }
     {
         self.nets.add(contract, gain.quantity);
-        self.worth = self.worth.plus(gain.worth);
+        self.worth = self.worth.plus(gain.worth.cents());
         self.requirement = requirement;
     }
 

@@ -10,6 +10,7 @@ ghost use Rattle.mgn_unit.specs.Rows.{IsChange, IsGain, IsRow, lacks_room, row_w
 use crate::account::Account;
 use crate::change::{Change, Gain};
 use crate::row::Row;
+use crate::worth_change::WorthChange;
 use mgn_lots::Lot;
 use mgn_num::{Cents, Quantity};
 use mgn_params::ParamSet;
@@ -62,7 +63,7 @@ fn moved_gain(quantity: Quantity) -> Gain
 {
     Gain {
         quantity,
-        worth: Cents::ZERO,
+        worth: WorthChange::ZERO,
     }
 }
 

@@ -1,4 +1,4 @@
-ghost use Rattle.std.specs.Prelude.{◌≡◌, ◌≤◌, ◌+◌, ◌++◌, [], OnOk, OnErr, IsOk, codes, length, take, vec_capacity};
+ghost use Rattle.std.specs.Prelude.{◌≡◌, ◌≤◌, ◌+◌, ◌++◌, [], ◌∷◌, OnOk, OnErr, IsOk, codes, length, take, vec_capacity};
 ghost use Rattle.mgn_wire.specs.Fields.{field, figures_text, number_text};
 ghost use Rattle.mgn_wire.specs.Room.{FitsIn};
 ghost use Rattle.mgn_wire.specs.Text.{fault_text, line_reply_of, lines_after, place_text, refusal_text, reply_of, set_text, text_of, totals_text};
@@ -74,13 +74,26 @@ pub(crate) fn print(text: &str, out: &mut Vec<u8>) -> Result<(), AllocError>
     out.extend_from_slice(text.as_bytes())
 }
 
+// A single byte costs less this way than as a text.
+#[inline]
+fn print_byte(byte: u8, out: &mut Vec<u8>) -> Result<(), AllocError>
+    ensures ok { OnOk result (out.new.items ≡ out.old.items ++ byte ∷ []) }
+    ensures kept { take (length out.old.items) out.new.items ≡ out.old.items }
+    ensures room { FitsIn 1 out.old out.new result }
+{
+    match out.push(byte) {
+        Ok(()) => Ok(()),
+        Err(_) => Err(AllocError),
+    }
+}
+
 #[tactic(auto, using(crate::proofs::RoomFacts::decimal_short))]
 pub(crate) fn print_number(number: u64, out: &mut Vec<u8>) -> Result<(), AllocError>
     ensures ok { OnOk result (out.new.items ≡ out.old.items ++ number_text number) }
     ensures kept { take (length out.old.items) out.new.items ≡ out.old.items }
     ensures room { FitsIn 21 out.old out.new result }
 {
-    print(" ", out)?;
+    print_byte(b' ', out)?;
     print(Buffer::new().format(number), out)
 }
 
@@ -100,7 +113,7 @@ pub(crate) fn print_field(cents: Cents, out: &mut Vec<u8>) -> Result<(), AllocEr
     ensures kept { take (length out.old.items) out.new.items ≡ out.old.items }
     ensures room { FitsIn 39 out.old out.new result }
 {
-    print(" ", out)?;
+    print_byte(b' ', out)?;
     cents.print(out)
 }
 
@@ -154,7 +167,7 @@ fn print_refused(refusal: Refusal, place: Option<u64>, out: &mut Vec<u8>) -> Res
 {
     print("ERR", out)?;
     print_place(place, out)?;
-    print(" ", out)?;
+    print_byte(b' ', out)?;
     print(refusal_text(refusal), out)
 }
 
@@ -227,7 +240,7 @@ fn print_line(reply: &LineReply, out: &mut Vec<u8>) -> Result<(), AllocError>
     ensures room { lines_after reply.now ≡ [] → FitsIn 219 out.old out.new result }
 {
     print_reply(reply, out)?;
-    print("\n", out)?;
+    print_byte(b'\n', out)?;
     print_lines_after(reply, out)
 }
 

@@ -1,11 +1,6 @@
-use Rattle.std.proofs.Common.{◌==◌, rules, tests}
-use Rattle.std.proofs.lemmas.Iterator.Search.{all_from_yields_List}
-use Rattle.std.proofs.lemmas.Iterator.Splits.{YieldsList-from_slice_split}
-use Rattle.mgn_setfile.specs.Plain.{is_plain_line}
+use Rattle.std.proofs.Common.{sym, ◌∙◌}
+use Rattle.mgn_setfile.proofs.BareLemmas.{bare_is_plain}
 use Rattle.mgn_setfile.proofs.plain.is_plain.Goals as goal
 
-pub returns : goal.returns
-returns c =
-    all_from_yields_List is_plain_line _ _ c.all.result c.all.ensures.ran
-    (YieldsList-from_slice_split _ (λ b. b == 10) c.args.text.now c.split.ensures.rest c.split.ensures.done c.split.ensures.closure (λ x r q k. search (rules, tests)))
-    (λ x r q k. search (rules, tests))
+pub returns-then-is_bare_text : goal.returns-then-is_bare_text
+returns-then-is_bare_text c = c.is_bare_text.ensures ∙ sym c.if-is_bare_text.ensures ∙ sym (bare_is_plain c.args.text.now (sym c.if-is_bare_text.ensures))

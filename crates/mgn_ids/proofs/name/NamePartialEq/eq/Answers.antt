@@ -16,4 +16,4 @@ returns-then-self-other c =
     let same : Decides (bytes_eq a.bytes b.bytes) (take a.len a.bytes ≡ take b.len b.bytes) =
     Decides-like (bytes_eq a.bytes b.bytes) (λ e j. take (c.if-self-other.true j) (e j)) rows (bytes_eq-Decides a.bytes b.bytes) in
     let names = same_from_decides (bytes_eq a.bytes b.bytes) (bytes_eq (take a.len a.bytes) (take b.len b.bytes)) same (bytes_eq-Decides (take a.len a.bytes) (take b.len b.bytes)) in
-    c.eq.ensures ∙ names ∙ (λ j. bytes_eq (c.self.view_is j) (c.other.view_is j))
+    c.are_same.ensures ∙ names ∙ (λ j. bytes_eq (c.self.view_is j) (c.other.view_is j))

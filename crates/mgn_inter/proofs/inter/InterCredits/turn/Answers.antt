@@ -9,16 +9,8 @@ use Rattle.mgn_inter.proofs.TurnLemmas.{turn_passed, waiting_next}
 use Rattle.mgn_inter.proofs.inter.InterCredits.turn.Goals as goal
 use Rattle.mgn_inter.proofs.inter.InterCredits.turn.Goals.{After-tell}
 
-pub returns-then-is_reached-clause-turn : goal.returns-then-is_reached-clause-turn
-returns-then-is_reached-clause-turn c = λ was at. c.rework-is_told.ensures.turn c.args.g was at
-
-pub returns-else-is_reached-clause-turn : goal.returns-else-is_reached-clause-turn
-returns-else-is_reached-clause-turn c =
-    λ was at.
-    let set' = c.args.set.now in
-    let spread = c.spread_at-spread.ensures ∙ ap (λ (ss : List CreditSpread). credit_spread_at ss c.args.i) c.credits.ensures in
-    let none : reached c.args.moved.now c.args.g (legs_of (credit_spread_at set'.credits c.args.i)) ≡ false = rw spread at (sym c.is_reached.ensures ∙ c.if-is_reached.false) in
-    turn_passed set' c.args.g was c.args.moved.now c.args.i c.args.self.now at c.requires.inside none
+pub returns-clause-turn : goal.returns-clause-turn
+returns-clause-turn c = λ was at. c.rework-is_told.ensures.turn c.args.g was at
 
 pub await_moved-requires-clause-naming : goal.await_moved-requires-clause-naming
 await_moved-requires-clause-naming c =
@@ -32,26 +24,23 @@ spread_is : (c : After-tell) → c.spread_at-spread.result.now ≡ credit_spread
 spread_is c =
     c.spread_at-spread.ensures ∙ ap (λ (ss : List CreditSpread). credit_spread_at ss c.args.i) c.credits.ensures
 
-pub returns-then-is_reached-clause-waiting : goal.returns-then-is_reached-clause-waiting
-returns-then-is_reached-clause-waiting c =
+pub returns-clause-waiting : goal.returns-clause-waiting
+returns-clause-waiting c =
     let set' = c.args.set.now in
     let after = c.rework-is_told.ensures.turn c.args.g c.requires.turn.0 c.requires.turn.1 in
     let naming = ap (λ (r : Credited). r.naming) c.self.view_is in
     let moved = rw (spread_is c, c.deref.ensures.value, naming) at c.await_moved.ensures.moved in
     waiting_next set'.credits c.args.g c.args.i c.rework-is_told.new.self.naming c.args.moved.now c.rework-is_told.new.moved c.args.waiting.now c.await_moved.new.waiting after.naming c.requires.waiting c.await_moved.ensures.kept moved c.rework-is_told.ensures.marks
 
-pub returns-then-is_reached-clause-places : goal.returns-then-is_reached-clause-places
-returns-then-is_reached-clause-places c =
+pub returns-clause-places : goal.returns-clause-places
+returns-clause-places c =
     told_next c.rework-is_told.result c.args.reworked.now c.tell.new.self c.args.i c.tell.ensures
 
-pub returns-then-is_reached-clause-others : goal.returns-then-is_reached-clause-others
-returns-then-is_reached-clause-others c =
+pub returns-clause-others : goal.returns-clause-others
+returns-clause-others c =
     λ k out.
     ⊎_elim
     (λ (told : c.rework-is_told.result ≡ true).
     c.rework-is_told.ensures.others k (told_out k c.args.set.now.credits c.args.reworked.now c.tell.new.self c.args.i (rw told at c.tell.ensures) out))
     (λ (silent : c.rework-is_told.result ≡ false). c.rework-is_told.ensures.same silent k)
     (cases_Bool c.rework-is_told.result)
-
-pub returns-else-is_reached-clause-told : goal.returns-else-is_reached-clause-told
-returns-else-is_reached-clause-told c = told_not c.args.self.now.kept c.args.i c.args.reworked.now
