@@ -5,7 +5,8 @@ replies. Else some lines are answered `ERR 90 MEMORY`, and all others as by the 
 with `spand: memory` and a front of what it tells, or tells all.
 
 The sessions are the stored run and some of tests/examples.txt, which between them have every command. How many allocations were
-refused is told for each, and must not fall below a floor, so that none of this becomes empty. A program of one seat of a service
+refused is told for each, and must not fall below a floor, some four fifths of what a run tells, so that none of this becomes empty
+and a program that asks for less memory still passes. A program of one seat of a service
 answers those that come to switch once more by one worker, and by three, who allocate in any order.
 It needs a C compiler, `cc`, and an allocator of the C library that can be stood before.
 Usage: tests/memory.py [PROGRAM], by default the program that `rt run` or `rt ci` leaves; it has no command `check` where it is a
@@ -27,15 +28,15 @@ SWITCHING = ("a set without a lot's contract is refused, and one without an orde
 MEMORY = b"ERR 90 MEMORY\n"
 # The title of a session, and the floor of how many allocations were refused in it.
 SESSIONS = {
-    "the statement of two lots that spread: scan 60, a spread of two at 40": 210,
-    "the statement of an order and of collateral: bills at 9,950 less 3 in 100": 225,
-    "fills keep to the limit of their order": 198,
-    "each portfolio is asked for room": 193,
-    "a transfer between two units, where both have room": 261,
-    "a set without a lot's contract is refused, and one without an order's": 402,
-    "drawing classes": 200,
-    "totals of origins side by side": 327,
-    "the session of two sets in docs/PROTOCOL.md": 405,
+    "the statement of two lots that spread: scan 60, a spread of two at 40": 180,
+    "the statement of an order and of collateral: bills at 9,950 less 3 in 100": 190,
+    "fills keep to the limit of their order": 170,
+    "each portfolio is asked for room": 170,
+    "a transfer between two units, where both have room": 240,
+    "a set without a lot's contract is refused, and one without an order's": 380,
+    "drawing classes": 175,
+    "totals of origins side by side": 300,
+    "the session of two sets in docs/PROTOCOL.md": 300,
 }
 
 
@@ -114,8 +115,10 @@ class Refusing:
                 print(f"FAILED: {title}: allocation {nth}: status {ran.returncode}, {ran.stderr[:200]}, {ran.stdout[-200:]}")
         tried = nth - IN_A_ROW
         self.tried += tried
-        self.failed += tried < floor
-        print(f"{tried:4} allocations refused{'' if tried >= floor else f', FEWER than {floor}'}: {title}", flush=True)
+        print(f"{tried:4} allocations refused: {title}", flush=True)
+        if tried < floor:
+            self.failed += 1
+            print(f"FAILED: {title}: no more than {tried} allocations refused, and {floor} is the least", flush=True)
 
     def session(self, title, floor, folder, name, lines):
         given = b"".join(lines)
@@ -142,7 +145,7 @@ def main(words):
     program = os.path.abspath(words[0] if words else f"{STORED}/out/spand")
     with tempfile.TemporaryDirectory() as room, open(f"{STORED}/stdin", "rb") as stored:
         refusing = Refusing(program, room)
-        refusing.session("the stored run", 343, f"{STORED}/data", "FUT", stored.readlines())
+        refusing.session("the stored run", 275, f"{STORED}/data", "FUT", stored.readlines())
         known = examples()
         for title, floor in SESSIONS.items():
             refusing.session(title, floor, room, *known[title])
