@@ -73,19 +73,20 @@ impl<'a, T: Image, J: TableName + SlotNames> Ledger<'a, T, J> {
     }
 
     // Notes of which units it is known that they have the nets that they were prepared for: those whose nets, and the set in force,
-    // have not changed since. Two numbers are compared for each.
+    // have not changed since. Two numbers are compared for each. Tells how many units a switch then has to work out itself.
     pub(crate) fn note_current(
         &self,
         set: &ParamSet,
         prepared: &mut PreparedUnits,
         since: &[Stamp<'a, T, J>],
-    )
+    ) -> u64
         requires { AreReady T.shown set.now prepared.old.units.items since.now }
         ensures units { prepared.new.units.items ≡ prepared.old.units.items }
         ensures current { AreCurrent (set_of self.now) set.now self.now.book.book.rows
             prepared.new.units.items prepared.new.current.items }
     {
         self.note(&mut prepared.current, since);
+        self.late_units(set, prepared)
     }
 
     // Notes of each unit whether it has its nets since the entry that its stamp shows.
@@ -109,7 +110,7 @@ impl<'a, T: Image, J: TableName + SlotNames> Ledger<'a, T, J> {
     }
 
     // How many units a switch has to work out itself.
-    pub(crate) fn late_units(&self, set: &ParamSet, prepared: &PreparedUnits) -> u64 {
+    fn late_units(&self, set: &ParamSet, prepared: &PreparedUnits) -> u64 {
         (0..self.rows().len())
             .filter(|unit| self.is_late(*unit, set, prepared))
             .count() as u64

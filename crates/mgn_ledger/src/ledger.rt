@@ -1,5 +1,6 @@
-ghost use Rattle.std.specs.Prelude.{ℕ, ◌≡◌, ◌+◌, ◌<◌, length, IsTrue, IfOk, IfSome};
+ghost use Rattle.std.specs.Prelude.{ℕ, ◌≡◌, ◌+◌, ◌<◌, false, true, length, None, IsTrue, IfOk, IfSome};
 ghost use Rattle.mgn_machine.specs.Refusals.{place_of};
+ghost use Rattle.mgn_machine.specs.declared.reply.Reply.TheVariants.{Refused};
 ghost use Rattle.mgn_machine.specs.declared.request.Request.TheVariants.{Do, Switch};
 ghost use Rattle.mgn_unit.specs.NewSets.{ArePrepared};
 ghost use Rattle.mgn_plan.specs.Plans.{Foresees, IsPossible, plan_of};
@@ -8,7 +9,7 @@ ghost use Rattle.mgn_book.specs.BookViews.{Stands, opening};
 ghost use Rattle.mgn_ledger.specs.Changes.{SameUnit};
 ghost use Rattle.mgn_ledger.specs.Days.{set_of, version_of};
 ghost use Rattle.mgn_ledger.specs.Gathering.{AreReady};
-ghost use Rattle.mgn_ledger.specs.Ledgers.{Answers, Enters};
+ghost use Rattle.mgn_ledger.specs.Ledgers.{Answers, Enters, IsUnplaced};
 ghost use Rattle.mgn_ledger.specs.Passes.{AreAudited, IsBeside, fresh};
 
 use crate::entered::{AuditFault, Entered};
@@ -237,19 +238,9 @@ impl<'a, T: Image, J: TableName + SlotNames> Ledger<'a, T, J> {
         requires known { Foresees (set_of self.old) self.old.book.book.rows plan.now known.now }
         ensures { Enters T.shown self.old pass.old command.now plan.now result pass.new }
     {
-        if self.broken {
-            return Entered::Unplaced(Refusal::Broken);
-        }
-        if !self.matches(pass) {
-            self.broken = true;
-            return Entered::Unplaced(Refusal::Broken);
-        }
-        if self.stamps.is_full() {
-            return Entered::Unplaced(Refusal::Full);
-        }
-        if self.stamps.taken().is_some() {
-            self.broken = true;
-            return Entered::Unplaced(Refusal::Broken);
+        let fits = self.matches(pass);
+        if let Some(why) = closed(&mut self.broken, &self.stamps, fits) {
+            return Entered::Unplaced(why);
         }
         let number = self.book.calls(pass.session) + 1;
         let place = self.stamps.len() + 1;
@@ -302,22 +293,11 @@ impl<'a, T: Image, J: TableName + SlotNames> Ledger<'a, T, J> {
         requires ready { AreReady T.shown set prepared.old.units.items since.now }
         ensures { Answers pass.old (Switch set) result pass.new }
     {
-        if self.broken {
-            return Answer::refused(Refusal::Broken);
+        let fits = self.matches(pass);
+        if let Some(why) = closed(&mut self.broken, &self.stamps, fits) {
+            return Answer::refused(why);
         }
-        if !self.matches(pass) {
-            self.broken = true;
-            return Answer::refused(Refusal::Broken);
-        }
-        if self.stamps.is_full() {
-            return Answer::refused(Refusal::Full);
-        }
-        if self.stamps.taken().is_some() {
-            self.broken = true;
-            return Answer::refused(Refusal::Broken);
-        }
-        self.note_current(&set, prepared, since);
-        let late = self.late_units(&set, prepared);
+        let late = self.note_current(&set, prepared, since);
         let number = self.book.calls(pass.session) + 1;
         let place = self.stamps.len() + 1;
         let mut shelf = TableShelf::new(rt, self.table, &mut self.tokens);
@@ -400,6 +380,37 @@ impl<'a, T: Image, J: TableName + SlotNames> Ledger<'a, T, J> {
         }
         lowest
     }
+}
+
+// Why a pass's next call gets no place, if so: the ledger is broken, or is from now on since the pass does not fit it or the next
+// slot has a value already; or the history is full.
+fn closed<'a, T: Image, J: SlotNames>(
+    broken: &mut bool,
+    stamps: &Stamps<'a, T, J>,
+    fits: bool,
+) -> Option<Refusal>
+    ensures sound { result ≡ None → broken.old ≡ false }
+    ensures still { result ≡ None → broken.new ≡ false }
+    ensures fits { result ≡ None → fits ≡ true }
+    ensures room { result ≡ None → length stamps.now < length J.slots }
+    ensures broken { broken.new ≡ false → broken.old ≡ false }
+    ensures unplaced { IfSome result (λ why. IsUnplaced (Refused why)) }
+{
+    if *broken {
+        return Some(Refusal::Broken);
+    }
+    if !fits {
+        *broken = true;
+        return Some(Refusal::Broken);
+    }
+    if stamps.is_full() {
+        return Some(Refusal::Full);
+    }
+    if stamps.taken().is_some() {
+        *broken = true;
+        return Some(Refusal::Broken);
+    }
+    None
 }
 
 // How many units a plan has.

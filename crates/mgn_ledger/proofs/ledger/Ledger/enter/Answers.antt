@@ -13,22 +13,19 @@ use Rattle.mgn_ledger.proofs.PlaceFacts.{rows-longer, settled-there}
 use Rattle.mgn_ledger.proofs.Seen.{called, is_pass}
 use Rattle.mgn_ledger.proofs.ledger.Ledger.enter.Goals as goal
 
-pub taken-requires : goal.taken-requires
-taken-requires g c = c.is_full.ensures.room c.if-is_full.false
-
 pub set_next-requires : goal.set_next-requires
-set_next-requires g c = c.is_full.ensures.room c.if-is_full.false
+set_next-requires g c = c.if-closed.ensures.room (search rules)
 
 pub renew-requires-clause-grown : goal.renew-requires-clause-grown
 renew-requires-clause-grown g c =
-    let are = c.self.invariant.2.places_are c.if-self.false in
+    let are = c.self.invariant.2.places_are (c.if-closed.ensures.sound (search rules)) in
     omega (arith, are.long, rows-longer _ _ _ _ _ c.in-Done.ensures.nets, ap length c.rows.ensures)
 
 pub renew-requires-clause-there : goal.renew-requires-clause-there
 renew-requires-clause-there g c =
     let l = c.self.inside in
     let day : Day = record { sets = l.tokens; book = l.book } in
-    let are = c.self.invariant.2.places_are c.if-self.false in
+    let are = c.self.invariant.2.places_are (c.if-closed.ensures.sound (search rules)) in
     let possible : IsPossible (set_of day) day.book.book.rows c.args.plan.now = subst (λ (d : Day). IsPossible (set_of d) d.book.book.rows c.args.plan.now) (sym c.self.view_is) c.requires.possible in
     subst (λ (p : Plan). AreThere p (length l.places.items)) (sym c.settled-done.ensures) (settled-there (set_of day) day.book.book.rows c.args.plan.now c.in-Done.reply (length l.places.items) possible are.long)
 
@@ -102,7 +99,7 @@ returns-in-Ok g c =
     subst (λ (p : Plan). LeavesNets (set_at now l.book.book.state.version) p reply l.book.book.rows book.book.rows) (sym planned) c.in-Done.ensures.nets in
     let shows = ap (λ p. g.T.Image.shown p.1) c.in-Ok.ensures.stamped ∙ c.of.ensures in (
       called c.args.pass.now old new (g.T.Image.shown c.again.result.1) session number (Do command) place reply
-          (rw c.self.view_is (c.if-not-matches.ensures (search rules)))
+          (rw c.self.view_is (c.matches-fits.ensures (search rules)))
           (ap (λ p. p.session) c.pass.view_is)
           on
           (ap (λ p. g.T.Image.shown p.1) c.again.ensures ∙ shows),

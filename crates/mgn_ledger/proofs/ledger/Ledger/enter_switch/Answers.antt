@@ -25,11 +25,8 @@ commit_switch-outcome-requires-clause-current g c =
     (sym c.new-shelf.ensures.sets)
     (subst (λ (day : Day). AreCurrent (set_of day) c.args.set day.book.book.rows prepared.units.items prepared.current.items) (sym c.self.view_is) c.note_current.ensures.current)
 
-pub taken-requires : goal.taken-requires
-taken-requires g c = c.is_full.ensures.room c.if-is_full.false
-
 pub set_next-requires : goal.set_next-requires
-set_next-requires g c = c.is_full.ensures.room c.if-is_full.false
+set_next-requires g c = c.if-closed.ensures.room (search rules)
 
 pub invariant_of-self-in-Ok : goal.invariant_of-self-in-Ok
 invariant_of-self-in-Ok g c =
@@ -109,7 +106,7 @@ returns-in-Ok g c =
     let put : now ≡ sets_after l.tokens (Switch c.args.set) reply = c.in-Done.ensures.sets ∙ ap (λ (x : List Tables). sets_after x (Switch c.args.set) reply) c.new-shelf.ensures.sets in
     let on = goes_on l.tokens now l.book book session number (Switch c.args.set) place reply c.self.invariant.2.stands c.in-Done.ensures.committed put c.in-Done.ensures.stands in
     called c.args.pass.now old new (g.T.Image.shown c.in-Ok.stamp.1) session number (Switch c.args.set) place reply
-    (rw c.self.view_is (c.if-not-matches.ensures (search rules)))
+    (rw c.self.view_is (c.matches-fits.ensures (search rules)))
     (ap (λ p. p.session) c.pass.view_is)
     on
     (ap (λ p. g.T.Image.shown p.1) c.in-Ok.ensures.stamped ∙ c.of.ensures)
