@@ -1,4 +1,4 @@
-use Rattle.std.proofs.Common.{arith, ◌≡◌, ◌+◌, ◌∙◌, ℕ, List, length, sym, ap, subst, rules}
+use Rattle.std.proofs.Common.{arith, Bool, ◌≡◌, ◌+◌, ◌∙◌, ℕ, List, length, sym, ap, subst, rules}
 use Rattle.std.specs.Prelude.{vec_capacity}
 use Rattle.mgn_params.specs.Shelves.{set_at}
 use Rattle.mgn_params.specs.Tables.{Tables}
@@ -8,24 +8,25 @@ use Rattle.mgn_plan.specs.declared.plans.Plan.{Plan}
 use Rattle.mgn_plan.specs.Plans.{IsPossible, LeavesNets, plan_of}
 use Rattle.mgn_ledger.specs.Changes.{AreRenewed, AreThere, Leads, settled}
 use Rattle.mgn_ledger.specs.Days.{Day, set_of}
+use Rattle.mgn_ledger.specs.Ledgers.{IsLedger}
 use Rattle.mgn_ledger.proofs.Entries.{goes_on, leads, ledger-push}
 use Rattle.mgn_ledger.proofs.PlaceFacts.{rows-longer, settled-there}
 use Rattle.mgn_ledger.proofs.Seen.{called, is_pass}
 use Rattle.mgn_ledger.proofs.ledger.Ledger.enter.Goals as goal
 
 pub set_next-requires : goal.set_next-requires
-set_next-requires g c = c.if-closed.ensures.room (search rules)
+set_next-requires g c = c.closed.ensures.room (search rules)
 
 pub renew-requires-clause-grown : goal.renew-requires-clause-grown
 renew-requires-clause-grown g c =
-    let are = c.self.invariant.2.places_are (c.if-closed.ensures.sound (search rules)) in
+    let are = c.self.invariant.2.places_are (c.closed.ensures.sound (search rules)) in
     omega (arith, are.long, rows-longer _ _ _ _ _ c.in-Done.ensures.nets, ap length c.rows.ensures)
 
 pub renew-requires-clause-there : goal.renew-requires-clause-there
 renew-requires-clause-there g c =
     let l = c.self.inside in
     let day : Day = record { sets = l.tokens; book = l.book } in
-    let are = c.self.invariant.2.places_are (c.if-closed.ensures.sound (search rules)) in
+    let are = c.self.invariant.2.places_are (c.closed.ensures.sound (search rules)) in
     let possible : IsPossible (set_of day) day.book.book.rows c.args.plan.now = subst (λ (d : Day). IsPossible (set_of d) d.book.book.rows c.args.plan.now) (sym c.self.view_is) c.requires.possible in
     subst (λ (p : Plan). AreThere p (length l.places.items)) (sym c.settled-done.ensures) (settled-there (set_of day) day.book.book.rows c.args.plan.now c.in-Done.reply (length l.places.items) possible are.long)
 
@@ -54,11 +55,13 @@ invariant_of-self-in-Ok g c =
     subst (λ (p : Plan). AreRenewed p (length book.book.rows) (length l.stamps + 1) was is) c.settled-done.ensures
     (subst (λ (k : ℕ). AreRenewed c.settled-done.result (length book.book.rows) (k + 1) was is) c.len-place.ensures
     (subst (λ (r : List Row). AreRenewed c.settled-done.result (length r) (c.len-place.result + 1) was is) c.rows.ensures c.renew.ensures.renewed)) in
-    let to = leads g.T.Image.shown c.of.result l.tokens now l.book book session number command place plan reply c.new-shelf.ensures.sets c.in-Done.ensures.committed rows c.of.ensures in (
+    let to = leads g.T.Image.shown c.of.result l.tokens now l.book book session number command place plan reply c.new-shelf.ensures.sets c.in-Done.ensures.committed rows c.of.ensures in
+    let still = c.closed.ensures.sound (search rules) ∙ sym (c.closed.ensures.still (search rules)) in
+    let ledger = subst (λ (b : Bool). IsLedger g.T.Image.shown l.stamps was (vec_capacity l.places) b old) still c.self.invariant.2 in (
       c.self.invariant.0,
       c.self.invariant.1,
-      ledger-push g.T.Image.shown l.stamps c.set_next.new.self c.of.result was is (vec_capacity l.places) (vec_capacity c.renew.new.places) l.broken old new session number command place plan reply
-          c.self.invariant.2 on c.in-Ok.ensures.pushed c.of.ensures c.renew.ensures.room renewed to,
+      ledger-push g.T.Image.shown l.stamps c.set_next.new.self c.of.result was is (vec_capacity l.places) (vec_capacity c.renew.new.places) c.closed.new.broken old new session number command place plan reply
+          ledger on c.in-Ok.ensures.pushed c.of.ensures c.renew.ensures.room renewed to,
     )
 
 pub invariant_of-pass : goal.invariant_of-pass

@@ -1,4 +1,4 @@
-use Rattle.std.proofs.Common.{arith, ◌≡◌, ◌+◌, ◌∙◌, ℕ, List, length, ap, subst, sym, rules, true≢false}
+use Rattle.std.proofs.Common.{arith, Bool, ◌≡◌, ◌+◌, ◌∙◌, ℕ, List, length, ap, subst, sym, rules, true≢false}
 use Rattle.std.specs.Prelude.{Option, vec_capacity}
 use Rattle.mgn_params.specs.Shelves.{set_at}
 use Rattle.mgn_params.specs.Tables.{Tables}
@@ -8,25 +8,26 @@ use Rattle.mgn_unit.specs.Prepared.{AreCurrent}
 use Rattle.mgn_unit.specs.declared.row.PreparedUnit.{PreparedUnit}
 use Rattle.mgn_book.specs.BookViews.{sets_after}
 use Rattle.mgn_ledger.specs.Changes.{AreSwitched}
-use Rattle.mgn_ledger.specs.Days.{Day, set_of}
+use Rattle.mgn_ledger.specs.Days.{Day}
+use Rattle.mgn_ledger.specs.Ledgers.{IsLedger}
 use Rattle.mgn_ledger.proofs.Entries.{goes_on, ledger-switched}
 use Rattle.mgn_ledger.proofs.Seen.{called, is_pass}
 use Rattle.mgn_ledger.proofs.ledger.Ledger.enter_switch.Goals as goal
 
 pub commit_switch-outcome-requires-clause-prepared : goal.commit_switch-outcome-requires-clause-prepared
 commit_switch-outcome-requires-clause-prepared g c =
-    subst (λ (units : List (Option PreparedUnit)). ArePrepared c.args.set units) (sym c.note_current.ensures.units) c.requires.prepared
+    subst (λ (units : List (Option PreparedUnit)). ArePrepared c.args.set units) (sym c.note_current-late.ensures.units) c.requires.prepared
 
 pub commit_switch-outcome-requires-clause-current : goal.commit_switch-outcome-requires-clause-current
 commit_switch-outcome-requires-clause-current g c =
     let book = c.self.inside.book in
-    let prepared = c.note_current.new.prepared in
+    let prepared = c.note_current-late.new.prepared in
     subst (λ (sets : List Tables). AreCurrent (set_at sets book.book.state.version) c.args.set book.book.rows prepared.units.items prepared.current.items)
     (sym c.new-shelf.ensures.sets)
-    (subst (λ (day : Day). AreCurrent (set_of day) c.args.set day.book.book.rows prepared.units.items prepared.current.items) (sym c.self.view_is) c.note_current.ensures.current)
+    c.note_current-late.ensures.current
 
 pub set_next-requires : goal.set_next-requires
-set_next-requires g c = c.if-closed.ensures.room (search rules)
+set_next-requires g c = c.closed.ensures.room (search rules)
 
 pub invariant_of-self-in-Ok : goal.invariant_of-self-in-Ok
 invariant_of-self-in-Ok g c =
@@ -42,11 +43,13 @@ invariant_of-self-in-Ok g c =
     let put : now ≡ sets_after l.tokens (Switch c.args.set) reply = c.in-Done.ensures.sets ∙ ap (λ (x : List Tables). sets_after x (Switch c.args.set) reply) c.new-shelf.ensures.sets in
     let on = goes_on l.tokens now l.book book session number (Switch c.args.set) place reply c.self.invariant.2.stands c.in-Done.ensures.committed put c.in-Done.ensures.stands in
     let filled : AreSwitched reply (length l.stamps + 1) l.places.items c.switch.new.places.items =
-    subst (λ (k : ℕ). AreSwitched reply (k + 1) l.places.items c.switch.new.places.items) c.len-place.ensures c.switch.ensures.switched in (
+    subst (λ (k : ℕ). AreSwitched reply (k + 1) l.places.items c.switch.new.places.items) c.len-place.ensures c.switch.ensures.switched in
+    let still = c.closed.ensures.sound (search rules) ∙ sym (c.closed.ensures.still (search rules)) in
+    let ledger = subst (λ (b : Bool). IsLedger g.T.Image.shown l.stamps l.places.items (vec_capacity l.places) b old) still c.self.invariant.2 in (
       c.self.invariant.0,
       c.self.invariant.1,
-      ledger-switched g.T.Image.shown l.stamps c.set_next.new.self c.of.result l.places.items c.switch.new.places.items (vec_capacity l.places) (vec_capacity c.switch.new.places) l.broken old new session number c.args.set place reply
-          c.self.invariant.2 on c.in-Ok.ensures.pushed c.of.ensures c.switch.ensures.room filled c.in-Done.ensures.committed c.in-Done.ensures.rows put,
+      ledger-switched g.T.Image.shown l.stamps c.set_next.new.self c.of.result l.places.items c.switch.new.places.items (vec_capacity l.places) (vec_capacity c.switch.new.places) c.closed.new.broken old new session number c.args.set place reply
+          ledger on c.in-Ok.ensures.pushed c.of.ensures c.switch.ensures.room filled c.in-Done.ensures.committed c.in-Done.ensures.rows put,
     )
 
 pub invariant_of-pass : goal.invariant_of-pass
