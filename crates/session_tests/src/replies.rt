@@ -3,6 +3,8 @@
 use mgn_machine::{Answer, Figures, NewSet, Refusal, Reply, Totals};
 use mgn_num::Cents;
 use mgn_wire::{LineFault, LineReply, reply_text};
+use std::alloc::Global;
+use std::process::Abort;
 
 fn figures(cents: [i64; 5]) -> Reply {
     let [
@@ -31,52 +33,58 @@ fn totals(cents: [i64; 3], accounts: u32) -> Reply {
     })
 }
 
+// Asserts the line that an answer is written as.
+fn assert_written(rt: &impl Abort, alloc: Global, place: Option<u64>, reply: Reply, text: &str) {
+    let mut out = Vec::new(alloc);
+    let reply = LineReply::Answered(Answer { place, reply });
+    assert!(rt; reply_text(&reply, &mut out).is_ok());
+    assert!(rt; out.as_slice() == text.as_bytes(), "for {text}");
+}
+
 #[test]
-fn writes_replies(rt: HostRuntime) {
-    let answers = [
-        (Some(4), Reply::Done, "OK 4\n"),
+fn writes_what_was_done(rt: HostRuntime) {
+    let replies = [
+        (4, Reply::Done, "OK 4\n"),
         (
-            Some(5),
+            5,
             figures([600, 600, 1000, 1000, 400]),
             "OK 5 600 600 1000 1000 400\n",
         ),
         (
-            Some(6),
+            6,
             figures([140, 140, 0, 0, -140]),
             "OK 6 140 140 0 0 -140\n",
         ),
-        (Some(7), totals([600, -50, 650], 2), "OK 7 600 -50 650 2\n"),
+        (7, totals([600, -50, 650], 2), "OK 7 600 -50 650 2\n"),
         (
-            Some(7),
+            7,
             Reply::NewSet(NewSet {
                 version: 64,
                 on_call: 3,
             }),
             "OK 7 64 3\n",
         ),
-        (
-            Some(8),
-            Reply::Refused(Refusal::Missing),
-            "ERR 8 42 MISSING\n",
-        ),
+    ];
+    for (place, reply, text) in replies {
+        assert_written(&rt, rt.alloc(), Some(place), reply, text);
+    }
+}
+
+#[test]
+fn writes_refusals(rt: HostRuntime) {
+    let refusals = [
+        (Some(8), Refusal::Missing, "ERR 8 42 MISSING\n"),
         (
             Some(1_000_000),
-            Reply::Refused(Refusal::NoAccount),
+            Refusal::NoAccount,
             "ERR 1000000 20 NOACCT\n",
         ),
-        (
-            Some(14),
-            Reply::Refused(Refusal::OtherOrigin),
-            "ERR 14 34 ORIGIN\n",
-        ),
-        (None, Reply::Refused(Refusal::Full), "ERR 91 FULL\n"),
-        (None, Reply::Refused(Refusal::Broken), "ERR 92 BROKEN\n"),
+        (Some(14), Refusal::OtherOrigin, "ERR 14 34 ORIGIN\n"),
+        (None, Refusal::Full, "ERR 91 FULL\n"),
+        (None, Refusal::Broken, "ERR 92 BROKEN\n"),
     ];
-    for (place, reply, text) in answers {
-        let mut out = Vec::new(rt.alloc());
-        let reply = LineReply::Answered(Answer { place, reply });
-        assert!(rt; reply_text(&reply, &mut out).is_ok());
-        assert!(rt; out.as_slice() == text.as_bytes(), "for {text}");
+    for (place, why, text) in refusals {
+        assert_written(&rt, rt.alloc(), place, Reply::Refused(why), text);
     }
 }
 
