@@ -6,6 +6,7 @@ mod commits;
 mod foreseen;
 mod gate;
 mod looks;
+mod marks;
 mod pairs;
 mod prepared;
 mod service;
