@@ -6,7 +6,6 @@ mod commits;
 mod foreseen;
 mod gate;
 mod looks;
-mod marks;
 mod pairs;
 mod prepared;
 mod service;

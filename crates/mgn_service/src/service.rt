@@ -2,15 +2,17 @@ ghost use Rattle.std.specs.Prelude.{ℕ, ◌≡◌, ◌<◌, ◌≤◌, List, If
 ghost use Rattle.mgn_params.specs.Tables.{Tables};
 ghost use Rattle.mgn_machine.specs.declared.entry.Entry.{Entry};
 ghost use Rattle.mgn_machine.specs.declared.request.Request.TheVariants.{Do, Switch};
+ghost use Rattle.mgn_unit.specs.NewSets.{ArePrepared};
+ghost use Rattle.mgn_ledger.specs.Gathering.{AreReady};
 ghost use Rattle.mgn_ledger.specs.Ledgers.{Answers};
 ghost use Rattle.mgn_ledger.specs.Passes.{AreAudited, fresh};
 ghost use Rattle.mgn_service.specs.Commits.{Begins, Tries};
 
 use crate::commits::{Decided, commit};
 use crate::foreseen::keep_order;
-use crate::gate::{Gate, Point, SessionGate};
+use crate::gate::{Gate, Point};
 use crate::looks::{Looked, look};
-use crate::marks::{Alone, Lent, Marks, Started};
+use crate::prepared::Prepared;
 use crate::sight::Sight;
 use crate::unit_desk::UnitDesk;
 use crate::units::{Units, keep_unit, known_unit, units_of};
@@ -163,13 +165,10 @@ impl<'a, T: Image, J: TableName + SlotNames> Service<'a, T, J> {
     ) -> Answer
         ensures { Answers pass.old (Switch set) result pass.new }
     {
-        let session = pass.session();
-        let started = Started {
-            rt,
-            workers: self.workers,
-            gate: SessionGate { gate, session },
+        let Ok(mut prepared) = self.prepare(rt, pass.session(), gate, &set) else {
+            return Answer::refused(Refusal::Memory);
         };
-        self.switch_with(rt, pass, gate, &started, set)
+        self.enter_switch(rt, pass, gate, set, &mut prepared)
     }
 
     /// The same, by workers that are lent.
@@ -184,9 +183,10 @@ impl<'a, T: Image, J: TableName + SlotNames> Service<'a, T, J> {
     ) -> Answer
         ensures { Answers pass.old (Switch set) result pass.new }
     {
-        let session = pass.session();
-        let lent = Lent { workers, session };
-        self.switch_with(rt, pass, gate, &lent, set)
+        let Ok(mut prepared) = self.prepare_by(rt, pass.session(), workers, &set) else {
+            return Answer::refused(Refusal::Memory);
+        };
+        self.enter_switch(rt, pass, gate, set, &mut prepared)
     }
 
     /// The same, where the caller works out alone what units require, with no thread started.
@@ -200,27 +200,25 @@ impl<'a, T: Image, J: TableName + SlotNames> Service<'a, T, J> {
     ) -> Answer
         ensures { Answers pass.old (Switch set) result pass.new }
     {
-        let session = pass.session();
-        let alone = Alone {
-            gate: SessionGate { gate, session },
+        let Ok(mut prepared) = self.prepare_alone(rt, pass.session(), gate, &set) else {
+            return Answer::refused(Refusal::Memory);
         };
-        self.switch_with(rt, pass, gate, &alone, set)
+        self.enter_switch(rt, pass, gate, set, &mut prepared)
     }
 
-    // A switch for which is worked out in one way or another what units require.
-    fn switch_with<R: Wait, G: Gate, M: Marks>(
+    // The commit of a switch.
+    fn enter_switch<R: Wait, G: Gate>(
         &self,
         rt: &R,
         pass: &mut Pass<'a, T, J>,
         gate: &G,
-        marks: &M,
         set: ParamSet,
+        prepared: &mut Prepared<'a, T, J>,
     ) -> Answer
+        requires prepared { ArePrepared set prepared.old.units.units.items }
+        requires ready { AreReady T.shown set prepared.old.units.units.items prepared.old.since.items }
         ensures { Answers pass.old (Switch set) result pass.new }
     {
-        let Ok(mut prepared) = self.prepare(rt, marks, &set) else {
-            return Answer::refused(Refusal::Memory);
-        };
         gate.at(Point::Prepared, pass.session());
         let since = prepared.since.as_slice();
         self.ledger

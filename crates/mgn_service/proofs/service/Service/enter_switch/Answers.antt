@@ -1,6 +1,6 @@
 use Rattle.std.proofs.Common.{List, ℕ, sym, subst}
 use Rattle.mgn_ledger.specs.Gathering.{AreReady}
-use Rattle.mgn_service.proofs.service.Service.switch_with.Goals as goal
+use Rattle.mgn_service.proofs.service.Service.enter_switch.Goals as goal
 
 pub enter_switch-requires-clause-ready : goal.enter_switch-requires-clause-ready
 enter_switch-requires-clause-ready g c =
