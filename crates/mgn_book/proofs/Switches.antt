@@ -12,9 +12,12 @@ use Rattle.mgn_machine.specs.NewSet.{covers, on_call, set_fits}
 use Rattle.mgn_machine.specs.Step.{switched}
 use Rattle.mgn_machine.specs.State.{AccountState}
 use Rattle.mgn_unit.specs.declared.row.Row.{Row}
+use Rattle.mgn_unit.specs.declared.amounts.NewRows.{NewRows}
+use Rattle.mgn_unit.specs.Amounts.{AreAfter}
 use Rattle.mgn_unit.specs.NewSets.{row_on_call}
 use Rattle.mgn_unit.proofs.Covered.{covers-known}
 use Rattle.mgn_register.specs.BookStates.{BookState, IsKept, IsUnitRow, book_state}
+use Rattle.mgn_register.specs.UnderSets.{AreNewRows}
 use Rattle.mgn_book.specs.Switches.{IsSwitched}
 use Rattle.mgn_register.proofs.Switches.{on_call-counted}
 use Rattle.mgn_register.specs.declared.fault.Fault.{Fault}
@@ -70,10 +73,14 @@ switched-refused sets t f why shown kept fits = record {
   rows = refl;
 }
 
--- where the set was put and the rows were taken over
-pub switched-entered : (sets now : List Tables) (t : Tables) (f new : BookState) (rows : List Row) (result : Result Reply Fault) → length sets ≡ f.state.version + 1 → IsKept (set_at sets f.state.version) f → set_fits t f.state ≡ Ok tt
-    → covers t f.state.accounts ≡ true → length rows ≡ length f.rows → ((u : ℕ) (d : Row) → u < length rows → IsUnitRow t f.state.accounts u (get_or rows u d)) → OnOk result (now ≡ sets ++ t ∷ [])
-    → OnOk result (new ≡ book_state f.state.origins f.state.accounts rows f.state.closed (f.state.version + 1)) → IfOk result (λ reply. reply ≡ NewSet record { version = f.state.version + 1; on_call = length (filter row_on_call rows) })
+-- where the set was put and the rows became those under it
+pub switched-entered : (sets now : List Tables) (t : Tables) (f new : BookState) (rows : NewRows) (result : Result Reply Fault) → length sets ≡ f.state.version + 1 → IsKept (set_at sets f.state.version) f → set_fits t f.state ≡ Ok tt
+    → covers t f.state.accounts ≡ true → AreNewRows t f rows → OnOk result (AreAfter rows f.rows new.rows) → OnOk result (now ≡ sets ++ t ∷ [])
+    → OnOk result (new ≡ book_state f.state.origins f.state.accounts new.rows f.state.closed (f.state.version + 1)) → IfOk result (λ reply. reply ≡ NewSet record { version = f.state.version + 1; on_call = length (filter row_on_call new.rows) })
     → IfOk result (λ reply. IsSwitched sets now f new t reply)
-switched-entered sets now t f new rows (Ok reply) shown kept fits covered long are put made told = rw (put, made, told) (switched-in_force sets t f rows shown kept fits covered long are)
-switched-entered sets now t f new rows (Err fault) shown kept fits covered long are put made told = tt
+switched-entered sets now t f new rows (Ok reply) shown kept fits covered are after put made told =
+    let entered = switched-in_force sets t f new.rows shown kept fits covered (are.long new.rows after) (are.are new.rows after) in
+    subst (λ (x : List Tables). IsSwitched sets x f new t reply) (sym put)
+    (subst (λ (x : Reply). IsSwitched sets (sets ++ t ∷ []) f new t x) (sym told)
+    (subst (λ (x : BookState). IsSwitched sets (sets ++ t ∷ []) f x t (NewSet record { version = f.state.version + 1; on_call = length (filter row_on_call new.rows) })) (sym made) entered))
+switched-entered sets now t f new rows (Err fault) shown kept fits covered are after put made told = tt

@@ -1,11 +1,14 @@
-ghost use Rattle.std.specs.Prelude.{◌≡◌, ◌+◌, ◌<◌, ◌≤◌, ◌++◌, ◌∷◌, [], ℕ, filter, length, slice_index_or, IfErr, IfOk, OnErr, OnOk, Ok, true};
+ghost use Rattle.std.specs.Prelude.{◌≡◌, ◌+◌, ◌<◌, ◌≤◌, ◌++◌, ◌∷◌, [], List, filter, length, slice_index_or, IfErr, IfOk, OnErr, OnOk, Ok, true};
 ghost use Rattle.mgn_params.specs.Shelves.{set_at};
 ghost use Rattle.mgn_machine.specs.declared.request.Recorded.TheVariants.{InForce, SetRefused};
 ghost use Rattle.mgn_machine.specs.declared.request.Request.TheVariants.{Switch};
 ghost use Rattle.mgn_machine.specs.History.{entry, recorded};
+ghost use Rattle.mgn_unit.specs.Amounts.{AreAfter};
 ghost use Rattle.mgn_unit.specs.NewSets.{ArePrepared, row_on_call};
 ghost use Rattle.mgn_unit.specs.Prepared.{AreCurrent, ArePreparedFor};
+ghost use Rattle.mgn_unit.specs.declared.row.Row.{Row as UnitRow};
 ghost use Rattle.mgn_register.specs.BookStates.{IsKept, book_state};
+ghost use Rattle.mgn_register.specs.UnderSets.{FitRows};
 ghost use Rattle.mgn_book.specs.Switches.{IsSwitched};
 
 use crate::history::History;
@@ -13,17 +16,17 @@ use mgn_ids::SessionNo;
 use mgn_machine::{NewSet, Refusal, Reply};
 use mgn_params::{ParamSet, PutFault, Shelf, Work};
 use mgn_register::{Fault, Register};
-use mgn_unit::{PreparedUnits, Row};
+use mgn_unit::{NewRows, PreparedUnits, Row};
 use std::alloc::Global;
 
-// Puts a set on the shelf, which is the last growth, and brings it into force with the rows under it.
+// Puts a set on the shelf, which is the last growth, and brings it into force with what the rows become under it.
 fn enter_set<S: Shelf>(
     register: &mut Register,
     history: &mut History,
     session: SessionNo,
     number: u64,
     set: ParamSet,
-    rows: Vec<Row>,
+    rows: NewRows,
     spent: &mut Vec<Row>,
     shelf: &mut S,
 ) -> Result<Reply, Fault>
@@ -32,11 +35,12 @@ fn enter_set<S: Shelf>(
     requires number { number ≤ 1000000 }
     requires shown { length (S.sets shelf.old) ≡ register.old.state.version + 1 }
     requires few { register.old.state.version < 64 }
-    requires few_units { length rows.items ≤ 1024 }
+    requires fit { FitRows rows register.old.rows }
+    requires few_units { (after : List UnitRow) → AreAfter rows register.old.rows after → length after ≤ 1024 }
     ensures place { S.place shelf.new ≡ S.place shelf.old }
     ensures reply { IfOk result (λ reply. reply ≡ Reply.NewSet record {
       version = register.old.state.version + 1;
-      on_call = length (filter row_on_call rows.items);
+      on_call = length (filter row_on_call register.new.rows);
     }) }
     ensures entry { IfOk result (λ reply.
         let request = InForce (register.old.state.version + 1) in
@@ -44,7 +48,8 @@ fn enter_set<S: Shelf>(
     ensures sets { OnOk result (S.sets shelf.new ≡ S.sets shelf.old ++ set ∷ []) }
     ensures state { OnOk result (
         let old = register.old.state in
-        register.new ≡ book_state old.origins old.accounts rows.items old.closed (old.version + 1)) }
+        register.new ≡ book_state old.origins old.accounts register.new.rows old.closed (old.version + 1)) }
+    ensures rows { OnOk result (AreAfter rows register.old.rows register.new.rows) }
     ensures fault { IfErr result (λ fault. fault ≡ Fault.Memory) }
     ensures same_register { OnErr result (register.new ≡ register.old) }
     ensures same_history { OnErr result (history.new.entries ≡ history.old.entries) }

@@ -10,8 +10,10 @@ use Rattle.mgn_params.specs.Limits.{IsWithinLimits}
 use Rattle.mgn_params.specs.Tables.{Tables}
 use Rattle.mgn_machine.specs.NewSet.{covers, on_call}
 use Rattle.mgn_machine.specs.State.{AccountState}
+use Rattle.mgn_unit.specs.declared.amounts.UnitAmounts.{UnitAmounts}
 use Rattle.mgn_unit.specs.declared.row.PreparedUnit.{PreparedUnit}
 use Rattle.mgn_unit.specs.declared.row.Row.{Row}
+use Rattle.mgn_unit.specs.Amounts.{AreWithAmounts, no_amounts, row_with_amounts}
 use Rattle.mgn_unit.specs.NewSets.{ArePrepared, AreWorths, IsPrepared, is_covered, row_on_call, row_under, unit_gain}
 use Rattle.mgn_unit.specs.Prepared.{AreCarried, AreCurrent, ArePreparedFor, copied}
 use Rattle.mgn_unit.specs.Rows.{IsRow, row_with_worth}
@@ -61,6 +63,32 @@ rows-pushed set' accounts rows row n long so_far last u inside d = ⊎_elim befo
         let same : n ≡ u = omega (arith, more, inside) in
         let none : u - n ≡ 0 = omega (arith, same) in
         subst (λ (r : Row). IsUnitRow set' accounts u r) (sym (get_or-append_right rows (row ∷ []) n u d long more ∙ ap (λ (k : ℕ). get_or (row ∷ []) k d) none)) (subst (λ (k : ℕ). IsUnitRow set' accounts k row) same last)
+
+-- amounts with those of one unit more
+pub amounts-pushed : (set' : Tables) (accounts : List AccountState) (rows : List Row) (all : List UnitAmounts) (it : UnitAmounts) (n : ℕ) → length all ≡ n
+    → ((u : ℕ) → u < n → (d : Row) → IsUnitRow set' accounts u (row_with_amounts (get_or all u no_amounts) (get_or rows u d)))
+    → ((d : Row) → IsUnitRow set' accounts n (row_with_amounts it (get_or rows n d)))
+    → (u : ℕ) → u < n + 1 → (d : Row) → IsUnitRow set' accounts u (row_with_amounts (get_or (all ++ it ∷ []) u no_amounts) (get_or rows u d))
+amounts-pushed set' accounts rows all it n long so_far last u inside d = ⊎_elim before after (cases_lt u n)
+  where
+    before : u < n → IsUnitRow set' accounts u (row_with_amounts (get_or (all ++ it ∷ []) u no_amounts) (get_or rows u d))
+    before less =
+        subst (λ (x : UnitAmounts). IsUnitRow set' accounts u (row_with_amounts x (get_or rows u d))) (sym (get_or_append_left all (it ∷ []) no_amounts u (omega (arith, less, long)))) (so_far u less d)
+
+    after : n ≤ u → IsUnitRow set' accounts u (row_with_amounts (get_or (all ++ it ∷ []) u no_amounts) (get_or rows u d))
+    after more =
+        let same : n ≡ u = omega (arith, more, inside) in
+        let none : u - n ≡ 0 = omega (arith, same) in
+        subst (λ (x : UnitAmounts). IsUnitRow set' accounts u (row_with_amounts x (get_or rows u d))) (sym (get_or-append_right all (it ∷ []) n u no_amounts long more ∙ ap (λ (k : ℕ). get_or (it ∷ []) k no_amounts) none))
+        (subst (λ (k : ℕ). IsUnitRow set' accounts k (row_with_amounts it (get_or rows k d))) same (last d))
+
+-- rows with the amounts of all units are those of the state under the set
+pub new-rows_kept : (set' : Tables) (f : BookState) (amounts : List UnitAmounts) (after : List Row) → length amounts ≡ length f.rows
+    → ((u : ℕ) (d : Row) → u < length f.rows → IsUnitRow set' f.state.accounts u (row_with_amounts (get_or amounts u no_amounts) (get_or f.rows u d)))
+    → AreWithAmounts amounts f.rows after → (u : ℕ) (d : Row) → u < length after → IsUnitRow set' f.state.accounts u (get_or after u d)
+new-rows_kept set' f amounts after long are with u d inside =
+    let here : u < length f.rows = omega (arith, inside, with.long) in
+    subst (λ (row : Row). IsUnitRow set' f.state.accounts u row) (sym (with.are u d here)) (are u d here)
 
 -- how many units are on call
 pub on_call-counted : (set' : Tables) (accounts : List AccountState) (rows : List Row) → ((u : ℕ) (d : Row) → u < length rows → IsUnitRow set' accounts u (get_or rows u d)) → length (filter row_on_call rows) ≡ on_call set' accounts (length rows)

@@ -4,3 +4,4 @@ pub mod Balances
 pub mod RoomAsked
 pub mod TransferRows
 pub mod Fits
+pub mod UnderSets

@@ -1,23 +1,27 @@
-ghost use Rattle.std.specs.Prelude.{◌≡◌, ◌≢◌, ◌<◌, ◌≤◌, ℕ, false, length, filter, slice_index_or, IfOk, IfSome, IsSomeAnd, IsTrue, None, OnOk, true};
+ghost use Rattle.std.specs.Prelude.{◌≡◌, ◌≢◌, ◌<◌, ◌≤◌, ℕ, false, length, filter, slice_index_or, IfOk, IfSome, IsSomeAnd, IsTrue, List, None, OnOk, Some, true};
 ghost use Rattle.std.specs.List.{list_all};
 ghost use Rattle.mgn_coll.specs.Posted.{is_priced_by};
 ghost use Rattle.mgn_machine.specs.NewSet.{covers, set_fits};
 ghost use Rattle.mgn_machine.specs.State.{AccountState};
 ghost use Rattle.mgn_params.specs.Tables.{Tables};
 ghost use Rattle.mgn_span.specs.Scan.{value_at};
+ghost use Rattle.mgn_params.specs.Limits.{IsWithinLimits};
+ghost use Rattle.mgn_unit.specs.Amounts.{AreAfter, AreWithAmounts, KeepsPlaces, no_amounts, row_with_amounts};
 ghost use Rattle.mgn_unit.specs.NewSets.{ArePrepared, AreWorths, IsPrepared, is_covered, row_on_call, row_under};
 ghost use Rattle.mgn_unit.specs.Prepared.{AreCarried, AreCurrent, ArePreparedFor, copied};
 ghost use Rattle.mgn_unit.specs.Rows.{IsRow, row_with_worth};
+ghost use Rattle.mgn_unit.specs.declared.row.PreparedUnit.{PreparedUnit as Prepared};
 ghost use Rattle.mgn_unit.specs.declared.row.Row.{Row as UnitRow};
 ghost use Rattle.mgn_register.specs.BookStates.{IsKept, IsUnitRow, book_state};
 ghost use Rattle.mgn_register.specs.Fits.{Fits};
+ghost use Rattle.mgn_register.specs.UnderSets.{AreGains, AreNewRows, FitRows, spent_by};
 
 use crate::fault::Fault;
 use crate::register::{Register, refuse_if};
 use mgn_machine::Refusal;
 use mgn_num::Cents;
 use mgn_params::{ParamSet, Version, Work};
-use mgn_unit::{PreparedUnit, PreparedUnits, Row, Switch, has_all_contracts};
+use mgn_unit::{NewRows, PreparedUnit, PreparedUnits, Row, Switch, UnitAmounts, has_all_contracts};
 use std::alloc::{AllocError, Global};
 use std::mem;
 
@@ -31,6 +35,18 @@ fn take_prepared(prepared: &mut [Option<PreparedUnit>], unit: usize) -> Option<P
 {
     if unit < prepared.len() {
         prepared[unit].take()
+    } else {
+        None
+    }
+}
+
+// What was prepared of a unit, if anything was, left where it is.
+fn prepared_of(prepared: &[Option<PreparedUnit>], unit: usize) -> Option<&PreparedUnit>
+    ensures found { IfSome result (λ one. slice_index_or prepared.now unit None ≡ Some one.now) }
+    ensures none { result ≡ None → slice_index_or prepared.now unit None ≡ None }
+{
+    if unit < prepared.len() {
+        prepared[unit].as_ref()
     } else {
         None
     }
@@ -74,6 +90,45 @@ fn row_by(
     match prepared {
         Some(one) if is_current => row.taking(alloc, switch, gain, one),
         other => row.under(alloc, switch, gain, other, work),
+    }
+}
+
+// The amounts of a unit under the new set of a switch in which each contract keeps its place, with what was prepared of it, if
+// anything was.
+fn amounts_by(
+    alloc: Global,
+    row: &Row,
+    switch: &Switch,
+    gain: Cents,
+    prepared: &[Option<PreparedUnit>],
+    unit: usize,
+    is_current: bool,
+    work: &mut Work,
+) -> Result<UnitAmounts, AllocError>
+    requires row { IsRow switch.now.old row.now }
+    requires keeps { KeepsPlaces switch.now.old switch.now.new }
+    requires prepared { ArePrepared switch.now.new prepared.now }
+    requires current { IsTrue is_current → (one : Prepared) → slice_index_or prepared.now unit None ≡ Some one →
+        AreCarried switch.now.old switch.now.new (copied row.now) one }
+    requires worths { AreWorths (row_with_worth gain row.now) }
+    ensures row { IfOk result (λ it. row_with_amounts it row.now ≡ row_under switch.now.old switch.now.new gain row.now) }
+    ensures limits { IfOk result (λ it. IsRow switch.now.new (row_with_amounts it row.now)) }
+    ensures idle { IsSomeAnd (slice_index_or prepared.now unit None)
+        (AreCarried switch.now.old switch.now.new (copied row.now)) → work.new ≡ work.old }
+{
+    match prepared_of(prepared, unit) {
+        Some(one) => row.amounts_by(alloc, switch, gain, one, is_current, work),
+        None => row.amounts_under(alloc, switch, gain, work),
+    }
+}
+
+// The rows with these amounts, by the units' numbers.
+fn set_amounts(rows: &mut [Row], amounts: &[UnitAmounts])
+    requires { length amounts.now ≡ length rows.old }
+    ensures { AreWithAmounts amounts.now rows.old rows.new }
+{
+    for unit in 0..rows.len() {
+        rows[unit].set_amounts(&amounts[unit]);
     }
 }
 
@@ -125,37 +180,35 @@ impl Register {
         refuse_if(self.version.number() >= MOST_SWITCHES, Refusal::Sets)
     }
 
-    // The rows of all units under a set that has what the accounts hold.
-    fn rows_of(
+    // The rows of all units under the new set of a switch, which has what the accounts hold.
+    fn rows_anew(
         &self,
         alloc: Global,
-        old: &ParamSet,
-        new: &ParamSet,
+        switch: &Switch,
+        gains: &[Cents],
         prepared: &mut [Option<PreparedUnit>],
         current: &[bool],
         work: &mut Work,
     ) -> Result<Vec<Row>, AllocError>
-        requires kept { IsKept old.now self.now }
-        requires covers { covers new.now self.now.state.accounts ≡ true }
-        requires prepared { ArePrepared new.now prepared.old }
-        requires current { AreCurrent old.now new.now self.now.rows prepared.old current.now }
+        requires kept { IsKept switch.now.old self.now }
+        requires limits { IsWithinLimits switch.now.new }
+        requires gains { AreGains switch.now.old switch.now.new self.now gains.now }
+        requires prepared { ArePrepared switch.now.new prepared.old }
+        requires current { AreCurrent switch.now.old switch.now.new self.now.rows prepared.old current.now }
         ensures long { IfOk result (λ rows. length rows.items ≡ length self.now.rows) }
         ensures rows { IfOk result (λ rows. (u : ℕ) (d : UnitRow) → u < length rows.items →
-            IsUnitRow new.now self.now.state.accounts u (slice_index_or rows.items u d)) }
-        ensures idle { ArePreparedFor old.now new.now self.now.rows prepared.old → work.new ≡ work.old }
+            IsUnitRow switch.now.new self.now.state.accounts u (slice_index_or rows.items u d)) }
+        ensures idle { ArePreparedFor switch.now.old switch.now.new self.now.rows prepared.old → work.new ≡ work.old }
     {
-        new.limits();
-        let switch = Switch::new(alloc, old, new)?;
-        let gains = switch.gains(alloc, self.accounts.as_slice(), self.rows.len())?;
         let mut rows = Vec::with_capacity(alloc, self.rows.len())?;
         for unit in 0..self.rows.len() {
-            let gain = gain_of(&gains, unit);
+            let gain = gain_of(gains, unit);
             let ready = take_prepared(prepared, unit);
             let is_current = is_current(current, unit);
             let row = row_by(
                 alloc,
                 &self.rows[unit],
-                &switch,
+                switch,
                 gain,
                 ready,
                 is_current,
@@ -166,7 +219,74 @@ impl Register {
         Ok(rows)
     }
 
-    /// The rows of all units under another set, or why it may not come into force. Nothing changes. Memory is asked for
+    // The amounts of all units under the new set of a switch in which each contract keeps its place.
+    fn amounts_of(
+        &self,
+        alloc: Global,
+        switch: &Switch,
+        gains: &[Cents],
+        prepared: &[Option<PreparedUnit>],
+        current: &[bool],
+        work: &mut Work,
+    ) -> Result<Vec<UnitAmounts>, AllocError>
+        requires kept { IsKept switch.now.old self.now }
+        requires limits { IsWithinLimits switch.now.new }
+        requires keeps { KeepsPlaces switch.now.old switch.now.new }
+        requires gains { AreGains switch.now.old switch.now.new self.now gains.now }
+        requires prepared { ArePrepared switch.now.new prepared.now }
+        requires current { AreCurrent switch.now.old switch.now.new self.now.rows prepared.now current.now }
+        ensures long { IfOk result (λ amounts. length amounts.items ≡ length self.now.rows) }
+        ensures rows { IfOk result (λ amounts. (u : ℕ) (d : UnitRow) → u < length self.now.rows →
+            IsUnitRow switch.now.new self.now.state.accounts u
+            (row_with_amounts (slice_index_or amounts.items u no_amounts) (slice_index_or self.now.rows u d))) }
+        ensures idle { ArePreparedFor switch.now.old switch.now.new self.now.rows prepared.now → work.new ≡ work.old }
+    {
+        let mut all = Vec::with_capacity(alloc, self.rows.len())?;
+        for unit in 0..self.rows.len() {
+            let amounts = amounts_by(
+                alloc,
+                &self.rows[unit],
+                switch,
+                gain_of(gains, unit),
+                prepared,
+                unit,
+                is_current(current, unit),
+                work,
+            )?;
+            all.push_reserved(amounts);
+        }
+        Ok(all)
+    }
+
+    // What the rows of all units become under a set that has what the accounts hold.
+    fn rows_of(
+        &self,
+        alloc: Global,
+        old: &ParamSet,
+        new: &ParamSet,
+        prepared: &mut [Option<PreparedUnit>],
+        current: &[bool],
+        work: &mut Work,
+    ) -> Result<NewRows, AllocError>
+        requires kept { IsKept old.now self.now }
+        requires covers { covers new.now self.now.state.accounts ≡ true }
+        requires prepared { ArePrepared new.now prepared.old }
+        requires current { AreCurrent old.now new.now self.now.rows prepared.old current.now }
+        ensures rows { IfOk result (AreNewRows new.now self.now) }
+        ensures idle { ArePreparedFor old.now new.now self.now.rows prepared.old → work.new ≡ work.old }
+    {
+        new.limits();
+        let switch = Switch::new(alloc, old, new)?;
+        let gains = switch.gains(alloc, self.accounts.as_slice(), self.rows.len())?;
+        if switch.keeps_places() {
+            let amounts = self.amounts_of(alloc, &switch, &gains, prepared, current, work)?;
+            return Ok(NewRows::Kept(amounts));
+        }
+        let rows = self.rows_anew(alloc, &switch, &gains, prepared, current, work)?;
+        Ok(NewRows::Moved(rows))
+    }
+
+    /// What the rows of all units become under another set, or why it may not come into force. Nothing changes. Memory is asked for
     /// only where it may. What was prepared of units under that set, by their numbers, is taken where a
     /// unit's nets are still the same, which is looked at unless it is known; any other unit is worked out anew. Where it is so of
     /// all units no risk array is read.
@@ -177,7 +297,7 @@ impl Register {
         new: &ParamSet,
         prepared: &mut PreparedUnits,
         work: &mut Work,
-    ) -> Result<Vec<Row>, Fault>
+    ) -> Result<NewRows, Fault>
         requires kept { IsKept old.now self.now }
         requires prepared { ArePrepared new.now prepared.old.units.items }
         requires current { let ready = prepared.old in
@@ -185,9 +305,7 @@ impl Register {
         ensures fits { Fits (set_fits new.now self.now.state) result }
         ensures covers { OnOk result (covers new.now self.now.state.accounts ≡ true) }
         ensures few { OnOk result (self.now.state.version < 64) }
-        ensures long { IfOk result (λ rows. length rows.items ≡ length self.now.rows) }
-        ensures rows { IfOk result (λ rows. (u : ℕ) (d : UnitRow) → u < length rows.items →
-            IsUnitRow new.now self.now.state.accounts u (slice_index_or rows.items u d)) }
+        ensures rows { IfOk result (AreNewRows new.now self.now) }
         ensures idle { ArePreparedFor old.now new.now self.now.rows prepared.old.units.items → work.new ≡ work.old }
     {
         self.set_fits(old, new)?;
@@ -196,16 +314,21 @@ impl Register {
         Ok(self.rows_of(alloc, old, new, units, current, work)?)
     }
 
-    /// Another set is in force, under which these are the rows of all units; those before are handed out. Gives how many units
-    /// are on call.
-    pub fn put_in_force(&mut self, rows: Vec<Row>, version: Version, spent: &mut Vec<Row>) -> u32
-        requires few { length rows.items ≤ 1024 }
+    /// Another set is in force, under which the rows of all units become these; where they are made anew those before are
+    /// handed out. Gives how many units are on call.
+    pub fn put_in_force(&mut self, rows: NewRows, version: Version, spent: &mut Vec<Row>) -> u32
+        requires fit { FitRows rows self.old.rows }
+        requires few { (after : List UnitRow) → AreAfter rows self.old.rows after → length after ≤ 1024 }
         ensures state { let old = self.old.state in
-            self.new ≡ book_state old.origins old.accounts rows.items old.closed version }
-        ensures on_call { result ≡ length (filter row_on_call rows.items) }
-        ensures spent { spent.new.items ≡ self.old.rows }
+            self.new ≡ book_state old.origins old.accounts self.new.rows old.closed version }
+        ensures rows { AreAfter rows self.old.rows self.new.rows }
+        ensures on_call { result ≡ length (filter row_on_call self.new.rows) }
+        ensures spent { spent.new.items ≡ spent_by rows self.old.rows spent.old.items }
     {
-        *spent = mem::replace(&mut self.rows, rows);
+        match rows {
+            NewRows::Kept(amounts) => set_amounts(&mut self.rows, &amounts),
+            NewRows::Moved(rows) => *spent = mem::replace(&mut self.rows, rows),
+        }
         self.version = version;
         self.rows.iter().filter(|row| row.is_on_call()).count() as u32
     }

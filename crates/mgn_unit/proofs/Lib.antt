@@ -14,5 +14,6 @@ pub mod Carried
 pub mod Covered
 pub mod Gains
 pub mod InPlace
+pub mod KeptPlaces
 pub mod Places
 pub mod Parts

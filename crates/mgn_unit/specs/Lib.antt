@@ -3,5 +3,6 @@ pub mod Rows
 pub mod Changes
 pub mod Laws
 pub mod NewSets
+pub mod Amounts
 pub mod Prepared
 pub mod Worths

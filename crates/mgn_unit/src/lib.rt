@@ -3,6 +3,7 @@
 #![tactic(auto)]
 
 mod account;
+mod amounts;
 mod change;
 mod holding;
 mod new_set;
@@ -14,6 +15,7 @@ mod transfer;
 mod worth_change;
 
 pub use account::Account;
+pub use amounts::{Amounts, NewRows, UnitAmounts};
 pub use change::{Change, Gain};
 pub use holding::filling_at_limit_keeps_room;
 pub use new_set::{Switch, has_all_contracts};

@@ -7,6 +7,7 @@ ghost use Rattle.mgn_span.specs.Scan.{value_at};
 ghost use Rattle.mgn_machine.specs.State.{AccountState};
 ghost use Rattle.mgn_unit.specs.Rows.{IsRow, IsPortfolioRow, row_with_worth};
 ghost use Rattle.mgn_unit.specs.Prepared.{AreCarried, IsCopied, copied};
+ghost use Rattle.mgn_unit.specs.Amounts.{KeepsPlaces};
 ghost use Rattle.mgn_unit.specs.NewSets.{AreWorths, IsPrepared, IsPreparedPortfolio, SetPair, carried, is_covered, is_covered_at, own_places, portfolio_under, row_on_call, row_under, unit_gain, value_gain};
 
 use crate::account::Account;
@@ -89,6 +90,13 @@ impl<'a> Switch<'a> {
         })
     }
 
+    /// Whether each contract of the old set has its own place in the new one, which has no other.
+    pub fn keeps_places(&self) -> bool
+        ensures { IsTrue result ↔ KeepsPlaces self.now.old self.now.new }
+    {
+        self.keeps_places
+    }
+
     // The new set.
     pub(crate) fn new_set(&self) -> &ParamSet
         ensures { result.now ≡ self.now.new }
@@ -143,7 +151,7 @@ impl<'a> Switch<'a> {
     }
 
     // Whether these are the numbers of a row, by the contracts' names, for the contracts of the new set.
-    fn carries(&self, row: &Nets, numbers: &Nets) -> bool
+    pub(crate) fn carries(&self, row: &Nets, numbers: &Nets) -> bool
         requires { length row.now ≡ length self.now.old.contracts }
         ensures { IsTrue result ↔ (numbers.now ≡ carried self.now.old self.now.new row.now) }
     {

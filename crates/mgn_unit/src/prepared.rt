@@ -98,7 +98,7 @@ pub(crate) fn prepare(
 }
 
 // What nets require under a set, beside others for which it was worked out already: equal nets require as much.
-fn required_beside(
+pub(crate) fn required_beside(
     alloc: Global,
     set: &ParamSet,
     nets: &Nets,

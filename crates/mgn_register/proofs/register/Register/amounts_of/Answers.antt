@@ -1,0 +1,48 @@
+use Rattle.std.proofs.Common.{◌≡◌, ◌<◌, ◌∙◌, get_or, length, refl, rules, subst, sym}
+use Rattle.std.specs.Prelude.{Some}
+use Rattle.mgn_unit.specs.Amounts.{row_with_amounts}
+use Rattle.mgn_unit.specs.declared.row.Row.{Row as UnitRow}
+use Rattle.mgn_register.specs.BookStates.{BookState, IsUnitRow}
+use Rattle.mgn_register.proofs.Switches.{amounts-pushed, found-current, row-kept, worths-kept}
+use Rattle.mgn_register.proofs.register.Register.amounts_of.Goals as goal
+
+pub amounts_by-requires-clause-worths : goal.amounts_by-requires-clause-worths
+amounts_by-requires-clause-worths c =
+    let f : BookState = c.args.self.now in
+    let u = c.loop-unit.unit in
+    let inside : u < length f.rows = search rules in
+    let is : c.index.result.now ≡ get_or f.rows u c.index.result.now = search rules in
+    worths-kept c.args.switch.now.old c.args.switch.now.new f u c.gain_of.result c.index.result.now c.requires.kept c.requires.limits inside is (c.gain_of.ensures ∙ c.requires.gains.are u inside)
+
+pub amounts_by-requires-clause-current : goal.amounts_by-requires-clause-current
+amounts_by-requires-clause-current c = λ current_is one found.
+    let f : BookState = c.args.self.now in
+    let u = c.loop-unit.unit in
+    let old = c.args.switch.now.old in
+    let new = c.args.switch.now.new in
+    let inside : u < length f.rows = search rules in
+    let is : c.index.result.now ≡ get_or f.rows u c.index.result.now = search rules in
+    found-current old new old new f.rows c.args.prepared.now c.args.current.now u c.index.result.now (Some one) c.is_current.result refl refl inside is (sym found) c.is_current.ensures c.requires.current current_is
+
+pub loop-unit-preserved : goal.loop-unit-preserved
+loop-unit-preserved c =
+    let f : BookState = c.args.self.now in
+    let u = c.loop-unit.unit in
+    let old = c.args.switch.now.old in
+    let new = c.args.switch.now.new in
+    let row = c.index.result.now in
+    let it = c.in_ok-amounts.amounts in
+    let inside : u < length f.rows = search rules in
+    let is : (d : UnitRow) → row ≡ get_or f.rows u d = λ d. search rules in
+    let long : length c.loop-unit.all.items ≡ u = search rules in
+    let gained = c.gain_of.ensures ∙ c.requires.gains.are u inside in
+    let kept = row-kept old new f u c.gain_of.result row (row_with_amounts it row) c.requires.kept inside (is row) gained c.in_ok-amounts.ensures.row c.in_ok-amounts.ensures.limits in
+    let last : (d : UnitRow) → IsUnitRow new f.state.accounts u (row_with_amounts it (get_or f.rows u d)) =
+    λ d. subst (λ (x : UnitRow). IsUnitRow new f.state.accounts u (row_with_amounts it x)) (is d) kept
+    in
+    record {
+      len = search rules;
+      room = search rules;
+      so_far = λ k h d. rw c.push_reserved.ensures.items (amounts-pushed new f.state.accounts f.rows c.loop-unit.all.items it u long c.loop-unit.invariant.so_far last k h d);
+      idle = λ ready. search rules;
+    }

@@ -1,0 +1,257 @@
+//! What changes of a unit under another set where each contract keeps its place: worths and requirements alone.
+
+ghost use Rattle.std.specs.Prelude.{◌≡◌, ◌≤◌, ◌^◌, ◌+ℤ◌, ◌↔◌, IfOk, IfSome, IsSome, IsTrue, unsigned_abs};
+ghost use Rattle.mgn_unit.specs.Amounts.{KeepsPlaces, portfolio_with_amounts, row_with_amounts};
+ghost use Rattle.mgn_unit.specs.NewSets.{AreWorths, IsPrepared, IsPreparedPortfolio, IsRequired, carried, row_under};
+ghost use Rattle.mgn_unit.specs.Prepared.{AreCarried, IsCopied, copied};
+ghost use Rattle.mgn_unit.specs.Rows.{IsPortfolioRow, IsRow, row_with_worth};
+
+use crate::new_set::Switch;
+use crate::prepared::{required, required_beside};
+use crate::row::{PortfolioRow, PreparedPortfolio, PreparedUnit, Priced, Row};
+use mgn_nets::Nets;
+use mgn_num::Cents;
+use mgn_params::Work;
+use std::alloc::{AllocError, Global};
+
+/// What is there for a portfolio, and what it must have deposited, in cents.
+#[derive(Clone, Copy)]
+pub struct Amounts {
+    /// What is there for it, its holds counted as filled at their limits.
+    pub worth: Cents,
+    /// What it must have deposited.
+    pub requirement: Cents,
+}
+
+/// The amounts of the four portfolios of a margin unit.
+#[derive(Clone, Copy)]
+pub struct UnitAmounts {
+    /// Those of the lots.
+    pub lots: Amounts,
+    /// Those of the lots and the held buys.
+    pub buys: Amounts,
+    /// Those of the lots and the held sales.
+    pub sales: Amounts,
+    /// Those of the lots and all holds.
+    pub all: Amounts,
+}
+
+/// The rows of all margin units under another set.
+#[derive(Drop)]
+pub enum NewRows {
+    /// Where each contract keeps its place, the rows stay, and these are their amounts by the units' numbers.
+    Kept(Vec<UnitAmounts>),
+    /// The rows by the units' numbers, made anew.
+    Moved(Vec<Row>),
+}
+
+// What was prepared for nets that keep their places, where it was for these.
+fn prepared_requirement(
+    switch: &Switch,
+    nets: &Nets,
+    prepared: &PreparedPortfolio,
+    is_current: bool,
+) -> Option<Cents>
+    requires nets { IsCopied switch.now.old nets.now }
+    requires keeps { KeepsPlaces switch.now.old switch.now.new }
+    requires prepared { IsPreparedPortfolio switch.now.new prepared.now }
+    requires current { IsTrue is_current → prepared.now.nets ≡ carried switch.now.old switch.now.new nets.now }
+    ensures required { IfSome result (IsRequired switch.now.new nets.now) }
+    ensures used { prepared.now.nets ≡ carried switch.now.old switch.now.new nets.now → IsSome result }
+{
+    if is_current || switch.carries(nets, &prepared.nets) {
+        return Some(prepared.requirement);
+    }
+    None
+}
+
+// What nets that keep their places require under the new set of a switch. What was prepared is taken where it was for these.
+fn required_by(
+    alloc: Global,
+    switch: &Switch,
+    nets: &Nets,
+    prepared: &PreparedPortfolio,
+    is_current: bool,
+    work: &mut Work,
+) -> Result<Cents, AllocError>
+    requires nets { IsCopied switch.now.old nets.now }
+    requires keeps { KeepsPlaces switch.now.old switch.now.new }
+    requires prepared { IsPreparedPortfolio switch.now.new prepared.now }
+    requires current { IsTrue is_current → prepared.now.nets ≡ carried switch.now.old switch.now.new nets.now }
+    ensures required { IfOk result (IsRequired switch.now.new nets.now) }
+    ensures idle { prepared.now.nets ≡ carried switch.now.old switch.now.new nets.now → work.new ≡ work.old }
+{
+    match prepared_requirement(switch, nets, prepared, is_current) {
+        Some(requirement) => Ok(requirement),
+        None => required(alloc, switch.new_set(), nets, work),
+    }
+}
+
+// The same beside other nets, for which it was worked out already.
+fn required_by_beside(
+    alloc: Global,
+    switch: &Switch,
+    nets: &Nets,
+    prepared: &PreparedPortfolio,
+    is_current: bool,
+    other: &Nets,
+    known: Cents,
+    work: &mut Work,
+) -> Result<Cents, AllocError>
+    requires nets { IsCopied switch.now.old nets.now }
+    requires keeps { KeepsPlaces switch.now.old switch.now.new }
+    requires prepared { IsPreparedPortfolio switch.now.new prepared.now }
+    requires current { IsTrue is_current → prepared.now.nets ≡ carried switch.now.old switch.now.new nets.now }
+    requires other { IsRequired switch.now.new other.now known }
+    ensures required { IfOk result (IsRequired switch.now.new nets.now) }
+    ensures idle { prepared.now.nets ≡ carried switch.now.old switch.now.new nets.now → work.new ≡ work.old }
+    ensures alike { other.now ≡ nets.now → work.new ≡ work.old }
+{
+    match prepared_requirement(switch, nets, prepared, is_current) {
+        Some(requirement) => Ok(requirement),
+        None => required_beside(alloc, switch.new_set(), nets, other, known, work),
+    }
+}
+
+impl PortfolioRow {
+    // The amounts with an amount more in worth, and another requirement.
+    fn amounts(&self, gain: Cents, requirement: Cents) -> Amounts
+        requires { unsigned_abs (self.now.worth +ℤ gain) ≤ 10 ^ 24 }
+        ensures { result ≡ record { worth = self.now.worth +ℤ gain; requirement = requirement } }
+    {
+        Amounts {
+            worth: self.worth.plus(gain),
+            requirement,
+        }
+    }
+
+    fn set_amounts(&mut self, amounts: &Amounts)
+        ensures { self.new ≡ portfolio_with_amounts amounts.now self.old }
+    {
+        self.worth = amounts.worth;
+        self.requirement = amounts.requirement;
+    }
+}
+
+impl Row {
+    // The amounts of the portfolios with an amount more in worth, and these requirements.
+    fn amounts(&self, gain: Cents, priced: &Priced) -> UnitAmounts
+        requires { AreWorths (row_with_worth gain self.now) }
+        ensures lots { result.lots ≡ record { worth = self.now.lots.worth +ℤ gain; requirement = priced.now.lots } }
+        ensures buys { result.buys ≡ record { worth = self.now.buys.worth +ℤ gain; requirement = priced.now.buys } }
+        ensures sales { result.sales ≡ record { worth = self.now.sales.worth +ℤ gain; requirement = priced.now.sales } }
+        ensures all { result.all ≡ record { worth = self.now.all.worth +ℤ gain; requirement = priced.now.all } }
+    {
+        UnitAmounts {
+            lots: self.lots.amounts(gain, priced.lots),
+            buys: self.buys.amounts(gain, priced.buys),
+            sales: self.sales.amounts(gain, priced.sales),
+            all: self.all.amounts(gain, priced.all),
+        }
+    }
+
+    /// The amounts of the unit under the new set of a switch in which each contract keeps its place, `gain` being how much
+    /// more the unit's collateral is worth there. An error says that memory was refused.
+    pub fn amounts_under(
+        &self,
+        alloc: Global,
+        switch: &Switch,
+        gain: Cents,
+        work: &mut Work,
+    ) -> Result<UnitAmounts, AllocError>
+        requires row { IsRow switch.now.old self.now }
+        requires keeps { KeepsPlaces switch.now.old switch.now.new }
+        requires worths { AreWorths (row_with_worth gain self.now) }
+        ensures row { IfOk result (λ it. row_with_amounts it self.now ≡ row_under switch.now.old switch.now.new gain self.now) }
+        ensures limits { IfOk result (λ it. IsRow switch.now.new (row_with_amounts it self.now)) }
+    {
+        let set = switch.new_set();
+        let first = &self.lots.nets;
+        let lots = required(alloc, set, first, work)?;
+        let buys = required_beside(alloc, set, &self.buys.nets, first, lots, work)?;
+        let sales = required_beside(alloc, set, &self.sales.nets, first, lots, work)?;
+        let all = required_beside(alloc, set, &self.all.nets, first, lots, work)?;
+        Ok(self.amounts(
+            gain,
+            &Priced {
+                lots,
+                buys,
+                sales,
+                all,
+            },
+        ))
+    }
+
+    /// The same by what was prepared of the unit: requirements that were prepared are taken where its nets are still the
+    /// same, which is looked at unless it is known, and any other is worked out anew.
+    pub fn amounts_by(
+        &self,
+        alloc: Global,
+        switch: &Switch,
+        gain: Cents,
+        prepared: &PreparedUnit,
+        is_current: bool,
+        work: &mut Work,
+    ) -> Result<UnitAmounts, AllocError>
+        requires row { IsRow switch.now.old self.now }
+        requires keeps { KeepsPlaces switch.now.old switch.now.new }
+        requires prepared { IsPrepared switch.now.new prepared.now }
+        requires current { IsTrue is_current → AreCarried switch.now.old switch.now.new (copied self.now) prepared.now }
+        requires worths { AreWorths (row_with_worth gain self.now) }
+        ensures row { IfOk result (λ it. row_with_amounts it self.now ≡ row_under switch.now.old switch.now.new gain self.now) }
+        ensures limits { IfOk result (λ it. IsRow switch.now.new (row_with_amounts it self.now)) }
+        ensures idle { AreCarried switch.now.old switch.now.new (copied self.now) prepared.now → work.new ≡ work.old }
+    {
+        let first = &self.lots.nets;
+        let lots = required_by(alloc, switch, first, &prepared.lots, is_current, work)?;
+        let buys = required_by_beside(
+            alloc,
+            switch,
+            &self.buys.nets,
+            &prepared.buys,
+            is_current,
+            first,
+            lots,
+            work,
+        )?;
+        let sales = required_by_beside(
+            alloc,
+            switch,
+            &self.sales.nets,
+            &prepared.sales,
+            is_current,
+            first,
+            lots,
+            work,
+        )?;
+        let all = required_by_beside(
+            alloc,
+            switch,
+            &self.all.nets,
+            &prepared.all,
+            is_current,
+            first,
+            lots,
+            work,
+        )?;
+        Ok(self.amounts(
+            gain,
+            &Priced {
+                lots,
+                buys,
+                sales,
+                all,
+            },
+        ))
+    }
+
+    /// The row with these amounts in place of its own.
+    pub fn set_amounts(&mut self, amounts: &UnitAmounts)
+        ensures { self.new ≡ row_with_amounts amounts.now self.old }
+    {
+        self.lots.set_amounts(&amounts.lots);
+        self.buys.set_amounts(&amounts.buys);
+        self.sales.set_amounts(&amounts.sales);
+        self.all.set_amounts(&amounts.all);
+    }
+}
