@@ -1,5 +1,6 @@
 -- Pages that are kept from now on, and quantities that are written in them.
 use Rattle.std.proofs.Common.{◌≡◌, ◌≢◌, ◌∙◌, ◌+◌, ◌*◌, ◌/◌, ◌%◌, ◌<◌, ◌≤◌, ◌++◌, ℕ, zero, suc, ℤ, pos, List, length, length-append, set, take, get_or, replicate, ap, sym, refl, subst, arith, ⊎_elim, length-set, get_or-set_same, get_or-set_other}
+use Rattle.std.specs.Prelude.{IfSome, Option, None, Some}
 use Rattle.std.specs.List.{sum_by}
 use Rattle.std.proofs.Math.Nat.{div-eq_of_lt-le, mod-lt}
 use Rattle.std.proofs.lemmas.Bool.{cases_eq, cases_lt}
@@ -329,3 +330,54 @@ closed-rest count starts cells row room is are c k closed from to =
     sym (row-at count starts cells row is k inside) ∙ closed-cell count starts cells room are k (ap (λ (p : ℕ). get_or starts p 0) page ∙ closed))
     (λ (past : length row ≤ k). get_or_past row k (pos 0) past)
     (cases_lt k (length row))
+
+-- what stands in a page of the list, and what stands past its end
+pub page-cell : (count : ℕ) (starts : List ℕ) (cells row : List ℤ) (room : ℕ) → listed count starts cells ≡ row → ArePages count starts cells room → (page i : ℕ) → i < 16 → value_at row (page * 16 + i) ≡ value_at cells (get_or starts page 0 + i)
+page-cell count starts cells row room is are page i small =
+    ⊎_elim
+    (λ (inside : page * 16 + i < length row). sym (row-at count starts cells row is (page * 16 + i) inside) ∙ cell-in starts cells page i small)
+    (λ (past : length row ≤ page * 16 + i).
+    get_or_past row (page * 16 + i) (pos 0) past
+    ∙ sym (are.beyond (page * 16 + i) (omega (arith, past, row-long count starts cells row is)))
+    ∙ cell-in starts cells page i small)
+    (cases_lt (page * 16 + i) (length row))
+
+-- a page that is not kept is all 0
+pub page-none : (count : ℕ) (starts : List ℕ) (cells row : List ℤ) (room : ℕ) → listed count starts cells ≡ row → ArePages count starts cells room → (page i : ℕ) → get_or starts page 0 ≡ 0 → i < 16 → value_at row (page * 16 + i) ≡ pos 0
+page-none count starts cells row room is are page i closed small =
+    page-cell count starts cells row room is are page i small ∙ ap (value_at cells) (omega (arith, closed)) ∙ are.zero i small
+
+-- what is not 0 stands in the list
+pub page-some : (count : ℕ) (starts : List ℕ) (cells row : List ℤ) (room : ℕ) → listed count starts cells ≡ row → ArePages count starts cells room → (page i : ℕ) → i < 16 → value_at cells (get_or starts page 0 + i) ≢ pos 0 → page * 16 + i < length row
+page-some count starts cells row room is are page i small some =
+    ⊎_elim
+    (λ (inside : page * 16 + i < length row). inside)
+    (λ (past : length row ≤ page * 16 + i).
+    absurd (some (sym (page-cell count starts cells row room is are page i small) ∙ get_or_past row (page * 16 + i) (pos 0) past)))
+    (cases_lt (page * 16 + i) (length row))
+
+-- what is found in a page is found in the list
+
+pub found-in : (count : ℕ) (starts : List ℕ) (cells row : List ℤ) (room : ℕ) → listed count starts cells ≡ row → ArePages count starts cells room → (page from : ℕ) (r : Option ℕ) → IfSome r (λ place. (from ≤ place) × (place < 16))
+    → IfSome r (λ place. value_at cells (get_or starts page 0 + place) ≢ pos 0) → IfSome r (λ place. (from ≤ place) × (place < 16) × (page * 16 + place < length row))
+found-in count starts cells row room is are page from None found held = tt
+found-in count starts cells row room is are page from (Some place) found held =
+    (found.0, found.1, page-some count starts cells row room is are page place found.1 held)
+
+pub held-in : (count : ℕ) (starts : List ℕ) (cells row : List ℤ) (room : ℕ) → listed count starts cells ≡ row → ArePages count starts cells room → (page from : ℕ) (r : Option ℕ) → IfSome r (λ place. (from ≤ place) × (place < 16))
+    → IfSome r (λ place. value_at cells (get_or starts page 0 + place) ≢ pos 0) → IfSome r (λ place. value_at row (page * 16 + place) ≢ pos 0)
+held-in count starts cells row room is are page from None found held = tt
+held-in count starts cells row room is are page from (Some place) found held =
+    λ none. held (sym (page-cell count starts cells row room is are page place found.1) ∙ none)
+
+pub passed-in : (count : ℕ) (starts : List ℕ) (cells row : List ℤ) (room : ℕ) → listed count starts cells ≡ row → ArePages count starts cells room → (page from : ℕ) (r : Option ℕ) → IfSome r (λ place. (from ≤ place) × (place < 16))
+    → IfSome r (λ place. (i : ℕ) → from ≤ i → i < place → value_at cells (get_or starts page 0 + i) ≡ pos 0) → IfSome r (λ place. (i : ℕ) → from ≤ i → i < place → value_at row (page * 16 + i) ≡ pos 0)
+passed-in count starts cells row room is are page from None found passed = tt
+passed-in count starts cells row room is are page from (Some place) found passed =
+    λ i low less. page-cell count starts cells row room is are page i (omega (arith, less, found.1)) ∙ passed i low less
+
+pub page-within : (count : ℕ) (starts : List ℕ) (cells row : List ℤ) (room : ℕ) → listed count starts cells ≡ row → ArePages count starts cells room → (page : ℕ) → page * 16 < length row → page < length starts
+page-within count starts cells row room is are page inside =
+    let own : (page * 16) / 16 ≡ page = page-of page (page * 16) (omega arith) (omega arith) in
+    let there = page-inside count starts are.pages (page * 16) (row-within count starts cells row is (page * 16) inside) in
+    omega (arith, own, there)

@@ -1,10 +1,10 @@
-ghost use Rattle.std.specs.Prelude.{◌≡◌, ◌≢◌, ◌<◌, ◌≤◌, ◌+ℤ◌, pos, length, map, replicate, slice_set, IfOk, IfSome, IsTrue, ◌↔◌, ℕ, None};
+ghost use Rattle.std.specs.Prelude.{◌≡◌, ◌≢◌, ◌<◌, ◌≤◌, ◌+◌, ◌*◌, ◌+ℤ◌, pos, length, map, replicate, slice_set, IfOk, IfSome, IsTrue, ◌↔◌, ℕ, None};
 ghost use Rattle.std.specs.Int.{div_ceil};
 ghost use Rattle.mgn_num.specs.Amount.{IsQuantity};
 ghost use Rattle.mgn_span.specs.Scan.{value_at};
 ghost use Rattle.mgn_nets.specs.Numbers.{number_at};
 
-use crate::pages::{PAGE, add_to, are_same, cell_at, cell_count, page_count, with_room};
+use crate::pages::{PAGE, add_to, are_same, cell_at, cell_count, held_from, page_count, with_room};
 use mgn_num::Quantity;
 use std::alloc::{AllocError, Global};
 use std::marker::Model;
@@ -149,15 +149,29 @@ impl Nets {
     {
         let mut contract = from;
         while contract < self.len() {
-            if self.starts[contract / PAGE] == 0 {
-                contract = (contract / PAGE + 1) * PAGE;
-            } else if self.at(contract) == Quantity::ZERO {
-                contract += 1;
-            } else {
-                return Some(contract);
+            let page = contract / PAGE;
+            if let Some(place) = self.held_in(page, contract % PAGE) {
+                return Some(page * PAGE + place);
             }
+            contract = (page + 1) * PAGE;
         }
         None
+    }
+
+    // The first place of a page from one on with a quantity that is not 0.
+    fn held_in(&self, page: usize, from: usize) -> Option<usize>
+        requires { page * 16 < length self.now }
+        ensures found { IfSome result (λ place. (from ≤ place) × (place < 16) × (page * 16 + place < length self.now)) }
+        ensures held { IfSome result (λ place. value_at self.now (page * 16 + place) ≢ pos 0) }
+        ensures before { IfSome result (λ place. (i : ℕ) → from ≤ i → i < place → value_at self.now (page * 16 + i) ≡ pos 0) }
+        ensures none { result ≡ None → (i : ℕ) → from ≤ i → i < 16 → value_at self.now (page * 16 + i) ≡ pos 0 }
+        ensures few { page < 256 }
+    {
+        let start = usize::from(self.starts[page]);
+        if start == 0 {
+            return None;
+        }
+        held_from(&self.cells, start, from)
     }
 
     /// The quantity at a place, with another added. One of 0 is not looked for, and has no page kept.

@@ -1,6 +1,6 @@
 //! Quantities in pages of 16: of a margin unit that holds some contracts of a set, the pages of these alone are kept.
 
-ghost use Rattle.std.specs.Prelude.{◌≡◌, ◌≢◌, ◌<◌, ◌≤◌, ◌+◌, ◌*◌, ◌/◌, ◌++◌, ◌+ℤ◌, ◌↔◌, ℕ, IfOk, IsTrue, length, pos, replicate, slice_index, slice_set};
+ghost use Rattle.std.specs.Prelude.{◌≡◌, ◌≢◌, ◌<◌, ◌≤◌, ◌+◌, ◌*◌, ◌/◌, ◌++◌, ◌+ℤ◌, ◌↔◌, ℕ, IfOk, IfSome, IsTrue, None, length, pos, replicate, slice_index, slice_set};
 ghost use Rattle.std.specs.Int.{div_ceil};
 ghost use Rattle.std.specs.Vec.{vec_capacity};
 ghost use Rattle.mgn_num.specs.Amount.{IsQuantity};
@@ -102,6 +102,22 @@ pub(crate) fn add_to(
     keep(starts, cells, contract / PAGE);
     let place = usize::from(starts[contract / PAGE]) + contract % PAGE;
     cells[place] = cells[place].plus(quantity);
+}
+
+// The first place of a page from one on with a quantity that is not 0.
+pub(crate) fn held_from(cells: &[Quantity], start: usize, from: usize) -> Option<usize>
+    requires inside { start + 16 ≤ length cells.now }
+    ensures found { IfSome result (λ place. (from ≤ place) × (place < 16)) }
+    ensures held { IfSome result (λ place. value_at cells.now (start + place) ≢ pos 0) }
+    ensures before { IfSome result (λ place. (i : ℕ) → from ≤ i → i < place → value_at cells.now (start + i) ≡ pos 0) }
+    ensures none { result ≡ None → (i : ℕ) → from ≤ i → i < 16 → value_at cells.now (start + i) ≡ pos 0 }
+{
+    for place in from..PAGE {
+        if cells[start + place] != Quantity::ZERO {
+            return Some(place);
+        }
+    }
+    None
 }
 
 // Whether a page is the same in both.

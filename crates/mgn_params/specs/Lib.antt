@@ -4,3 +4,4 @@ pub mod Limits
 pub mod CommodityRows
 pub mod Inside
 pub mod Shelves
+pub mod Marked

@@ -8,7 +8,7 @@ ghost use Rattle.mgn_span.specs.Words.{totals_of};
 
 use mgn_nets::Nets;
 use mgn_num::{Cents, Quantity};
-use mgn_params::rows::{fill, filled};
+use mgn_params::rows::{fill_marked, filled};
 use mgn_params::{ParamSet, Work};
 use mgn_span::Total;
 use mgn_span::scan::{
@@ -24,6 +24,8 @@ use std::marker::Model;
 #[derive(Drop)]
 pub struct ScanTotals {
     rows: Vec<[Total; 16]>,
+    // The commodities whose totals were written to: those of the others are 0.
+    written: Vec<bool>,
 }
 
 impl Model for ScanTotals {
@@ -32,6 +34,11 @@ impl Model for ScanTotals {
     ghost Value = { List (List ℤ) };
 
     ghost view = { λ t. t.rows.items };
+
+    ghost use Rattle.mgn_params.specs.Marked.{IsElse};
+    ghost use Rattle.mgn_scan.specs.Totals.{no_totals};
+
+    ghost invariant = { λ t. IsElse no_totals t.rows.items t.written.items };
 }
 
 impl ScanTotals {
@@ -40,7 +47,8 @@ impl ScanTotals {
         ensures { IfOk result (AreTotals set.now (replicate (length set.now.contracts) (pos 0))) }
     {
         let rows = filled(alloc, set.commodity_count(), [Total::ZERO; 16])?;
-        Ok(ScanTotals { rows })
+        let written = filled(alloc, set.commodity_count(), false)?;
+        Ok(ScanTotals { rows, written })
     }
 
     /// Whether there is one row for each commodity of a set.
@@ -55,7 +63,7 @@ impl ScanTotals {
         ensures { (set : Tables) → length self.old ≡ length set.commodities →
             AreTotals set (replicate (length set.contracts) (pos 0)) self.new }
     {
-        fill(&mut self.rows, [Total::ZERO; 16]);
+        fill_marked(&mut self.rows, &mut self.written, [Total::ZERO; 16]);
     }
 
     /// Follows a change of one net: a quantity more of the contract at `i`, bought above 0 and sold below.
@@ -77,7 +85,9 @@ impl ScanTotals {
         ensures counted { work.new ≡ min (work.old + 1) (2 ^ 64 - 1) }
     {
         set.limits();
-        let row = &mut self.rows[set.contract_at(i).commodity];
+        let commodity = set.contract_at(i).commodity;
+        self.written[commodity] = true;
+        let row = &mut self.rows[commodity];
         add_scaled(row, set.array(i, work), quantity);
     }
 
@@ -87,6 +97,7 @@ impl ScanTotals {
         ensures { self.new ≡ others.now }
     {
         self.rows.copy_from_slice(&others.rows);
+        self.written.copy_from_slice(&others.written);
     }
 
     // The totals of a commodity.

@@ -9,7 +9,7 @@ use crate::rows::move_delta;
 use crate::run::StageRun;
 use mgn_num::{Cents, TenThousandths};
 use mgn_params::ParamSet;
-use mgn_params::rows::{fill, filled};
+use mgn_params::rows::{fill, fill_marked, filled};
 use mgn_span::{Delta, delta_at};
 use std::alloc::{AllocError, Global};
 use std::marker::Model;
@@ -25,6 +25,8 @@ pub struct TierStages {
     deltas: Vec<Delta>,
     net_deltas: Vec<Delta>,
     runs: Vec<StageRun>,
+    // The commodities whose runs were written to: those of the others start with nothing.
+    written: Vec<bool>,
 }
 
 impl Model for TierStages {
@@ -35,6 +37,11 @@ impl Model for TierStages {
     ghost use Rattle.mgn_tiers.specs.TierRows.{tiers_of};
 
     ghost view = { tiers_of };
+
+    ghost use Rattle.mgn_params.specs.Marked.{IsElse};
+    ghost use Rattle.mgn_tiers.specs.Tiers.{no_run};
+
+    ghost invariant = { λ t. IsElse no_run t.runs.items t.written.items };
 }
 
 impl TierStages {
@@ -47,6 +54,7 @@ impl TierStages {
             deltas: filled(alloc, set.month_count(), Delta::ZERO)?,
             net_deltas: filled(alloc, set.commodity_count(), Delta::ZERO)?,
             runs: filled(alloc, set.commodity_count(), StageRun::NOTHING)?,
+            written: filled(alloc, set.commodity_count(), false)?,
         })
     }
 
@@ -67,7 +75,7 @@ impl TierStages {
     {
         fill(&mut self.deltas, Delta::ZERO);
         fill(&mut self.net_deltas, Delta::ZERO);
-        fill(&mut self.runs, StageRun::NOTHING);
+        fill_marked(&mut self.runs, &mut self.written, StageRun::NOTHING);
     }
 
     /// Adds to the delta of the month at a place, in ten-thousandths. The stages of its commodity are formed again
@@ -87,6 +95,7 @@ impl TierStages {
         let net = delta_at(&self.net_deltas, place.commodity).plus(delta);
         self.deltas[month] = new;
         self.net_deltas[place.commodity] = net;
+        self.written[place.commodity] = true;
         move_delta(&mut self.runs[place.commodity], set, place, old, new);
     }
 
@@ -98,6 +107,7 @@ impl TierStages {
         self.deltas.copy_from_slice(&others.deltas);
         self.net_deltas.copy_from_slice(&others.net_deltas);
         self.runs.copy_from_slice(&others.runs);
+        self.written.copy_from_slice(&others.written);
     }
 
     /// The delta of the month at a place, in ten-thousandths: what the changes so far add up to.

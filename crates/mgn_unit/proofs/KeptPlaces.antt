@@ -6,11 +6,10 @@ use Rattle.std.proofs.lemmas.List.{length-map}
 use Rattle.mgn_params.specs.declared.tables.Contract.{Contract}
 use Rattle.mgn_params.specs.Limits.{contract_names}
 use Rattle.mgn_params.specs.Tables.{Tables}
-use Rattle.mgn_unit.specs.declared.amounts.Amounts.{Amounts}
-use Rattle.mgn_unit.specs.declared.amounts.UnitAmounts.{UnitAmounts}
 use Rattle.mgn_unit.specs.declared.row.PortfolioRow.{PortfolioRow}
+use Rattle.mgn_unit.specs.declared.row.Priced.{Priced}
 use Rattle.mgn_unit.specs.declared.row.Row.{Row}
-use Rattle.mgn_unit.specs.Amounts.{KeepsPlaces, portfolio_with_amounts, row_with_amounts}
+use Rattle.mgn_unit.specs.Amounts.{AreRequired, KeepsPlaces, amounts_with, portfolio_with_amounts, row_with_amounts}
 use Rattle.mgn_unit.specs.NewSets.{AreWorths, IsRequired, carried, places_in, portfolio_under, row_under}
 use Rattle.mgn_unit.specs.Prepared.{IsCopied}
 use Rattle.mgn_unit.specs.Rows.{IsPortfolioRow, IsRow, priced, row_with_worth}
@@ -34,45 +33,38 @@ pub kept-required : (old new : Tables) (nets ready : List ℤ) (r : ℤ) → Kee
 kept-required old new nets ready r keeps long is are =
     subst (λ (xs : List ℤ). IsRequired new xs r) (is ∙ kept-carried old new nets keeps long) are
 
--- the amounts of a portfolio, with an amount more in worth and what its nets require
-abbrev pub AreNew : Tables → ℤ → PortfolioRow → ℤ → Amounts → Type 0
-AreNew new gain side r amounts =
-    (amounts ≡ record { worth = side.worth +ℤ gain; requirement = r }) × IsRequired new side.nets r
-
-portfolio-under : (old new : Tables) (gain r : ℤ) (side : PortfolioRow) (amounts : Amounts) → KeepsPlaces old new → length side.nets ≡ length old.contracts → AreNew new gain side r amounts → portfolio_with_amounts amounts side ≡ portfolio_under old new gain side
-portfolio-under old new gain r side amounts keeps long are =
-    ap (λ (x : Amounts). portfolio_with_amounts x side) (are.0 ∙ ap (λ (z : ℤ). record { worth = side.worth +ℤ gain; requirement = z }) are.1.is)
+portfolio-under : (old new : Tables) (gain r : ℤ) (side : PortfolioRow) → KeepsPlaces old new → length side.nets ≡ length old.contracts → IsRequired new side.nets r
+    → portfolio_with_amounts record { worth = side.worth +ℤ gain; requirement = r } side ≡ portfolio_under old new gain side
+portfolio-under old new gain r side keeps long are =
+    ap (λ (z : ℤ). portfolio_with_amounts record { worth = side.worth +ℤ gain; requirement = z } side) are.is
     ∙ ap (λ (nets : List ℤ). priced new nets (side.worth +ℤ gain)) (sym (kept-carried old new side.nets keeps long))
 
-portfolio-within : (old new : Tables) (gain r : ℤ) (side : PortfolioRow) (amounts : Amounts) → KeepsPlaces old new → IsPortfolioRow old side → unsigned_abs (side.worth +ℤ gain) ≤ 10 ^ 24 → AreNew new gain side r amounts → IsPortfolioRow new (portfolio_with_amounts amounts side)
-portfolio-within old new gain r side amounts keeps inside worth are = record {
+portfolio-within : (old new : Tables) (gain r : ℤ) (side : PortfolioRow) → KeepsPlaces old new → IsPortfolioRow old side → unsigned_abs (side.worth +ℤ gain) ≤ 10 ^ 24 → IsRequired new side.nets r
+    → IsPortfolioRow new (portfolio_with_amounts record { worth = side.worth +ℤ gain; requirement = r } side)
+portfolio-within old new gain r side keeps inside worth are = record {
   one_each = inside.one_each ∙ kept-length old new keeps;
   nets = inside.nets;
-  worth = subst (λ (x : Amounts). unsigned_abs x.worth ≤ 10 ^ 24) (sym are.0) worth;
-  requirement = subst (λ (x : Amounts). unsigned_abs x.requirement ≤ 10 ^ 30) (sym are.0) are.1.small;
+  worth = worth;
+  requirement = are.small;
 }
 
 -- the row with the amounts of its portfolios is that under the new set
-pub row-under_kept : (old new : Tables) (gain : ℤ) (row : Row) (it : UnitAmounts) (lots buys sales all : ℤ) → KeepsPlaces old new → IsRow old row
-    → AreNew new gain row.lots lots it.lots → AreNew new gain row.buys buys it.buys → AreNew new gain row.sales sales it.sales → AreNew new gain row.all all it.all
-    → row_with_amounts it row ≡ row_under old new gain row
-row-under_kept old new gain row it lots buys sales all keeps inside l b s a = λ i. record {
+pub row-under_kept : (old new : Tables) (gain : ℤ) (row : Row) (priced : Priced) → KeepsPlaces old new → IsRow old row → AreRequired new row priced → row_with_amounts (amounts_with gain priced row) row ≡ row_under old new gain row
+row-under_kept old new gain row priced keeps inside are = λ i. record {
   sizes = sym (kept-carried old new row.sizes keeps inside.one_each) i;
-  lots = portfolio-under old new gain lots row.lots it.lots keeps inside.lots.one_each l i;
-  buys = portfolio-under old new gain buys row.buys it.buys keeps inside.buys.one_each b i;
-  sales = portfolio-under old new gain sales row.sales it.sales keeps inside.sales.one_each s i;
-  all = portfolio-under old new gain all row.all it.all keeps inside.all.one_each a i;
+  lots = portfolio-under old new gain priced.lots row.lots keeps inside.lots.one_each are.lots i;
+  buys = portfolio-under old new gain priced.buys row.buys keeps inside.buys.one_each are.buys i;
+  sales = portfolio-under old new gain priced.sales row.sales keeps inside.sales.one_each are.sales i;
+  all = portfolio-under old new gain priced.all row.all keeps inside.all.one_each are.all i;
 }
 
 -- and within the limits
-pub row-within_kept : (old new : Tables) (gain : ℤ) (row : Row) (it : UnitAmounts) (lots buys sales all : ℤ) → KeepsPlaces old new → IsRow old row → AreWorths (row_with_worth gain row)
-    → AreNew new gain row.lots lots it.lots → AreNew new gain row.buys buys it.buys → AreNew new gain row.sales sales it.sales → AreNew new gain row.all all it.all
-    → IsRow new (row_with_amounts it row)
-row-within_kept old new gain row it lots buys sales all keeps inside worths l b s a = record {
+pub row-within_kept : (old new : Tables) (gain : ℤ) (row : Row) (priced : Priced) → KeepsPlaces old new → IsRow old row → AreWorths (row_with_worth gain row) → AreRequired new row priced → IsRow new (row_with_amounts (amounts_with gain priced row) row)
+row-within_kept old new gain row priced keeps inside worths are = record {
   one_each = inside.one_each ∙ kept-length old new keeps;
   sizes = inside.sizes;
-  lots = portfolio-within old new gain lots row.lots it.lots keeps inside.lots worths.lots l;
-  buys = portfolio-within old new gain buys row.buys it.buys keeps inside.buys worths.buys b;
-  sales = portfolio-within old new gain sales row.sales it.sales keeps inside.sales worths.sales s;
-  all = portfolio-within old new gain all row.all it.all keeps inside.all worths.all a;
+  lots = portfolio-within old new gain priced.lots row.lots keeps inside.lots worths.lots are.lots;
+  buys = portfolio-within old new gain priced.buys row.buys keeps inside.buys worths.buys are.buys;
+  sales = portfolio-within old new gain priced.sales row.sales keeps inside.sales worths.sales are.sales;
+  all = portfolio-within old new gain priced.all row.all keeps inside.all worths.all are.all;
 }

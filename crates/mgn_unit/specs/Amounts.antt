@@ -1,13 +1,14 @@
 -- Rows of margin units under another set in which each contract keeps its place: nets and sizes stay, amounts are new.
-use Rattle.std.specs.Prelude.{ℕ, ◌≡◌, ◌<◌, pos, List, length, slice_index_or}
+use Rattle.std.specs.Prelude.{ℕ, ◌≡◌, ◌<◌, ℤ, pos, ◌+ℤ◌, List, length, slice_index_or}
 use Rattle.mgn_params.specs.Tables.{Tables}
 use Rattle.mgn_unit.specs.declared.amounts.Amounts.{Amounts}
 use Rattle.mgn_unit.specs.declared.amounts.UnitAmounts.{UnitAmounts}
 use Rattle.mgn_unit.specs.declared.amounts.NewRows.{NewRows}
 use Rattle.mgn_unit.specs.declared.amounts.NewRows.TheVariants.{Kept, Moved}
 use Rattle.mgn_unit.specs.declared.row.PortfolioRow.{PortfolioRow}
+use Rattle.mgn_unit.specs.declared.row.Priced.{Priced}
 use Rattle.mgn_unit.specs.declared.row.Row.{Row}
-use Rattle.mgn_unit.specs.NewSets.{own_places, places_in}
+use Rattle.mgn_unit.specs.NewSets.{IsRequired, own_places, places_in}
 
 -- each contract of the old set has its own place in the new one, which has no other
 abbrev pub KeepsPlaces : Tables → Tables → Type 0
@@ -25,6 +26,22 @@ row_with_amounts amounts row = record {
   buys = portfolio_with_amounts amounts.buys row.buys;
   sales = portfolio_with_amounts amounts.sales row.sales;
   all = portfolio_with_amounts amounts.all row.all;
+}
+
+-- what each portfolio of a row requires under a set
+pub record AreRequired (set : Tables) (row : Row) (priced : Priced) : Type 0 where
+  pub lots : IsRequired set row.lots.nets priced.lots
+  pub buys : IsRequired set row.buys.nets priced.buys
+  pub sales : IsRequired set row.sales.nets priced.sales
+  pub all : IsRequired set row.all.nets priced.all
+
+-- the amounts of a row with an amount more in worth, and with these requirements
+abbrev pub amounts_with : ℤ → Priced → Row → UnitAmounts
+amounts_with gain priced row = record {
+  lots = record { worth = row.lots.worth +ℤ gain; requirement = priced.lots };
+  buys = record { worth = row.buys.worth +ℤ gain; requirement = priced.buys };
+  sales = record { worth = row.sales.worth +ℤ gain; requirement = priced.sales };
+  all = record { worth = row.all.worth +ℤ gain; requirement = priced.all };
 }
 
 -- stand for those of a unit past the end of a list

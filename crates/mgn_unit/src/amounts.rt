@@ -1,7 +1,7 @@
 //! What changes of a unit under another set where each contract keeps its place: worths and requirements alone.
 
 ghost use Rattle.std.specs.Prelude.{◌≡◌, ◌≤◌, ◌^◌, ◌+ℤ◌, ◌↔◌, IfOk, IfSome, IsSome, IsTrue, unsigned_abs};
-ghost use Rattle.mgn_unit.specs.Amounts.{KeepsPlaces, portfolio_with_amounts, row_with_amounts};
+ghost use Rattle.mgn_unit.specs.Amounts.{AreRequired, KeepsPlaces, amounts_with, portfolio_with_amounts, row_with_amounts};
 ghost use Rattle.mgn_unit.specs.NewSets.{AreWorths, IsPrepared, IsPreparedPortfolio, IsRequired, carried, row_under};
 ghost use Rattle.mgn_unit.specs.Prepared.{AreCarried, IsCopied, copied};
 ghost use Rattle.mgn_unit.specs.Rows.{IsPortfolioRow, IsRow, row_with_worth};
@@ -65,55 +65,56 @@ fn prepared_requirement(
     None
 }
 
-// What nets that keep their places require under the new set of a switch. What was prepared is taken where it was for these.
-fn required_by(
-    alloc: Global,
-    switch: &Switch,
-    nets: &Nets,
-    prepared: &PreparedPortfolio,
-    is_current: bool,
-    work: &mut Work,
-) -> Result<Cents, AllocError>
-    requires nets { IsCopied switch.now.old nets.now }
-    requires keeps { KeepsPlaces switch.now.old switch.now.new }
-    requires prepared { IsPreparedPortfolio switch.now.new prepared.now }
-    requires current { IsTrue is_current → prepared.now.nets ≡ carried switch.now.old switch.now.new nets.now }
-    ensures required { IfOk result (IsRequired switch.now.new nets.now) }
-    ensures idle { prepared.now.nets ≡ carried switch.now.old switch.now.new nets.now → work.new ≡ work.old }
-{
-    match prepared_requirement(switch, nets, prepared, is_current) {
-        Some(requirement) => Ok(requirement),
-        None => required(alloc, switch.new_set(), nets, work),
-    }
-}
-
-// The same beside other nets, for which it was worked out already.
-fn required_by_beside(
-    alloc: Global,
-    switch: &Switch,
-    nets: &Nets,
-    prepared: &PreparedPortfolio,
-    is_current: bool,
-    other: &Nets,
-    known: Cents,
-    work: &mut Work,
-) -> Result<Cents, AllocError>
-    requires nets { IsCopied switch.now.old nets.now }
-    requires keeps { KeepsPlaces switch.now.old switch.now.new }
-    requires prepared { IsPreparedPortfolio switch.now.new prepared.now }
-    requires current { IsTrue is_current → prepared.now.nets ≡ carried switch.now.old switch.now.new nets.now }
-    requires other { IsRequired switch.now.new other.now known }
-    ensures required { IfOk result (IsRequired switch.now.new nets.now) }
-    ensures idle { prepared.now.nets ≡ carried switch.now.old switch.now.new nets.now → work.new ≡ work.old }
-    ensures alike { other.now ≡ nets.now → work.new ≡ work.old }
-{
-    match prepared_requirement(switch, nets, prepared, is_current) {
-        Some(requirement) => Ok(requirement),
-        None => required_beside(alloc, switch.new_set(), nets, other, known, work),
-    }
-}
-
 impl PortfolioRow {
+    // What the portfolio requires under the new set of a switch in which each contract keeps its place. What was prepared is
+    // taken where it was for its nets.
+    fn required_by(
+        &self,
+        alloc: Global,
+        switch: &Switch,
+        prepared: &PreparedPortfolio,
+        is_current: bool,
+        work: &mut Work,
+    ) -> Result<Cents, AllocError>
+        requires nets { IsCopied switch.now.old self.now.nets }
+        requires keeps { KeepsPlaces switch.now.old switch.now.new }
+        requires prepared { IsPreparedPortfolio switch.now.new prepared.now }
+        requires current { IsTrue is_current → prepared.now.nets ≡ carried switch.now.old switch.now.new self.now.nets }
+        ensures required { IfOk result (IsRequired switch.now.new self.now.nets) }
+        ensures idle { prepared.now.nets ≡ carried switch.now.old switch.now.new self.now.nets → work.new ≡ work.old }
+    {
+        match prepared_requirement(switch, &self.nets, prepared, is_current) {
+            Some(requirement) => Ok(requirement),
+            None => required(alloc, switch.new_set(), &self.nets, work),
+        }
+    }
+
+    // The same beside other nets, for which it was worked out already.
+    fn required_by_beside(
+        &self,
+        alloc: Global,
+        switch: &Switch,
+        prepared: &PreparedPortfolio,
+        is_current: bool,
+        other: &Nets,
+        known: Cents,
+        work: &mut Work,
+    ) -> Result<Cents, AllocError>
+        requires nets { IsCopied switch.now.old self.now.nets }
+        requires keeps { KeepsPlaces switch.now.old switch.now.new }
+        requires prepared { IsPreparedPortfolio switch.now.new prepared.now }
+        requires current { IsTrue is_current → prepared.now.nets ≡ carried switch.now.old switch.now.new self.now.nets }
+        requires other { IsRequired switch.now.new other.now known }
+        ensures required { IfOk result (IsRequired switch.now.new self.now.nets) }
+        ensures idle { prepared.now.nets ≡ carried switch.now.old switch.now.new self.now.nets → work.new ≡ work.old }
+        ensures alike { other.now ≡ self.now.nets → work.new ≡ work.old }
+    {
+        match prepared_requirement(switch, &self.nets, prepared, is_current) {
+            Some(requirement) => Ok(requirement),
+            None => required_beside(alloc, switch.new_set(), &self.nets, other, known, work),
+        }
+    }
+
     // The amounts with an amount more in worth, and another requirement.
     fn amounts(&self, gain: Cents, requirement: Cents) -> Amounts
         requires { unsigned_abs (self.now.worth +ℤ gain) ≤ 10 ^ 24 }
@@ -137,10 +138,7 @@ impl Row {
     // The amounts of the portfolios with an amount more in worth, and these requirements.
     fn amounts(&self, gain: Cents, priced: &Priced) -> UnitAmounts
         requires { AreWorths (row_with_worth gain self.now) }
-        ensures lots { result.lots ≡ record { worth = self.now.lots.worth +ℤ gain; requirement = priced.now.lots } }
-        ensures buys { result.buys ≡ record { worth = self.now.buys.worth +ℤ gain; requirement = priced.now.buys } }
-        ensures sales { result.sales ≡ record { worth = self.now.sales.worth +ℤ gain; requirement = priced.now.sales } }
-        ensures all { result.all ≡ record { worth = self.now.all.worth +ℤ gain; requirement = priced.now.all } }
+        ensures { result ≡ amounts_with gain priced.now self.now }
     {
         UnitAmounts {
             lots: self.lots.amounts(gain, priced.lots),
@@ -148,6 +146,86 @@ impl Row {
             sales: self.sales.amounts(gain, priced.sales),
             all: self.all.amounts(gain, priced.all),
         }
+    }
+
+    // What the portfolios require under the new set of a switch in which each contract keeps its place.
+    fn requirements_under(
+        &self,
+        alloc: Global,
+        switch: &Switch,
+        work: &mut Work,
+    ) -> Result<Priced, AllocError>
+        requires row { IsRow switch.now.old self.now }
+        requires keeps { KeepsPlaces switch.now.old switch.now.new }
+        ensures { IfOk result (AreRequired switch.now.new self.now) }
+    {
+        let set = switch.new_set();
+        let first = &self.lots.nets;
+        let lots = required(alloc, set, first, work)?;
+        let buys = required_beside(alloc, set, &self.buys.nets, first, lots, work)?;
+        let sales = required_beside(alloc, set, &self.sales.nets, first, lots, work)?;
+        let all = required_beside(alloc, set, &self.all.nets, first, lots, work)?;
+        Ok(Priced {
+            lots,
+            buys,
+            sales,
+            all,
+        })
+    }
+
+    // The same by what was prepared of the unit.
+    fn requirements_by(
+        &self,
+        alloc: Global,
+        switch: &Switch,
+        prepared: &PreparedUnit,
+        is_current: bool,
+        work: &mut Work,
+    ) -> Result<Priced, AllocError>
+        requires row { IsRow switch.now.old self.now }
+        requires keeps { KeepsPlaces switch.now.old switch.now.new }
+        requires prepared { IsPrepared switch.now.new prepared.now }
+        requires current { IsTrue is_current → AreCarried switch.now.old switch.now.new (copied self.now) prepared.now }
+        ensures required { IfOk result (AreRequired switch.now.new self.now) }
+        ensures idle { AreCarried switch.now.old switch.now.new (copied self.now) prepared.now → work.new ≡ work.old }
+    {
+        let first = &self.lots.nets;
+        let lots = self
+            .lots
+            .required_by(alloc, switch, &prepared.lots, is_current, work)?;
+        let buys = self.buys.required_by_beside(
+            alloc,
+            switch,
+            &prepared.buys,
+            is_current,
+            first,
+            lots,
+            work,
+        )?;
+        let sales = self.sales.required_by_beside(
+            alloc,
+            switch,
+            &prepared.sales,
+            is_current,
+            first,
+            lots,
+            work,
+        )?;
+        let all = self.all.required_by_beside(
+            alloc,
+            switch,
+            &prepared.all,
+            is_current,
+            first,
+            lots,
+            work,
+        )?;
+        Ok(Priced {
+            lots,
+            buys,
+            sales,
+            all,
+        })
     }
 
     /// The amounts of the unit under the new set of a switch in which each contract keeps its place, `gain` being how much
@@ -165,21 +243,8 @@ impl Row {
         ensures row { IfOk result (λ it. row_with_amounts it self.now ≡ row_under switch.now.old switch.now.new gain self.now) }
         ensures limits { IfOk result (λ it. IsRow switch.now.new (row_with_amounts it self.now)) }
     {
-        let set = switch.new_set();
-        let first = &self.lots.nets;
-        let lots = required(alloc, set, first, work)?;
-        let buys = required_beside(alloc, set, &self.buys.nets, first, lots, work)?;
-        let sales = required_beside(alloc, set, &self.sales.nets, first, lots, work)?;
-        let all = required_beside(alloc, set, &self.all.nets, first, lots, work)?;
-        Ok(self.amounts(
-            gain,
-            &Priced {
-                lots,
-                buys,
-                sales,
-                all,
-            },
-        ))
+        let priced = self.requirements_under(alloc, switch, work)?;
+        Ok(self.amounts(gain, &priced))
     }
 
     /// The same by what was prepared of the unit: requirements that were prepared are taken where its nets are still the
@@ -202,47 +267,8 @@ impl Row {
         ensures limits { IfOk result (λ it. IsRow switch.now.new (row_with_amounts it self.now)) }
         ensures idle { AreCarried switch.now.old switch.now.new (copied self.now) prepared.now → work.new ≡ work.old }
     {
-        let first = &self.lots.nets;
-        let lots = required_by(alloc, switch, first, &prepared.lots, is_current, work)?;
-        let buys = required_by_beside(
-            alloc,
-            switch,
-            &self.buys.nets,
-            &prepared.buys,
-            is_current,
-            first,
-            lots,
-            work,
-        )?;
-        let sales = required_by_beside(
-            alloc,
-            switch,
-            &self.sales.nets,
-            &prepared.sales,
-            is_current,
-            first,
-            lots,
-            work,
-        )?;
-        let all = required_by_beside(
-            alloc,
-            switch,
-            &self.all.nets,
-            &prepared.all,
-            is_current,
-            first,
-            lots,
-            work,
-        )?;
-        Ok(self.amounts(
-            gain,
-            &Priced {
-                lots,
-                buys,
-                sales,
-                all,
-            },
-        ))
+        let priced = self.requirements_by(alloc, switch, prepared, is_current, work)?;
+        Ok(self.amounts(gain, &priced))
     }
 
     /// The row with these amounts in place of its own.

@@ -1,35 +1,34 @@
-use Rattle.std.proofs.Common.{◌≡◌, ◌/◌, ◌<◌, ◌≤◌, arith, get_or, length, rules, vec_len, ⊎_elim}
+use Rattle.std.proofs.Common.{◌≡◌, ◌+◌, ◌-◌, ◌*◌, ◌/◌, ◌%◌, ◌<◌, ◌≤◌, ◌∙◌, ℕ, ap, arith, pos, refl, sym, ⊎_elim}
 use Rattle.std.proofs.lemmas.Bool.{cases_lt}
-use Rattle.std.proofs.lemmas.Grind.{get_or_default_zero}
-use Rattle.mgn_nets.proofs.Paged.{closed-rest, page-inside, page-to, row-within}
+use Rattle.std.proofs.lemmas.Nat.{div-add-mod'}
+use Rattle.mgn_span.specs.Scan.{value_at}
 use Rattle.mgn_nets.proofs.nets.Nets.next_held.Goals as goal
 
-pub index-requires : goal.index-requires
-index-requires c =
-    let inside : c.loop-contract.contract < length c.args.self.now = omega (arith, c.loop-contract-test.true, c.len.ensures) in
-    let within = row-within c.self.inside.count c.self.inside.starts.items c.self.inside.cells.items c.args.self.now c.self.view_is c.loop-contract.contract inside in
-    let page = page-inside c.self.inside.count c.self.inside.starts.items c.self.invariant.pages c.loop-contract.contract within in
-    let long : vec_len c.self.inside.starts ≡ length c.self.inside.starts.items = search rules in
-    omega (arith, page, long)
+pub returns-in-Some-clause-before : goal.returns-in-Some-clause-before
+returns-in-Some-clause-before c = λ k from less.
+    let at = c.loop-contract.contract in
+    ⊎_elim
+    (λ (before : k < at). c.loop-contract.invariant.passed k from before)
+    (λ (after : at ≤ k).
+    let here : (at / 16) * 16 + (k - (at / 16) * 16) ≡ k = omega (arith, after, div-add-mod' at 16) in
+    sym (ap (value_at c.args.self.now) here)
+    ∙ c.in-Some.ensures.before (k - (at / 16) * 16) (omega (arith, after, div-add-mod' at 16)) (omega (arith, after, less, div-add-mod' at 16)))
+    (cases_lt k at)
 
 pub overflow_mul-contract : goal.overflow_mul-contract
-overflow_mul-contract c =
-    let inside : c.loop-contract.contract < length c.args.self.now = omega (arith, c.loop-contract-test.true, c.len.ensures) in
-    let within = row-within c.self.inside.count c.self.inside.starts.items c.self.inside.cells.items c.args.self.now c.self.view_is c.loop-contract.contract inside in
-    let page = page-inside c.self.inside.count c.self.inside.starts.items c.self.invariant.pages c.loop-contract.contract within in
-    omega (arith, page, c.self.invariant.few)
+overflow_mul-contract c = omega (arith, c.held_in.ensures.few)
 
-pub loop-contract-preserved-then-index-eq0 : goal.loop-contract-preserved-then-index-eq0
-loop-contract-preserved-then-index-eq0 c = record {
-  from = omega (arith, page-to c.loop-contract.contract, c.loop-contract.invariant.from);
-  passed = λ k from to.
-      ⊎_elim
-      (λ (before : k < c.loop-contract.contract). c.loop-contract.invariant.passed k from before)
-      (λ (after : c.loop-contract.contract ≤ k).
-      let inside : c.loop-contract.contract < length c.args.self.now = omega (arith, c.loop-contract-test.true, c.len.ensures) in
-      let within = row-within c.self.inside.count c.self.inside.starts.items c.self.inside.cells.items c.args.self.now c.self.view_is c.loop-contract.contract inside in
-      let page = page-inside c.self.inside.count c.self.inside.starts.items c.self.invariant.pages c.loop-contract.contract within in
-      let closed : get_or c.self.inside.starts.items (c.loop-contract.contract / 16) 0 ≡ 0 = omega (arith, c.if-index-eq0.true, c.index.ensures, get_or_default_zero c.self.inside.starts.items (c.loop-contract.contract / 16) c.index.result.now page) in
-      closed-rest c.self.inside.count c.self.inside.starts.items c.self.inside.cells.items c.args.self.now _ c.self.view_is c.self.invariant c.loop-contract.contract k closed after to)
-      (cases_lt k c.loop-contract.contract);
-}
+pub loop-contract-preserved : goal.loop-contract-preserved
+loop-contract-preserved c =
+    let at = c.loop-contract.contract in
+    record {
+      from = omega (arith, c.loop-contract.invariant.from, div-add-mod' at 16, c.held_in.ensures.few);
+      passed = λ k from less.
+          ⊎_elim
+          (λ (before : k < at). c.loop-contract.invariant.passed k from before)
+          (λ (after : at ≤ k).
+          let here : (at / 16) * 16 + (k - (at / 16) * 16) ≡ k = omega (arith, after, div-add-mod' at 16) in
+          sym (ap (value_at c.args.self.now) here)
+          ∙ c.in_default.ensures.none refl (k - (at / 16) * 16) (omega (arith, after, div-add-mod' at 16)) (omega (arith, after, less, div-add-mod' at 16)))
+          (cases_lt k at);
+    }

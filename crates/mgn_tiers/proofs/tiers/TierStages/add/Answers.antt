@@ -18,7 +18,7 @@ move_delta-requires-clause-room c =
     let place = c.month_at-place.ensures in
     let limit = c.limits.ensures.months c.args.month no_month c.requires.month in
     let there : c.month_at-place.result.now.commodity < length c.self.inside.runs.items = omega (arith, ap (λ (m : Month). m.commodity) place, limit.commodity, are.one_run_each) in
-    let run = get_or_read c.self.inside.runs.items c.month_at-place.result.now.commodity c.index_mut-3.result.now there c.index_mut-3.ensures.value no_run in
+    let run = get_or_read c.self.inside.runs.items c.month_at-place.result.now.commodity c.index_mut-4.result.now there c.index_mut-4.ensures.value no_run in
     rw (run, place, c.plus-new.ensures, old) (has_room c.args.set.now (tiers_of c.self.inside) c.args.month (value_at c.self.inside.deltas.items c.args.month +ℤ c.args.delta) c.limits.ensures are c.requires.month small)
 
 pub returns-clause-of_set : goal.returns-clause-of_set
@@ -32,7 +32,7 @@ returns-clause-of_set c =
     let net : c.plus-net.result ≡ value_at c.self.inside.net_deltas.items c.month_at-place.result.now.commodity +ℤ c.args.delta = c.plus-net.ensures ∙ ap (λ (x : ℤ). x +ℤ c.args.delta) (c.delta_at.ensures ∙ ap (λ (ds : List ℤ). value_at ds c.month_at-place.result.now.commodity) c.deref-2.ensures.value) in
     let limit = c.limits.ensures.months c.args.month no_month c.requires.month in
     let there : c.month_at-place.result.now.commodity < length c.self.inside.runs.items = omega (arith, ap (λ (m : Month). m.commodity) place, limit.commodity, are.one_run_each) in
-    let run = get_or_read c.self.inside.runs.items c.month_at-place.result.now.commodity c.index_mut-3.result.now there c.index_mut-3.ensures.value no_run in
+    let run = get_or_read c.self.inside.runs.items c.month_at-place.result.now.commodity c.index_mut-4.result.now there c.index_mut-4.ensures.value no_run in
     let run_is = rw (run, old, new, place) at c.move_delta.ensures in
     let net_is = rw place at net in
     rw (new, place) (tiers_moved c.args.set.now t c.args.month c.args.delta c.plus-net.result c.move_delta.new.run c.limits.ensures are c.requires.month small net_is run_is)

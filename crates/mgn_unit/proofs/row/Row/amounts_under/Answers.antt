@@ -1,47 +1,16 @@
-use Rattle.std.proofs.Common.{subst, sym}
-use Rattle.std.specs.Prelude.{ℤ}
-use Rattle.mgn_params.specs.Tables.{Tables}
-use Rattle.mgn_unit.specs.NewSets.{IsRequired}
-use Rattle.mgn_unit.specs.Prepared.{IsCopied}
-use Rattle.mgn_unit.proofs.KeptPlaces.{kept-copied, row-under_kept, row-within_kept}
+use Rattle.std.proofs.Common.{◌∙◌, ap, subst, sym}
+use Rattle.mgn_unit.specs.declared.amounts.UnitAmounts.{UnitAmounts}
+use Rattle.mgn_unit.specs.Amounts.{row_with_amounts}
+use Rattle.mgn_unit.specs.Rows.{IsRow}
+use Rattle.mgn_unit.proofs.KeptPlaces.{row-under_kept, row-within_kept}
 use Rattle.mgn_unit.proofs.row.Row.amounts_under.Goals as goal
-
-pub required-requires : goal.required-requires
-required-requires c =
-    let side = c.args.self.now.lots in
-    subst (λ (set : Tables). IsCopied set side.nets) (sym c.new_set-set.ensures)
-    (kept-copied c.args.switch.now.old c.args.switch.now.new side.nets c.requires.keeps record { one_each = c.requires.row.lots.one_each; small = c.requires.row.lots.nets })
-
-pub required_beside-requires-clause-nets : goal.required_beside-requires-clause-nets
-required_beside-requires-clause-nets c =
-    let side = c.args.self.now.buys in
-    subst (λ (set : Tables). IsCopied set side.nets) (sym c.new_set-set.ensures)
-    (kept-copied c.args.switch.now.old c.args.switch.now.new side.nets c.requires.keeps record { one_each = c.requires.row.buys.one_each; small = c.requires.row.buys.nets })
-
-pub required_beside-requires-2-clause-nets : goal.required_beside-requires-2-clause-nets
-required_beside-requires-2-clause-nets c =
-    let side = c.args.self.now.sales in
-    subst (λ (set : Tables). IsCopied set side.nets) (sym c.new_set-set.ensures)
-    (kept-copied c.args.switch.now.old c.args.switch.now.new side.nets c.requires.keeps record { one_each = c.requires.row.sales.one_each; small = c.requires.row.sales.nets })
-
-pub required_beside-requires-3-clause-nets : goal.required_beside-requires-3-clause-nets
-required_beside-requires-3-clause-nets c =
-    let side = c.args.self.now.all in
-    subst (λ (set : Tables). IsCopied set side.nets) (sym c.new_set-set.ensures)
-    (kept-copied c.args.switch.now.old c.args.switch.now.new side.nets c.requires.keeps record { one_each = c.requires.row.all.one_each; small = c.requires.row.all.nets })
 
 pub returns-clause-row : goal.returns-clause-row
 returns-clause-row c =
-    row-under_kept c.args.switch.now.old c.args.switch.now.new c.args.gain c.args.self.now c.amounts.result c.in_ok-lots.lots c.in_ok-buys.buys c.in_ok-sales.sales c.in_ok-all.all c.requires.keeps c.requires.row
-    (c.amounts.ensures.lots, subst (λ (set : Tables). IsRequired set c.args.self.now.lots.nets c.in_ok-lots.lots) c.new_set-set.ensures c.in_ok-lots.ensures)
-    (c.amounts.ensures.buys, subst (λ (set : Tables). IsRequired set c.args.self.now.buys.nets c.in_ok-buys.buys) c.new_set-set.ensures c.in_ok-buys.ensures.required)
-    (c.amounts.ensures.sales, subst (λ (set : Tables). IsRequired set c.args.self.now.sales.nets c.in_ok-sales.sales) c.new_set-set.ensures c.in_ok-sales.ensures.required)
-    (c.amounts.ensures.all, subst (λ (set : Tables). IsRequired set c.args.self.now.all.nets c.in_ok-all.all) c.new_set-set.ensures c.in_ok-all.ensures.required)
+    ap (λ (it : UnitAmounts). row_with_amounts it c.args.self.now) c.amounts.ensures
+    ∙ row-under_kept c.args.switch.now.old c.args.switch.now.new c.args.gain c.args.self.now c.in_ok-priced.priced c.requires.keeps c.requires.row c.in_ok-priced.ensures
 
 pub returns-clause-limits : goal.returns-clause-limits
 returns-clause-limits c =
-    row-within_kept c.args.switch.now.old c.args.switch.now.new c.args.gain c.args.self.now c.amounts.result c.in_ok-lots.lots c.in_ok-buys.buys c.in_ok-sales.sales c.in_ok-all.all c.requires.keeps c.requires.row c.requires.worths
-    (c.amounts.ensures.lots, subst (λ (set : Tables). IsRequired set c.args.self.now.lots.nets c.in_ok-lots.lots) c.new_set-set.ensures c.in_ok-lots.ensures)
-    (c.amounts.ensures.buys, subst (λ (set : Tables). IsRequired set c.args.self.now.buys.nets c.in_ok-buys.buys) c.new_set-set.ensures c.in_ok-buys.ensures.required)
-    (c.amounts.ensures.sales, subst (λ (set : Tables). IsRequired set c.args.self.now.sales.nets c.in_ok-sales.sales) c.new_set-set.ensures c.in_ok-sales.ensures.required)
-    (c.amounts.ensures.all, subst (λ (set : Tables). IsRequired set c.args.self.now.all.nets c.in_ok-all.all) c.new_set-set.ensures c.in_ok-all.ensures.required)
+    subst (λ (it : UnitAmounts). IsRow c.args.switch.now.new (row_with_amounts it c.args.self.now)) (sym c.amounts.ensures)
+    (row-within_kept c.args.switch.now.old c.args.switch.now.new c.args.gain c.args.self.now c.in_ok-priced.priced c.requires.keeps c.requires.row c.requires.worths c.in_ok-priced.ensures)
