@@ -103,7 +103,8 @@ impl History {
         self.replies.reserve()
     }
 
-    /// Writes the entry of a command for which memory is reserved.
+    /// Writes the entry of a command for which memory is reserved. Where its names are likely to stand among those that the
+    /// history has is looked at first.
     pub fn push(
         &mut self,
         session: SessionNo,

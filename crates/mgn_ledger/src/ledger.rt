@@ -1,5 +1,6 @@
 ghost use Rattle.std.specs.Prelude.{ℕ, ◌≡◌, ◌+◌, ◌<◌, false, true, length, None, IsTrue, IfOk, IfSome};
 ghost use Rattle.mgn_machine.specs.Refusals.{place_of};
+ghost use Rattle.mgn_machine.specs.declared.reply.Refusal.TheVariants.{Broken};
 ghost use Rattle.mgn_machine.specs.declared.reply.Reply.TheVariants.{Refused};
 ghost use Rattle.mgn_machine.specs.declared.request.Request.TheVariants.{Do, Switch};
 ghost use Rattle.mgn_unit.specs.NewSets.{ArePrepared};
@@ -395,6 +396,7 @@ fn closed<'a, T: Image, J: SlotNames>(
     ensures room { result ≡ None → length stamps.now < length J.slots }
     ensures broken { broken.new ≡ false → broken.old ≡ false }
     ensures unplaced { IfSome result (λ why. IsUnplaced (Refused why)) }
+    ensures from_now_on { IfSome result (λ why. why ≡ Broken → broken.new ≡ true) }
 {
     if *broken {
         return Some(Refusal::Broken);
