@@ -278,7 +278,8 @@ impl Register {
         new.limits();
         let switch = Switch::new(alloc, old, new)?;
         let gains = switch.gains(alloc, self.accounts.as_slice(), self.rows.len())?;
-        if switch.keeps_places() {
+        // Lists that were prepared for all units become the rows' own: those before are memory for the next copies.
+        if switch.keeps_places() && prepared.len() < self.rows.len() {
             let amounts = self.amounts_of(alloc, &switch, &gains, prepared, current, work)?;
             return Ok(NewRows::Kept(amounts));
         }
