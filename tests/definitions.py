@@ -21,7 +21,7 @@ import source
 # What the session's contract may stand on: what it did when every command of a session was there, statements too, and
 # since a set's fault names its field, and since a row's nets stand in pages. The aim
 # is 800 without what a set's file says, which is read apart.
-MOST = 1691
+MOST = 1689
 APART = ("mgn_setfile",)
 # What a contract may leave to believe, without what a set's file says, and without comments and types.
 BELIEVED = {"run_script": 800, "mgn_world::run": 1000, "mgn_service::exec": 600, "mgn_service::close": 600}

@@ -3,7 +3,7 @@ ghost use Rattle.mgn_lots.specs.Lots.{IsLot};
 
 use anyhow::{Result, bail};
 use itoa::Buffer;
-use mgn_ids::{ContractName, LotId, LotQuantity};
+use mgn_ids::{ContractName, LotId, LotQuantity, ShortId};
 use mgn_lots::{Lot, Lots, Mark};
 use std::alloc::Global;
 use std::rt::Clock;
@@ -42,7 +42,7 @@ pub fn template() -> Result<Lot>
         bail!("a word was refused");
     };
     Ok(Lot {
-        number,
+        number: ShortId::of_lot(number),
         contract,
         quantity: quantity.quantity(),
         premium: 0,
@@ -100,13 +100,13 @@ fn add_all(lots: &mut Lots, numbers: &[LotId], template: &Lot) -> Result<()>
 {
     for number in numbers {
         let lot = Lot {
-            number: *number,
+            number: ShortId::of_lot(*number),
             contract: template.contract,
             quantity: template.quantity,
             premium: template.premium,
             mark: Mark::Traded,
         };
-        if lots.has(lot.number) || lots.is_full() {
+        if lots.has(lot.number.lot()) || lots.is_full() {
             bail!("a lot was refused");
         }
         lots.add(&lot)?;

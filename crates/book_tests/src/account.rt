@@ -5,7 +5,7 @@ ghost use Rattle.mgn_holds.specs.Holds.{IsHeld};
 
 use mgn_holds::Held;
 use mgn_ids::{
-    AccountName, ClassName, ContractName, IdFault, LotId, LotQuantity, OrderId, Premium,
+    AccountName, ClassName, ContractName, IdFault, LotId, LotQuantity, OrderId, Premium, ShortId,
 };
 use mgn_lots::{Lot, Mark};
 use mgn_params::ParamSet;
@@ -25,7 +25,7 @@ pub(crate) fn lot_of(number: &[u8], quantity: &[u8]) -> Result<Lot, IdFault>
     ensures { IfOk result IsLot }
 {
     Ok(Lot {
-        number: LotId::read(number)?,
+        number: ShortId::of_lot(LotId::read(number)?),
         contract: ContractName::read(b"AAAC")?,
         quantity: LotQuantity::read(quantity)?.quantity(),
         premium: Premium::read(b"60")?.cents(),
@@ -37,7 +37,7 @@ pub(crate) fn lot_of(number: &[u8], quantity: &[u8]) -> Result<Lot, IdFault>
 fn add(account: &mut Account, lot: &Lot) -> Result<(), AllocError>
     requires { IsLot lot.now }
 {
-    if account.has_lot(lot.number) {
+    if account.has_lot(lot.number.lot()) {
         return Ok(());
     }
     if account.is_full() {
@@ -84,7 +84,7 @@ fn fill(account: &mut Account, place: usize, lot: &Lot) -> Result<(), AllocError
     if !account.hold_at(place).covers(lot.quantity) {
         return Ok(());
     }
-    if account.has_lot(lot.number) {
+    if account.has_lot(lot.number.lot()) {
         return Ok(());
     }
     if account.is_full() {
@@ -184,7 +184,7 @@ fn check_fill(
     requires { IsLot lot.now }
 {
     assert_eq!(rt; held_after(account, order, lot)?, 2);
-    assert!(rt; account.has_lot(lot.number));
+    assert!(rt; account.has_lot(lot.number.lot()));
     Ok(())
 }
 

@@ -6,7 +6,9 @@ ghost use Rattle.std.specs.Prelude.{◌<◌};
 
 use crate::sets::{WITH_CONTRACTS, Worked, read_text};
 use beside::{Beside, FourNets, LARGEST_NET};
-use mgn_desk::{Moves, Requirements};
+use mgn_desk::Moves;
+use mgn_nets::Portfolios;
+use mgn_num::Cents;
 use mgn_params::ParamSet;
 use rand::RngExt;
 use rand_pcg::Pcg32;
@@ -66,7 +68,7 @@ fn take_back(
     beside: &mut Beside,
     moves: &Moves,
     old: &FourNets,
-    before: &Requirements,
+    before: &Portfolios<Cents>,
 ) -> Result<(), Fail> {
     beside.take_back(rt, moves, old);
     let after = beside.agree(rt, alloc)?;
@@ -75,7 +77,7 @@ fn take_back(
 }
 
 // Whether the portfolios require different amounts.
-fn are_apart(required: &Requirements) -> bool {
+fn are_apart(required: &Portfolios<Cents>) -> bool {
     required.lots != required.buys && required.sales != required.all
 }
 

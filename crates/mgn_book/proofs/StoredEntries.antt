@@ -39,7 +39,7 @@ longer old new grown = omega (arith, ap length grown.1, length-append old grown.
 
 -- names to which nothing is added
 pub kept-names : (names : NameLists) → KeepsNames names names
-kept-names names = (([], sym (append-nil names.accounts)), ([], sym (append-nil names.contracts)))
+kept-names names = (([], sym (append-nil names.accounts)), (([], sym (append-nil names.contracts)), ([], sym (append-nil names.classes))))
 
 -- what is kept stays so
 kept-grown : (old new : ReplyLists) (reply : StoredReply) → KeepsReplies old new → IsKept old reply → IsKept new reply
@@ -55,15 +55,15 @@ kept-replies replies = (([], sym (append-nil replies.figures)), ([], sym (append
 -- what is named stays so
 pub named-grown : (old new : NameLists) (request : StoredRequest) → KeepsNames old new → IsNamed old request → IsNamed new request
 named-grown old new (stored.NewOrigin origin mode) grown h = h
-named-grown old new (stored.NewAccount account origin) grown h = omega (arith, h, longer old.accounts new.accounts grown.0)
-named-grown old new (stored.Trade account contract quantity premium lot) grown h = (omega (arith, h.0, longer old.accounts new.accounts grown.0), omega (arith, h.1, longer old.contracts new.contracts grown.1))
+named-grown old new (stored.NewAccount origin account) grown h = omega (arith, h, longer old.accounts new.accounts grown.0)
+named-grown old new (stored.Trade lot account contract quantity premium) grown h = (omega (arith, h.0, longer old.accounts new.accounts grown.0), omega (arith, h.1, longer old.contracts new.contracts grown.1.0))
 named-grown old new (stored.Bust account lot) grown h = omega (arith, h, longer old.accounts new.accounts grown.0)
-named-grown old new (stored.Hold account contract quantity limit order) grown h = (omega (arith, h.0, longer old.accounts new.accounts grown.0), omega (arith, h.1, longer old.contracts new.contracts grown.1))
-named-grown old new (stored.Fill account order lot quantity premium) grown h = omega (arith, h, longer old.accounts new.accounts grown.0)
+named-grown old new (stored.Hold order account contract quantity limit) grown h = (omega (arith, h.0, longer old.accounts new.accounts grown.0), omega (arith, h.1, longer old.contracts new.contracts grown.1.0))
+named-grown old new (stored.Fill order lot account quantity premium) grown h = omega (arith, h, longer old.accounts new.accounts grown.0)
 named-grown old new (stored.Release account order) grown h = omega (arith, h, longer old.accounts new.accounts grown.0)
-named-grown old new (stored.Transfer from to contract quantity lot) grown h = (omega (arith, h.0, longer old.accounts new.accounts grown.0), omega (arith, h.1, longer old.accounts new.accounts grown.0), omega (arith, h.2, longer old.contracts new.contracts grown.1))
-named-grown old new (stored.Post class account units) grown h = omega (arith, h, longer old.accounts new.accounts grown.0)
-named-grown old new (stored.Draw class account units) grown h = omega (arith, h, longer old.accounts new.accounts grown.0)
+named-grown old new (stored.Transfer lot from to contract quantity) grown h = (omega (arith, h.0, longer old.accounts new.accounts grown.0), omega (arith, h.1, longer old.accounts new.accounts grown.0), omega (arith, h.2, longer old.contracts new.contracts grown.1.0))
+named-grown old new (stored.Post class account units) grown h = (omega (arith, h.0, longer old.accounts new.accounts grown.0), omega (arith, h.1, longer old.classes new.classes grown.1.1))
+named-grown old new (stored.Draw class account units) grown h = (omega (arith, h.0, longer old.accounts new.accounts grown.0), omega (arith, h.1, longer old.classes new.classes grown.1.1))
 named-grown old new (stored.Ask account) grown h = omega (arith, h, longer old.accounts new.accounts grown.0)
 named-grown old new (stored.Total origin) grown h = h
 named-grown old new (stored.Statement account) grown h = omega (arith, h, longer old.accounts new.accounts grown.0)
@@ -73,23 +73,27 @@ named-grown old new (stored.SetRefused place) grown h = h
 
 recorded_of-grown : (old new : NameLists) (sets more : List Tables) (request : StoredRequest) → KeepsNames old new → IsNamed old request → sets_needed request ≤ length sets → recorded_of new (sets ++ more) request ≡ recorded_of old sets request
 recorded_of-grown old new sets more (stored.NewOrigin origin mode) grown h s = refl
-recorded_of-grown old new sets more (stored.NewAccount account origin) grown h s = ap (λ (a : List ℕ). Asked (command.NewAccount a origin)) (name_at-grown old.accounts new.accounts account grown.0 h)
-recorded_of-grown old new sets more (stored.Trade account contract quantity premium lot) grown h s =
+recorded_of-grown old new sets more (stored.NewAccount origin account) grown h s = ap (λ (a : List ℕ). Asked (command.NewAccount a origin)) (name_at-grown old.accounts new.accounts account grown.0 h)
+recorded_of-grown old new sets more (stored.Trade lot account contract quantity premium) grown h s =
     ap (λ (a : List ℕ). Asked (command.Trade record { account = a; lot = lot; contract = name_at new.contracts contract; quantity = quantity; premium = premium })) (name_at-grown old.accounts new.accounts account grown.0 h.0)
-    ∙ ap (λ (c : List ℕ). Asked (command.Trade record { account = name_at old.accounts account; lot = lot; contract = c; quantity = quantity; premium = premium })) (name_at-grown old.contracts new.contracts contract grown.1 h.1)
+    ∙ ap (λ (c : List ℕ). Asked (command.Trade record { account = name_at old.accounts account; lot = lot; contract = c; quantity = quantity; premium = premium })) (name_at-grown old.contracts new.contracts contract grown.1.0 h.1)
 recorded_of-grown old new sets more (stored.Bust account lot) grown h s = ap (λ (a : List ℕ). Asked (command.Bust a lot)) (name_at-grown old.accounts new.accounts account grown.0 h)
-recorded_of-grown old new sets more (stored.Hold account contract quantity limit order) grown h s =
+recorded_of-grown old new sets more (stored.Hold order account contract quantity limit) grown h s =
     ap (λ (a : List ℕ). Asked (command.Hold record { account = a; order = order; contract = name_at new.contracts contract; quantity = quantity; limit = limit })) (name_at-grown old.accounts new.accounts account grown.0 h.0)
-    ∙ ap (λ (c : List ℕ). Asked (command.Hold record { account = name_at old.accounts account; order = order; contract = c; quantity = quantity; limit = limit })) (name_at-grown old.contracts new.contracts contract grown.1 h.1)
-recorded_of-grown old new sets more (stored.Fill account order lot quantity premium) grown h s =
+    ∙ ap (λ (c : List ℕ). Asked (command.Hold record { account = name_at old.accounts account; order = order; contract = c; quantity = quantity; limit = limit })) (name_at-grown old.contracts new.contracts contract grown.1.0 h.1)
+recorded_of-grown old new sets more (stored.Fill order lot account quantity premium) grown h s =
     ap (λ (a : List ℕ). Asked (command.Fill record { account = a; order = order; lot = lot; quantity = quantity; premium = premium })) (name_at-grown old.accounts new.accounts account grown.0 h)
 recorded_of-grown old new sets more (stored.Release account order) grown h s = ap (λ (a : List ℕ). Asked (command.Release a order)) (name_at-grown old.accounts new.accounts account grown.0 h)
-recorded_of-grown old new sets more (stored.Transfer from to contract quantity lot) grown h s =
+recorded_of-grown old new sets more (stored.Transfer lot from to contract quantity) grown h s =
     ap (λ (a : List ℕ). Asked (command.Transfer record { lot = lot; from = a; to = name_at new.accounts to; contract = name_at new.contracts contract; quantity = quantity })) (name_at-grown old.accounts new.accounts from grown.0 h.0)
     ∙ ap (λ (a : List ℕ). Asked (command.Transfer record { lot = lot; from = name_at old.accounts from; to = a; contract = name_at new.contracts contract; quantity = quantity })) (name_at-grown old.accounts new.accounts to grown.0 h.1)
-    ∙ ap (λ (c : List ℕ). Asked (command.Transfer record { lot = lot; from = name_at old.accounts from; to = name_at old.accounts to; contract = c; quantity = quantity })) (name_at-grown old.contracts new.contracts contract grown.1 h.2)
-recorded_of-grown old new sets more (stored.Post class account units) grown h s = ap (λ (a : List ℕ). Asked (command.Post a class units)) (name_at-grown old.accounts new.accounts account grown.0 h)
-recorded_of-grown old new sets more (stored.Draw class account units) grown h s = ap (λ (a : List ℕ). Asked (command.Draw a class units)) (name_at-grown old.accounts new.accounts account grown.0 h)
+    ∙ ap (λ (c : List ℕ). Asked (command.Transfer record { lot = lot; from = name_at old.accounts from; to = name_at old.accounts to; contract = c; quantity = quantity })) (name_at-grown old.contracts new.contracts contract grown.1.0 h.2)
+recorded_of-grown old new sets more (stored.Post class account units) grown h s =
+    ap (λ (a : List ℕ). Asked (command.Post a (name_at new.classes class) units)) (name_at-grown old.accounts new.accounts account grown.0 h.0)
+    ∙ ap (λ (c : List ℕ). Asked (command.Post (name_at old.accounts account) c units)) (name_at-grown old.classes new.classes class grown.1.1 h.1)
+recorded_of-grown old new sets more (stored.Draw class account units) grown h s =
+    ap (λ (a : List ℕ). Asked (command.Draw a (name_at new.classes class) units)) (name_at-grown old.accounts new.accounts account grown.0 h.0)
+    ∙ ap (λ (c : List ℕ). Asked (command.Draw (name_at old.accounts account) c units)) (name_at-grown old.classes new.classes class grown.1.1 h.1)
 recorded_of-grown old new sets more (stored.Ask account) grown h s = ap (λ (a : List ℕ). Asked (command.Ask a)) (name_at-grown old.accounts new.accounts account grown.0 h)
 recorded_of-grown old new sets more (stored.Total origin) grown h s = refl
 recorded_of-grown old new sets more (stored.Statement account) grown h s = ap (λ (a : List ℕ). Asked (command.Statement a)) (name_at-grown old.accounts new.accounts account grown.0 h)
@@ -131,5 +135,5 @@ pub shown-more : (before after : ReplyLists) (old new : NameLists) (refused othe
 shown-more before after old new refused others entries e shown kept grown longer_sets own few few_names = record {
   each = All-push (IsShown after new others) entries e (λ i d inside. shown-longer before after old new refused others (get_or entries i d) kept grown longer_sets (shown.each i d inside)) own;
   replies_few = (omega (arith, few.0, length-append entries (e ∷ [])), omega (arith, few.1, length-append entries (e ∷ [])));
-  names = (omega (arith, few_names.0, length-append entries (e ∷ [])), omega (arith, few_names.1, length-append entries (e ∷ [])));
+  names = (omega (arith, few_names.0, length-append entries (e ∷ [])), (omega (arith, few_names.1.0, length-append entries (e ∷ [])), omega (arith, few_names.1.1, length-append entries (e ∷ []))));
 }

@@ -1,5 +1,5 @@
 -- The state of the book with the history that made it. The sets are those of a shelf, by version.
-use Rattle.std.specs.Prelude.{ℕ, ◌≡◌, ◌+◌, ◌-◌, ◌<◌, ◌≤◌, ◌==◌, if◌then◌else◌, false, List, [], ◌∷◌, ◌++◌, length, slice_index_or, Option, None, Some}
+use Rattle.std.specs.Prelude.{ℕ, ◌≡◌, ◌+◌, ◌-◌, ◌<◌, ◌≤◌, ◌==◌, if◌then◌else◌, List, [], ◌∷◌, ◌++◌, length, slice_index_or, Option, None, Some}
 use Rattle.std.specs.List.{slice_get}
 use Rattle.std.specs.Option.{option_flatten, option_map}
 use Rattle.mgn_params.specs.Shelves.{set_at}
@@ -12,23 +12,20 @@ use Rattle.mgn_machine.specs.declared.request.Recorded.{Recorded}
 use Rattle.mgn_machine.specs.declared.request.Recorded.TheVariants.{Asked, InForce, SetRefused}
 use Rattle.mgn_machine.specs.declared.request.Request.{Request}
 use Rattle.mgn_machine.specs.declared.request.Request.TheVariants.{Do, Switch}
+use Rattle.mgn_machine.specs.State.{start}
 use Rattle.mgn_machine.specs.Step.{step}
 use Rattle.mgn_machine.specs.History.{calls, entry, recorded, replay, Legal}
 use Rattle.mgn_unit.specs.declared.row.Row.{Row}
 use Rattle.mgn_plan.specs.declared.plans.Plan.{Plan}
 use Rattle.mgn_plan.specs.Plans.{LeavesNets}
-use Rattle.mgn_register.specs.BookStates.{BookState, book_state, IsKept}
+use Rattle.mgn_register.specs.BookStates.{IsKept}
+pub use Rattle.mgn_register.specs.BookStates.{BookView}
 use Rattle.mgn_book.specs.declared.book.Outcome.{Outcome}
 use Rattle.mgn_book.specs.declared.book.Outcome.TheVariants.{Done, Full, Memory}
 
--- what a book is seen as
-pub record BookView : Type 0 where
-  pub book : BookState
-  pub history : List Entry
-
 -- before the first command
 abbrev pub opening : BookView
-opening = record { book = book_state [] [] [] false 0; history = [] }
+opening = record { book = record { state = start; rows = [] }; history = [] }
 
 -- the history is legal and has at most 1,000,000 entries, the state is its replay, the version in force is that of the
 -- last set, and the rows are those of the state under that set

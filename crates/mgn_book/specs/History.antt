@@ -23,23 +23,28 @@ pub record NameLists : Type 0 where
   pub account_room : ℕ
   pub contracts : List (List ℕ)
   pub contract_room : ℕ
+  pub classes : List (List ℕ)
+  pub class_room : ℕ
 
 -- the names stay where they are
 abbrev pub KeepsNames : NameLists → NameLists → Type 0
-KeepsNames old new = Grows old.accounts new.accounts × Grows old.contracts new.contracts
+KeepsNames old new =
+    Grows old.accounts new.accounts × (Grows old.contracts new.contracts × Grows old.classes new.classes)
 
 -- there is room for the names of one command
 abbrev pub HasRoom : NameLists → Type 0
-HasRoom n = (2 ≤ n.account_room) × (1 ≤ n.contract_room)
+HasRoom n = (2 ≤ n.account_room) × ((1 ≤ n.contract_room) × (1 ≤ n.class_room))
 
 -- there are no more names than so many commands have
 abbrev pub AreFew : ℕ → NameLists → Type 0
-AreFew commands n = (length n.accounts ≤ 2 * commands) × (length n.contracts ≤ commands)
+AreFew commands n =
+    (length n.accounts ≤ 2 * commands) × ((length n.contracts ≤ commands) × (length n.classes ≤ commands))
 
 -- at most those of one command were added
 abbrev pub AddsFew : NameLists → NameLists → Type 0
 AddsFew old new =
-    (length new.accounts ≤ length old.accounts + 2) × (length new.contracts ≤ length old.contracts + 1)
+    (length new.accounts ≤ length old.accounts + 2)
+    × ((length new.contracts ≤ length old.contracts + 1) × (length new.classes ≤ length old.classes + 1))
 
 abbrev pub name_at : List (List ℕ) → ℕ → List ℕ
 name_at names place = slice_index_or names place []
@@ -47,8 +52,8 @@ name_at names place = slice_index_or names place []
 -- the request that is stored
 abbrev pub recorded_of : NameLists → List Tables → StoredRequest → Recorded
 recorded_of n sets (stored.NewOrigin origin mode) = Asked (command.NewOrigin origin mode)
-recorded_of n sets (stored.NewAccount account origin) = Asked (command.NewAccount (name_at n.accounts account) origin)
-recorded_of n sets (stored.Trade account contract quantity premium lot) = Asked (command.Trade record {
+recorded_of n sets (stored.NewAccount origin account) = Asked (command.NewAccount (name_at n.accounts account) origin)
+recorded_of n sets (stored.Trade lot account contract quantity premium) = Asked (command.Trade record {
   account = name_at n.accounts account;
   lot = lot;
   contract = name_at n.contracts contract;
@@ -56,14 +61,14 @@ recorded_of n sets (stored.Trade account contract quantity premium lot) = Asked 
   premium = premium;
 })
 recorded_of n sets (stored.Bust account lot) = Asked (command.Bust (name_at n.accounts account) lot)
-recorded_of n sets (stored.Hold account contract quantity limit order) = Asked (command.Hold record {
+recorded_of n sets (stored.Hold order account contract quantity limit) = Asked (command.Hold record {
   account = name_at n.accounts account;
   order = order;
   contract = name_at n.contracts contract;
   quantity = quantity;
   limit = limit;
 })
-recorded_of n sets (stored.Fill account order lot quantity premium) = Asked (command.Fill record {
+recorded_of n sets (stored.Fill order lot account quantity premium) = Asked (command.Fill record {
   account = name_at n.accounts account;
   order = order;
   lot = lot;
@@ -71,15 +76,15 @@ recorded_of n sets (stored.Fill account order lot quantity premium) = Asked (com
   premium = premium;
 })
 recorded_of n sets (stored.Release account order) = Asked (command.Release (name_at n.accounts account) order)
-recorded_of n sets (stored.Transfer from to contract quantity lot) = Asked (command.Transfer record {
+recorded_of n sets (stored.Transfer lot from to contract quantity) = Asked (command.Transfer record {
   lot = lot;
   from = name_at n.accounts from;
   to = name_at n.accounts to;
   contract = name_at n.contracts contract;
   quantity = quantity;
 })
-recorded_of n sets (stored.Post class account units) = Asked (command.Post (name_at n.accounts account) class units)
-recorded_of n sets (stored.Draw class account units) = Asked (command.Draw (name_at n.accounts account) class units)
+recorded_of n sets (stored.Post class account units) = Asked (command.Post (name_at n.accounts account) (name_at n.classes class) units)
+recorded_of n sets (stored.Draw class account units) = Asked (command.Draw (name_at n.accounts account) (name_at n.classes class) units)
 recorded_of n sets (stored.Ask account) = Asked (command.Ask (name_at n.accounts account))
 recorded_of n sets (stored.Total origin) = Asked (command.Total origin)
 recorded_of n sets (stored.Statement account) = Asked (command.Statement (name_at n.accounts account))
@@ -90,16 +95,16 @@ recorded_of n sets (stored.SetRefused place) = SetRefused (slice_index_or sets p
 -- the names of a stored request are there
 abbrev pub IsNamed : NameLists → StoredRequest → Type 0
 IsNamed n (stored.NewOrigin origin mode) = Unit {0}
-IsNamed n (stored.NewAccount account origin) = account < length n.accounts
-IsNamed n (stored.Trade account contract quantity premium lot) = (account < length n.accounts) × (contract < length n.contracts)
+IsNamed n (stored.NewAccount origin account) = account < length n.accounts
+IsNamed n (stored.Trade lot account contract quantity premium) = (account < length n.accounts) × (contract < length n.contracts)
 IsNamed n (stored.Bust account lot) = account < length n.accounts
-IsNamed n (stored.Hold account contract quantity limit order) = (account < length n.accounts) × (contract < length n.contracts)
-IsNamed n (stored.Fill account order lot quantity premium) = account < length n.accounts
+IsNamed n (stored.Hold order account contract quantity limit) = (account < length n.accounts) × (contract < length n.contracts)
+IsNamed n (stored.Fill order lot account quantity premium) = account < length n.accounts
 IsNamed n (stored.Release account order) = account < length n.accounts
-IsNamed n (stored.Transfer from to contract quantity lot) =
+IsNamed n (stored.Transfer lot from to contract quantity) =
     (from < length n.accounts) × (to < length n.accounts) × (contract < length n.contracts)
-IsNamed n (stored.Post class account units) = account < length n.accounts
-IsNamed n (stored.Draw class account units) = account < length n.accounts
+IsNamed n (stored.Post class account units) = (account < length n.accounts) × (class < length n.classes)
+IsNamed n (stored.Draw class account units) = (account < length n.accounts) × (class < length n.classes)
 IsNamed n (stored.Ask account) = account < length n.accounts
 IsNamed n (stored.Total origin) = Unit {0}
 IsNamed n (stored.Statement account) = account < length n.accounts
@@ -109,14 +114,14 @@ IsNamed n (stored.SetRefused place) = Unit {0}
 
 -- of a trade or a held order
 abbrev pub is_order : StoredRequest → Bool
-is_order (stored.Trade account contract quantity premium lot) = true
-is_order (stored.Hold account contract quantity limit order) = true
+is_order (stored.Trade lot account contract quantity premium) = true
+is_order (stored.Hold order account contract quantity limit) = true
 is_order _ = false
 
 -- of a fill or a transfer
 abbrev pub is_fill_or_transfer : StoredRequest → Bool
-is_fill_or_transfer (stored.Fill account order lot quantity premium) = true
-is_fill_or_transfer (stored.Transfer from to contract quantity lot) = true
+is_fill_or_transfer (stored.Fill order lot account quantity premium) = true
+is_fill_or_transfer (stored.Transfer lot from to contract quantity) = true
 is_fill_or_transfer _ = false
 
 -- how long the list of refused sets must be for a request

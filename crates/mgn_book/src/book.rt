@@ -12,7 +12,7 @@ ghost use Rattle.mgn_plan.specs.Plans.{Foresees, IsIdle, IsPossible, plan_of};
 ghost use Rattle.mgn_book.specs.BookViews.{Committed, Leaves, LeavesRows, Shelves, Stands, command_at, opening, reply_at, session_at};
 
 use crate::history::History;
-use crate::in_force::switch_set;
+use crate::in_force::{Call, switch_set};
 use crate::names::Likely;
 use mgn_ids::{AccountName, SessionNo};
 use mgn_machine::{Command, Reply, Statement};
@@ -309,8 +309,7 @@ impl Book {
             alloc,
             &mut self.register,
             &mut self.history,
-            session,
-            number,
+            Call { session, number },
             set,
             shelf,
             prepared,

@@ -10,6 +10,7 @@ ghost use Rattle.mgn_book.specs.BookViews.{command_of};
 ghost use Rattle.mgn_book.specs.Replies.{Grows};
 
 use crate::names::{Likely, Names};
+use crate::numbers::ThreeBytes;
 use crate::replies::{Replies, StoredReply};
 use crate::stored::{StoredEntry, StoredRequest, command_in, store_command};
 use mgn_ids::SessionNo;
@@ -37,7 +38,7 @@ impl Model for History {
     ghost view = { λ h. record {
       entries = map (entry_of h.replies h.names h.refused.items) h.entries.items;
       reserved = nat_lt (vec_len h.entries) (vec_capacity h.entries) && h.replies.has_room
-          && nat_le 2 h.names.account_room && nat_le 1 h.names.contract_room;
+          && nat_le 2 h.names.account_room && nat_le 1 h.names.contract_room && nat_le 1 h.names.class_room;
     } };
 
     ghost invariant = { λ h. AreShown h.replies h.names (length h.refused.items) h.entries.items };
@@ -122,7 +123,7 @@ impl History {
         let reply = self.replies.store(reply);
         self.entries.push_reserved(StoredEntry {
             session,
-            number: number as u32,
+            number: ThreeBytes::new(number as u32),
             request,
             reply,
         });
@@ -139,7 +140,7 @@ impl History {
         let reply = self.replies.store(Reply::NewSet(told));
         self.entries.push_reserved(StoredEntry {
             session,
-            number: number as u32,
+            number: ThreeBytes::new(number as u32),
             request: StoredRequest::InForce(version),
             reply,
         });
@@ -164,7 +165,7 @@ impl History {
         let place = store_set(&mut self.refused, set)?;
         self.entries.push_reserved(StoredEntry {
             session,
-            number: number as u32,
+            number: ThreeBytes::new(number as u32),
             request: StoredRequest::SetRefused(place),
             reply: StoredReply::Refused(why),
         });

@@ -19,12 +19,18 @@ use mgn_register::{Fault, Register};
 use mgn_unit::{NewRows, PreparedUnits, Row};
 use std::alloc::Global;
 
+/// A call that asks for a switch: its session, and its number among the calls of that session.
+#[derive(Clone, Copy)]
+pub(crate) struct Call {
+    pub session: SessionNo,
+    pub number: u64,
+}
+
 // Puts a set on the shelf, which is the last growth, and brings it into force with what the rows become under it.
 fn enter_set<S: Shelf>(
     register: &mut Register,
     history: &mut History,
-    session: SessionNo,
-    number: u64,
+    call: Call,
     set: ParamSet,
     rows: NewRows,
     spent: &mut Vec<Row>,
@@ -32,7 +38,7 @@ fn enter_set<S: Shelf>(
 ) -> Result<Reply, Fault>
     requires reserved { history.old.reserved ≡ true }
     requires few_entries { length history.old.entries < 1000000 }
-    requires number { number ≤ 1000000 }
+    requires number { call.number ≤ 1000000 }
     requires shown { length (S.sets shelf.old) ≡ register.old.state.version + 1 }
     requires few { register.old.state.version < 64 }
     requires fit { FitRows rows register.old.rows }
@@ -44,7 +50,7 @@ fn enter_set<S: Shelf>(
     }) }
     ensures entry { IfOk result (λ reply.
         let request = InForce (register.old.state.version + 1) in
-        history.new.entries ≡ history.old.entries ++ entry session number request reply ∷ []) }
+        history.new.entries ≡ history.old.entries ++ entry call.session call.number request reply ∷ []) }
     ensures sets { OnOk result (S.sets shelf.new ≡ S.sets shelf.old ++ set ∷ []) }
     ensures state { OnOk result (
         let old = register.old.state in
@@ -64,28 +70,27 @@ fn enter_set<S: Shelf>(
         version: version.number(),
         on_call: register.put_in_force(rows, version, spent),
     };
-    history.push_in_force(session, number, version, told);
+    history.push_in_force(call.session, call.number, version, told);
     Ok(Reply::NewSet(told))
 }
 
 // Keeps a set that may not come into force.
 fn refuse_set(
     history: &mut History,
-    session: SessionNo,
-    number: u64,
+    call: Call,
     set: ParamSet,
     why: Refusal,
 ) -> Result<Reply, Fault>
     requires reserved { history.old.reserved ≡ true }
     requires few_entries { length history.old.entries < 1000000 }
-    requires number { number ≤ 1000000 }
+    requires number { call.number ≤ 1000000 }
     ensures reply { IfOk result (λ reply. reply ≡ Reply.Refused why) }
     ensures entry { IfOk result (λ reply.
-        history.new.entries ≡ history.old.entries ++ entry session number (SetRefused set) reply ∷ []) }
+        history.new.entries ≡ history.old.entries ++ entry call.session call.number (SetRefused set) reply ∷ []) }
     ensures fault { IfErr result (λ fault. fault ≡ Fault.Memory) }
     ensures same_history { OnErr result (history.new.entries ≡ history.old.entries) }
 {
-    history.push_refused(session, number, set, why)?;
+    history.push_refused(call.session, call.number, set, why)?;
     Ok(Reply::Refused(why))
 }
 
@@ -95,8 +100,7 @@ pub(crate) fn switch_set<S: Shelf>(
     alloc: Global,
     register: &mut Register,
     history: &mut History,
-    session: SessionNo,
-    number: u64,
+    call: Call,
     set: ParamSet,
     shelf: &mut S,
     prepared: &mut PreparedUnits,
@@ -104,7 +108,7 @@ pub(crate) fn switch_set<S: Shelf>(
 ) -> Result<Reply, Fault>
     requires reserved { history.old.reserved ≡ true }
     requires few_entries { length history.old.entries < 1000000 }
-    requires number { number ≤ 1000000 }
+    requires number { call.number ≤ 1000000 }
     requires shown { length (S.sets shelf.old) ≡ register.old.state.version + 1 }
     requires kept { IsKept (set_at (S.sets shelf.old) register.old.state.version) register.old }
     requires prepared { ArePrepared set prepared.old.units.items }
@@ -115,7 +119,7 @@ pub(crate) fn switch_set<S: Shelf>(
         IsSwitched (S.sets shelf.old) (S.sets shelf.new) register.old register.new set reply) }
     ensures entry { IfOk result (λ reply.
         let request = recorded (Switch set) reply in
-        history.new.entries ≡ history.old.entries ++ entry session number request reply ∷ []) }
+        history.new.entries ≡ history.old.entries ++ entry call.session call.number request reply ∷ []) }
     ensures fault { IfErr result (λ fault. fault ≡ Fault.Memory) }
     ensures same_register { OnErr result (register.new ≡ register.old) }
     ensures same_history { OnErr result (history.new.entries ≡ history.old.entries) }
@@ -130,14 +134,13 @@ pub(crate) fn switch_set<S: Shelf>(
         Ok(rows) => enter_set(
             register,
             history,
-            session,
-            number,
+            call,
             set,
             rows,
             &mut prepared.spent,
             shelf,
         ),
-        Err(Fault::Refused(why)) => refuse_set(history, session, number, set, why),
+        Err(Fault::Refused(why)) => refuse_set(history, call, set, why),
         Err(Fault::Memory) => Err(Fault::Memory),
     }
 }

@@ -7,6 +7,7 @@ mod history;
 mod in_force;
 pub mod laws;
 mod names;
+mod numbers;
 mod replies;
 mod stored;
 

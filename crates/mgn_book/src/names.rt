@@ -3,7 +3,7 @@ ghost use Rattle.mgn_book.specs.History.{HasRoom, KeepsNames, name_at};
 ghost use Rattle.mgn_book.specs.Replies.{Grows};
 
 use indexmap::IndexSet;
-use mgn_ids::{AccountName, ContractName};
+use mgn_ids::{AccountName, ClassName, ContractName};
 use std::alloc::{AllocError, Global};
 use std::marker::Model;
 
@@ -27,12 +27,13 @@ impl Likely {
     };
 }
 
-/// The names of accounts and contracts that entries have, each once and found by its place. Contracts see the lists, and
-/// for how many more names there is room.
+/// The names of accounts, contracts and collateral classes that entries have, each once and found by its place. Contracts see
+/// the lists, and for how many more names there is room.
 #[derive(Drop)]
 pub(crate) struct Names {
     accounts: IndexSet<AccountName>,
     contracts: IndexSet<ContractName>,
+    classes: IndexSet<ClassName>,
     // By the place of a contract in a set, where its name was found last.
     found: Vec<u32>,
 }
@@ -48,6 +49,8 @@ impl Model for Names {
       account_room = spare n.accounts;
       contracts = n.contracts.keys;
       contract_room = spare n.contracts;
+      classes = n.classes.keys;
+      class_room = spare n.classes;
     } };
 }
 
@@ -56,26 +59,30 @@ impl Names {
     pub fn new(alloc: Global) -> Names
         ensures accounts { result.accounts ≡ [] }
         ensures contracts { result.contracts ≡ [] }
+        ensures classes { result.classes ≡ [] }
     {
         Names {
             accounts: IndexSet::new(alloc),
             contracts: IndexSet::new(alloc),
+            classes: IndexSet::new(alloc),
             found: Vec::new(alloc),
         }
     }
 
-    /// Reserves memory for the names of one more command, which are three at most. The names stay, also where memory is
-    /// refused.
+    /// Reserves memory for the names of one more command, which are three at most, one of them a contract's or a
+    /// class's. The names stay, also where memory is refused.
     pub fn reserve(&mut self) -> Result<(), AllocError>
         ensures accounts { self.new.accounts ≡ self.old.accounts }
         ensures contracts { self.new.contracts ≡ self.old.contracts }
+        ensures classes { self.new.classes ≡ self.old.classes }
         ensures ok { OnOk result (HasRoom self.new) }
     {
         if self.found.is_empty() {
             self.found = vec![in *self.found.allocator(); 0; MOST_CONTRACTS]?;
         }
         self.accounts.reserve(2)?;
-        self.contracts.reserve(1)
+        self.contracts.reserve(1)?;
+        self.classes.reserve(1)
     }
 
     /// The account of a place.
@@ -95,6 +102,17 @@ impl Names {
         ensures { result ≡ name_at self.now.contracts place }
     {
         match self.contracts.get_index(place as usize) {
+            Some(name) => *name,
+            None => unreachable!(),
+        }
+    }
+
+    /// The collateral class of a place.
+    pub fn class(&self, place: u32) -> ClassName
+        requires { place < length self.now.classes }
+        ensures { result ≡ name_at self.now.classes place }
+    {
+        match self.classes.get_index(place as usize) {
             Some(name) => *name,
             None => unreachable!(),
         }
@@ -143,6 +161,8 @@ impl Names {
         ensures room { self.old.account_room ≤ self.new.account_room + 1 }
         ensures contracts { self.new.contracts ≡ self.old.contracts }
         ensures same_room { self.new.contract_room ≡ self.old.contract_room }
+        ensures classes { self.new.classes ≡ self.old.classes }
+        ensures class_room { self.new.class_room ≡ self.old.class_room }
     {
         if self.is_account(likely, name) {
             return likely as u32;
@@ -162,6 +182,7 @@ impl Names {
         ensures contracts { Grows self.old.contracts self.new.contracts }
         ensures few { length self.new.contracts ≤ length self.old.contracts + 1 }
         ensures accounts { self.new.accounts ≡ self.old.accounts }
+        ensures classes { self.new.classes ≡ self.old.classes }
     {
         if let Some(place) = self.found_before(name, likely) {
             return place;
@@ -172,5 +193,23 @@ impl Names {
         };
         self.note(likely, place);
         place
+    }
+
+    /// The place of a collateral class, which is added where it is not there.
+    pub fn place_of_class(&mut self, name: ClassName) -> u32
+        requires room { 1 ≤ self.old.class_room }
+        requires few { length self.old.classes < 2 ^ 32 }
+        ensures name { name_at self.new.classes result ≡ name }
+        ensures within { result < length self.new.classes }
+        ensures classes { Grows self.old.classes self.new.classes }
+        ensures few { length self.new.classes ≤ length self.old.classes + 1 }
+        ensures accounts { self.new.accounts ≡ self.old.accounts }
+        ensures contracts { self.new.contracts ≡ self.old.contracts }
+        ensures account_room { self.new.account_room ≡ self.old.account_room }
+    {
+        match self.classes.insert_full(name) {
+            Ok((place, _)) => place as u32,
+            Err(_) => unreachable!(),
+        }
     }
 }

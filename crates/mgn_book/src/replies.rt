@@ -5,6 +5,7 @@ ghost use Rattle.std.specs.Int.{w64};
 ghost use Rattle.mgn_machine.specs.Brief.{is_brief};
 ghost use Rattle.mgn_book.specs.Replies.{AddsFewReplies, AreNarrow, IsKept, KeepsReplies, TakesLittle, reply_of};
 
+use crate::numbers::ThreeBytes;
 use mgn_machine::{Figures, Refusal, Reply};
 use mgn_num::Cents;
 use std::alloc::{AllocError, Global};
@@ -81,8 +82,8 @@ impl NarrowFigures {
 #[derive(Clone, Copy)]
 pub(crate) enum StoredReply {
     Done,
-    Figures(u32),
-    At(u32),
+    Figures(ThreeBytes),
+    At(ThreeBytes),
     Refused(Refusal),
 }
 
@@ -162,7 +163,7 @@ impl Replies {
         let Some(narrow) = NarrowFigures::of(figures) else {
             return self.store_other(Reply::Figures(*figures));
         };
-        let place = self.figures.len() as u32;
+        let place = ThreeBytes::new(self.figures.len() as u32);
         self.figures.push_reserved(narrow);
         StoredReply::Figures(place)
     }
@@ -176,7 +177,7 @@ impl Replies {
         ensures few { AddsFewReplies self.old self.new }
         ensures figures { self.new.figures ≡ self.old.figures }
     {
-        let place = self.others.len() as u32;
+        let place = ThreeBytes::new(self.others.len() as u32);
         self.others.push_reserved(reply);
         StoredReply::At(place)
     }
@@ -191,9 +192,9 @@ impl Replies {
             StoredReply::Done => Ok(Reply::Done),
             StoredReply::Refused(why) => Ok(Reply::Refused(why)),
             StoredReply::Figures(place) => {
-                Ok(Reply::Figures(self.figures[place as usize].figures()))
+                Ok(Reply::Figures(self.figures[place.number() as usize].figures()))
             }
-            StoredReply::At(place) => self.others[place as usize].copy(),
+            StoredReply::At(place) => self.others[place.number() as usize].copy(),
         }
     }
 }

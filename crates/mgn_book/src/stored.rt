@@ -7,49 +7,61 @@ ghost use Rattle.mgn_book.specs.BookViews.{command_of};
 ghost use Rattle.mgn_book.specs.History.{AddsFew, AreFew, HasRoom, IsNamed, is_fill_or_transfer, is_order, KeepsNames, recorded_of, sets_needed};
 
 use crate::names::{Likely, Names};
+use crate::numbers::ThreeBytes;
 use crate::replies::StoredReply;
-use mgn_ids::{ClassName, LotId, LotQuantity, OrderId, OriginName, Premium, SessionNo, Units};
+use mgn_ids::{LotId, LotQuantity, OrderId, OriginName, Premium, SessionNo, ShortId, Units};
 use mgn_machine::{Command, Fill, Hold, Mode, Trade, Transfer};
 use mgn_params::Version;
 
 // A request, with the places of its names, and of a refused set, in lists of these. Fields lie as they are listed here, so
-// that none takes more than 32 bytes.
+// that none takes more than 24 bytes.
 #[derive(Clone, Copy)]
 pub(crate) enum StoredRequest {
     NewOrigin(OriginName, Mode),
-    NewAccount(u32, OriginName),
+    NewAccount {
+        origin: OriginName,
+        account: u32,
+    },
     Trade {
+        lot: ShortId,
         account: u32,
         contract: u32,
         quantity: LotQuantity,
         premium: Premium,
-        lot: LotId,
     },
     Bust(u32, LotId),
     Hold {
+        order: ShortId,
         account: u32,
         contract: u32,
         quantity: LotQuantity,
         limit: Premium,
-        order: OrderId,
     },
     Fill {
+        order: ShortId,
+        lot: ShortId,
         account: u32,
-        order: OrderId,
-        lot: LotId,
         quantity: LotQuantity,
         premium: Premium,
     },
     Release(u32, OrderId),
     Transfer {
+        lot: ShortId,
         from: u32,
         to: u32,
         contract: u32,
         quantity: LotQuantity,
-        lot: LotId,
     },
-    Post(ClassName, u32, Units),
-    Draw(ClassName, u32, Units),
+    Post {
+        class: u32,
+        account: u32,
+        units: Units,
+    },
+    Draw {
+        class: u32,
+        account: u32,
+        units: Units,
+    },
     Ask(u32),
     Total(OriginName),
     Statement(u32),
@@ -62,13 +74,13 @@ pub(crate) enum StoredRequest {
 // figures, totals, a statement, a set that was refused.
 #[derive(Clone, Copy)]
 pub(crate) struct StoredEntry {
-    pub session: SessionNo,
-    pub number: u32,
     pub request: StoredRequest,
+    pub session: SessionNo,
+    pub number: ThreeBytes,
     pub reply: StoredReply,
 }
 
-const _: () = prove!(size_of::<StoredEntry>() == 48);
+const _: () = prove!(size_of::<StoredEntry>() == 32);
 
 fn store_trade(names: &mut Names, trade: &Trade, likely: &Likely) -> StoredRequest
     requires room { HasRoom names.old }
@@ -81,11 +93,11 @@ fn store_trade(names: &mut Names, trade: &Trade, likely: &Likely) -> StoredReque
     ensures few { AddsFew names.old names.new }
 {
     StoredRequest::Trade {
+        lot: ShortId::of_lot(trade.lot),
         account: names.place_of_account(trade.account, likely.account),
         contract: names.place_of_contract(trade.contract, likely.contract),
         quantity: trade.quantity,
         premium: trade.premium,
-        lot: trade.lot,
     }
 }
 
@@ -100,11 +112,11 @@ fn store_hold(names: &mut Names, hold: &Hold, likely: &Likely) -> StoredRequest
     ensures few { AddsFew names.old names.new }
 {
     StoredRequest::Hold {
+        order: ShortId::of_order(hold.order),
         account: names.place_of_account(hold.account, likely.account),
         contract: names.place_of_contract(hold.contract, likely.contract),
         quantity: hold.quantity,
         limit: hold.limit,
-        order: hold.order,
     }
 }
 
@@ -119,9 +131,9 @@ fn store_fill(names: &mut Names, fill: &Fill, likely: &Likely) -> StoredRequest
     ensures few { AddsFew names.old names.new }
 {
     StoredRequest::Fill {
+        order: ShortId::of_order(fill.order),
+        lot: ShortId::of_lot(fill.lot),
         account: names.place_of_account(fill.account, likely.account),
-        order: fill.order,
-        lot: fill.lot,
         quantity: fill.quantity,
         premium: fill.premium,
     }
@@ -138,11 +150,11 @@ fn store_transfer(names: &mut Names, transfer: &Transfer, likely: &Likely) -> St
     ensures few { AddsFew names.old names.new }
 {
     StoredRequest::Transfer {
+        lot: ShortId::of_lot(transfer.lot),
         from: names.place_of_account(transfer.from, likely.account),
         to: names.place_of_account(transfer.to, likely.account),
         contract: names.place_of_contract(transfer.contract, likely.contract),
         quantity: transfer.quantity,
-        lot: transfer.lot,
     }
 }
 
@@ -158,9 +170,10 @@ pub(crate) fn store_command(names: &mut Names, command: &Command, likely: &Likel
 {
     match *command {
         Command::NewOrigin(origin, mode) => StoredRequest::NewOrigin(origin, mode),
-        Command::NewAccount(account, origin) => {
-            StoredRequest::NewAccount(names.place_of_account(account, likely.account), origin)
-        }
+        Command::NewAccount(account, origin) => StoredRequest::NewAccount {
+            origin,
+            account: names.place_of_account(account, likely.account),
+        },
         Command::Trade(trade) => store_trade(names, &trade, likely),
         Command::Bust(account, lot) => StoredRequest::Bust(
             names.place_of_account(account, likely.account),
@@ -172,20 +185,16 @@ pub(crate) fn store_command(names: &mut Names, command: &Command, likely: &Likel
             StoredRequest::Release(names.place_of_account(account, likely.account), order)
         }
         Command::Transfer(transfer) => store_transfer(names, &transfer, likely),
-        Command::Post(account, class, units) => {
-            StoredRequest::Post(
-                class,
-                names.place_of_account(account, likely.account),
-                units,
-            )
-        }
-        Command::Draw(account, class, units) => {
-            StoredRequest::Draw(
-                class,
-                names.place_of_account(account, likely.account),
-                units,
-            )
-        }
+        Command::Post(account, class, units) => StoredRequest::Post {
+            class: names.place_of_class(class),
+            account: names.place_of_account(account, likely.account),
+            units,
+        },
+        Command::Draw(account, class, units) => StoredRequest::Draw {
+            class: names.place_of_class(class),
+            account: names.place_of_account(account, likely.account),
+            units,
+        },
         Command::Ask(account) => StoredRequest::Ask(names.place_of_account(
             account,
             likely.account,
@@ -214,7 +223,7 @@ fn order_in(names: &Names, stored: StoredRequest) -> Command
             lot,
         } => Command::Trade(Trade {
             account: names.account(account),
-            lot,
+            lot: lot.lot(),
             contract: names.contract(contract),
             quantity,
             premium,
@@ -227,7 +236,7 @@ fn order_in(names: &Names, stored: StoredRequest) -> Command
             order,
         } => Command::Hold(Hold {
             account: names.account(account),
-            order,
+            order: order.order(),
             contract: names.contract(contract),
             quantity,
             limit,
@@ -251,8 +260,8 @@ fn fill_or_transfer_in(names: &Names, stored: StoredRequest) -> Command
             premium,
         } => Command::Fill(Fill {
             account: names.account(account),
-            order,
-            lot,
+            order: order.order(),
+            lot: lot.lot(),
             quantity,
             premium,
         }),
@@ -263,7 +272,7 @@ fn fill_or_transfer_in(names: &Names, stored: StoredRequest) -> Command
             quantity,
             lot,
         } => Command::Transfer(Transfer {
-            lot,
+            lot: lot.lot(),
             from: names.account(from),
             to: names.account(to),
             contract: names.contract(contract),
@@ -280,19 +289,23 @@ pub(crate) fn command_in(names: &Names, stored: StoredRequest) -> Option<Command
 {
     match stored {
         StoredRequest::NewOrigin(origin, mode) => Some(Command::NewOrigin(origin, mode)),
-        StoredRequest::NewAccount(account, origin) => {
+        StoredRequest::NewAccount { origin, account } => {
             Some(Command::NewAccount(names.account(account), origin))
         }
         StoredRequest::Bust(account, lot) => Some(Command::Bust(names.account(account), lot)),
         StoredRequest::Release(account, order) => {
             Some(Command::Release(names.account(account), order))
         }
-        StoredRequest::Post(class, account, units) => {
-            Some(Command::Post(names.account(account), class, units))
-        }
-        StoredRequest::Draw(class, account, units) => {
-            Some(Command::Draw(names.account(account), class, units))
-        }
+        StoredRequest::Post {
+            class,
+            account,
+            units,
+        } => Some(Command::Post(names.account(account), names.class(class), units)),
+        StoredRequest::Draw {
+            class,
+            account,
+            units,
+        } => Some(Command::Draw(names.account(account), names.class(class), units)),
         StoredRequest::Ask(account) => Some(Command::Ask(names.account(account))),
         StoredRequest::Total(origin) => Some(Command::Total(origin)),
         StoredRequest::Statement(account) => Some(Command::Statement(names.account(account))),

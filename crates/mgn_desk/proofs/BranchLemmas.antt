@@ -27,7 +27,6 @@ rows_of t p is =
         rests = credits.one_rest_each ∙ credits.one_each;
         credits = credits_long t p.credits credits ∙ credits.one_each;
         kept = credits.one_kept_each;
-        naming = credits.one_naming_each ∙ credits.one_each;
       };
       charges = is.ready.charges.one_each;
       risks = is.risks.one_each;

@@ -4,11 +4,12 @@ use Rattle.std.specs.Prelude.{◌+ℤ◌, neg_ℤ}
 use Rattle.std.proofs.lemmas.Int.{ints}
 use Rattle.std.proofs.lemmas.List.{set-get_or}
 use Rattle.mgn_span.specs.Scan.{value_at}
+use Rattle.mgn_nets.specs.Portfolios.{UnitNets}
 use Rattle.mgn_desk.specs.declared.desk.Marked.{Marked}
 use Rattle.mgn_desk.specs.declared.moves.Moves.{Moves}
 use Rattle.mgn_desk.specs.Desks.{MarkedNets, Shown, StaysTogether, moved_desk, moved_marked}
 use Rattle.mgn_desk.specs.Moved.{counted, more_of}
-use Rattle.mgn_desk.specs.Portfolios.{arrays_of, FourNets, moved_by, opposite}
+use Rattle.mgn_desk.specs.Portfolios.{arrays_of, moved_by, opposite}
 
 -- nothing more
 pub more_of_none : (nets : List ℤ) (i : ℕ) → nets ≡ more_of nets i (pos 0)
@@ -24,14 +25,14 @@ more_of_back (n ∷ ns) zero q =
     ap (λ (x : ℤ). x ∷ ns) back
 more_of_back (n ∷ ns) (suc i) q = ap (λ (xs : List ℤ). n ∷ xs) (more_of_back ns i q)
 
-moved_back : (m : Moves) (n : FourNets) → moved_by (opposite m) (moved_by m n) ≡ n
+moved_back : (m : Moves) (n : UnitNets) → moved_by (opposite m) (moved_by m n) ≡ n
 moved_back m n =
     rw (more_of_back n.lots m.contract m.lots, more_of_back n.buys m.contract m.buys, more_of_back n.sales m.contract m.sales, more_of_back n.all m.contract m.all) refl
 
 marked_back : (m : Moves) (marked : Option MarkedNets) → moved_marked (opposite m) (moved_marked m marked) ≡ marked
 marked_back m None = refl
 marked_back m (Some n) =
-    ap (λ (nets : FourNets). Some (let back : MarkedNets = record { version = n.version; nets = nets } in back)) (moved_back m n.nets)
+    ap (λ (nets : UnitNets). Some (let back : MarkedNets = record { version = n.version; nets = nets } in back)) (moved_back m n.nets)
 
 -- a desk that is moved and moved back shows what it showed
 pub desk_back : (m : Moves) (d : Shown) → moved_desk (opposite m) (moved_desk m d) ≡ d

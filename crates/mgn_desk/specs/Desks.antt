@@ -1,10 +1,11 @@
 -- The desk of a margin unit: empty, or its four portfolios under the set of a version.
-use Rattle.std.specs.Prelude.{ℕ, ◌≡◌, Option, Some, None}
+use Rattle.std.specs.Prelude.{ℕ, ◌≡◌, ℤ, Option, Some, None}
 use Rattle.mgn_params.specs.Tables.{Tables}
+use Rattle.mgn_nets.specs.declared.portfolios.Portfolios.{Portfolios}
+use Rattle.mgn_nets.specs.Portfolios.{UnitNets}
 use Rattle.mgn_desk.specs.declared.desk.Marked.{Marked}
 use Rattle.mgn_desk.specs.declared.moves.Moves.{Moves}
-use Rattle.mgn_desk.specs.declared.moves.Requirements.{Requirements}
-use Rattle.mgn_desk.specs.Portfolios.{ArePortfolios, AreRows, AreTogether, CanMove, FourNets, KeepsTogether, moved_by, nets_of, requirements_of}
+use Rattle.mgn_desk.specs.Portfolios.{ArePortfolios, AreRows, AreTogether, CanMove, KeepsTogether, moved_by, nets_of, requirements_of}
 
 pub record DeskRows : Type 0 where
   pub unit : ℕ
@@ -14,7 +15,7 @@ pub record DeskRows : Type 0 where
 
 pub record MarkedNets : Type 0 where
   pub version : ℕ
-  pub nets : FourNets
+  pub nets : UnitNets
 
 pub record Shown : Type 0 where
   pub unit : ℕ
@@ -33,7 +34,7 @@ version_of None = None
 version_of (Some m) = Some m.version
 
 -- the desk with these nets under the set of a version
-abbrev pub marked_with : ℕ → ℕ → FourNets → Shown
+abbrev pub marked_with : ℕ → ℕ → UnitNets → Shown
 marked_with unit version nets = record { unit = unit; marked = Some (record { version = version; nets = nets }) }
 
 -- the desk after moves, in which nothing else changes
@@ -57,7 +58,7 @@ HasRows set None = ⊥
 HasRows set (Some m) = AreRows set m.portfolios
 
 -- it is marked, with these nets
-abbrev pub AreNetsOf : Option Marked → FourNets → Type 0
+abbrev pub AreNetsOf : Option Marked → UnitNets → Type 0
 AreNetsOf None nets = ⊥
 AreNetsOf (Some m) nets = nets ≡ nets_of m.portfolios
 
@@ -67,12 +68,12 @@ CanMoveMarked moves None = Unit {0}
 CanMoveMarked moves (Some m) = CanMove moves (nets_of m.portfolios)
 
 -- what its portfolios require
-abbrev pub Requires : Tables → Option Marked → Requirements → Type 0
+abbrev pub Requires : Tables → Option Marked → Portfolios ℤ → Type 0
 Requires set None r = ⊥
 Requires set (Some m) r = r ≡ requirements_of set (nets_of m.portfolios)
 
 -- it is marked, and its portfolios that have the nets of the lots are not apart
-abbrev pub IsMarkedTogether : FourNets → Option Marked → Type 0
+abbrev pub IsMarkedTogether : UnitNets → Option Marked → Type 0
 IsMarkedTogether nets None = ⊥
 IsMarkedTogether nets (Some m) = AreTogether nets (m.portfolios.buys, m.portfolios.sales, m.portfolios.all)
 

@@ -2,8 +2,10 @@ ghost use Rattle.std.specs.Prelude.{◌≡◌, ◌<◌, length, IsTrue, ◌↔�
 ghost use Rattle.mgn_params.specs.Tables.{Tables};
 ghost use Rattle.mgn_desk.specs.Moved.{counted};
 
-use crate::moves::{Moves, Requirements, UnitNets};
-use crate::portfolios::Portfolios;
+use crate::moves::Moves;
+use crate::unit_portfolios::UnitPortfolios;
+use mgn_nets::{Nets, Portfolios};
+use mgn_num::Cents;
 use mgn_params::{ParamSet, Version, Work};
 use std::alloc::{AllocError, Global};
 use std::marker::Model;
@@ -12,7 +14,7 @@ use std::marker::Model;
 #[derive(Drop)]
 pub(crate) struct Marked {
     pub version: Version,
-    pub portfolios: Portfolios,
+    pub portfolios: UnitPortfolios,
 }
 
 /// The desk of a margin unit: the nets of its four portfolios under the set of a version, with what they require, or
@@ -39,8 +41,9 @@ impl Model for Desk {
 }
 
 impl Desk {
+    ghost use Rattle.mgn_nets.specs.Portfolios.{AreUnitNets, behind};
     ghost use Rattle.mgn_desk.specs.Desks.{AreNetsOf, CanMoveMarked, HasRows, IsMarkedBy, IsMarkedTogether, Requires, Shown, StaysTogether, marked_with, moved_desk, shown, version_of};
-    ghost use Rattle.mgn_desk.specs.Portfolios.{AreFourNets, AreSmall, arrays_of, four_of, opposite};
+    ghost use Rattle.mgn_desk.specs.Portfolios.{AreSmall, arrays_of, opposite};
 
     /// A desk of a unit that is not marked. Takes no memory.
     pub fn empty(unit: usize) -> Desk
@@ -76,19 +79,19 @@ impl Desk {
         alloc: Global,
         version: Version,
         set: &ParamSet,
-        nets: &UnitNets<'_>,
+        nets: &Portfolios<&Nets>,
     ) -> Result<(), AllocError>
-        requires { AreFourNets set.now (four_of nets.now) }
-        ensures marked { OnOk result (shown self.new ≡ marked_with self.old.unit version (four_of nets.now)) }
+        requires { AreUnitNets set.now (behind nets.now) }
+        ensures marked { OnOk result (shown self.new ≡ marked_with self.old.unit version (behind nets.now)) }
         ensures of_set { OnOk result (IsMarkedBy set.now self.new.marked) }
-        ensures together { OnOk result (IsMarkedTogether (four_of nets.now) self.new.marked) }
+        ensures together { OnOk result (IsMarkedTogether (behind nets.now) self.new.marked) }
         ensures refused { OnErr result (self.new ≡ self.old) }
     {
         if self.fits(set) {
             self.renew(version, set, nets);
             return Ok(());
         }
-        let portfolios = Portfolios::of_nets(alloc, set, nets)?;
+        let portfolios = UnitPortfolios::of_nets(alloc, set, nets)?;
         let marked = Marked {
             version,
             portfolios,
@@ -109,12 +112,12 @@ impl Desk {
     }
 
     // Marks a marked desk in place, under a set that its rows fit. Takes no memory.
-    fn renew(&mut self, version: Version, set: &ParamSet, nets: &UnitNets<'_>)
+    fn renew(&mut self, version: Version, set: &ParamSet, nets: &Portfolios<&Nets>)
         requires rows { HasRows set.now self.old.marked }
-        requires nets { AreFourNets set.now (four_of nets.now) }
-        ensures marked { shown self.new ≡ marked_with self.old.unit version (four_of nets.now) }
+        requires nets { AreUnitNets set.now (behind nets.now) }
+        ensures marked { shown self.new ≡ marked_with self.old.unit version (behind nets.now) }
         ensures of_set { IsMarkedBy set.now self.new.marked }
-        ensures together { IsMarkedTogether (four_of nets.now) self.new.marked }
+        ensures together { IsMarkedTogether (behind nets.now) self.new.marked }
     {
         if let Some(marked) = &mut self.marked {
             marked.version = version;
@@ -153,10 +156,10 @@ impl Desk {
     }
 
     /// The nets of the four portfolios of a marked desk.
-    pub fn nets(&self) -> UnitNets<'_>
+    pub fn nets(&self) -> Portfolios<&Nets>
         requires { (set : Tables) × IsMarkedBy set self.now.marked }
-        ensures nets { AreNetsOf self.now.marked (four_of result) }
-        ensures limits { (set : Tables) → IsMarkedBy set self.now.marked → AreFourNets set (four_of result) }
+        ensures nets { AreNetsOf self.now.marked (behind result) }
+        ensures limits { (set : Tables) → IsMarkedBy set self.now.marked → AreUnitNets set (behind result) }
     {
         match &self.marked {
             Some(marked) => marked.portfolios.nets(),
@@ -166,7 +169,7 @@ impl Desk {
 
     /// What the four portfolios of a marked desk require, in cents, 0 to 10^30. It takes the same time whatever the
     /// set.
-    pub fn requirements(&self) -> Requirements
+    pub fn requirements(&self) -> Portfolios<Cents>
         requires { (set : Tables) × IsMarkedBy set self.now.marked }
         ensures requirements { (set : Tables) → IsMarkedBy set self.now.marked → Requires set self.now.marked result }
         ensures small { AreSmall result }

@@ -5,9 +5,9 @@ mod branch;
 mod desk;
 mod moves;
 mod portfolio;
-mod portfolios;
 mod risk_sum;
+mod unit_portfolios;
 
 pub use desk::Desk;
-pub use moves::{Moves, Requirements, UnitNets};
+pub use moves::Moves;
 pub use portfolio::Portfolio;

@@ -1,7 +1,6 @@
 ghost use Rattle.std.specs.Prelude.{◌≡◌};
 
-use mgn_nets::Nets;
-use mgn_num::{Cents, Quantity};
+use mgn_num::Quantity;
 
 /// The place of a contract, and how many more of it each portfolio of a margin unit holds, below 0 where it holds
 /// fewer.
@@ -29,23 +28,4 @@ impl Moves {
             all: self.all.negated(),
         }
     }
-}
-
-/// The nets of the four portfolios of a margin unit, one for each contract of a set: those of the lots, with the held
-/// buys, with the held sales, and with all holds.
-#[derive(Clone, Copy)]
-pub struct UnitNets<'a> {
-    pub lots: &'a Nets,
-    pub buys: &'a Nets,
-    pub sales: &'a Nets,
-    pub all: &'a Nets,
-}
-
-/// What the four portfolios of a margin unit must have deposited, in cents.
-#[derive(Clone, Copy, PartialEq, Eq, Debug)]
-pub struct Requirements {
-    pub lots: Cents,
-    pub buys: Cents,
-    pub sales: Cents,
-    pub all: Cents,
 }

@@ -7,9 +7,11 @@ pub mod name;
 pub mod names;
 pub mod numbers;
 pub mod places;
+pub mod short_id;
 
 pub use amounts::{LotQuantity, Premium, Units};
 pub use fault::IdFault;
 pub use names::{AccountName, ClassName, CommodityName, ContractName, OriginName, SetName};
 pub use numbers::{LotId, OrderId, SessionNo, UnitNo};
 pub use places::Places;
+pub use short_id::ShortId;

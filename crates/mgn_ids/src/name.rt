@@ -1,11 +1,12 @@
-ghost use Rattle.std.specs.Prelude.{◌≡◌, [], ◌∷◌};
+ghost use Rattle.std.specs.Prelude.{◌≡◌, ◌<◌, ◌≤◌, [], ◌∷◌, Err, drop, length, take};
+ghost use Rattle.std.specs.Int.{to_le_bytes, w64};
 ghost use Rattle.std.proofs.Common.{rules};
 ghost use Rattle.std.specs.Str.{bytes_eq};
 ghost use Rattle.std.specs.Cmp.{partial_order_from_own_ties};
 ghost use Rattle.std.specs.Cmp.Rules.{comparing};
 ghost use Rattle.std.specs.Cmp.Lexicographic.{slice_cmp};
 ghost use Rattle.std.specs.Ordering.{nat_cmp, as_partial_cmp};
-ghost use Rattle.std.specs.List.{list_all};
+ghost use Rattle.std.specs.List.{count_by, list_all};
 ghost use Rattle.mgn_ids.specs.Name.{is_name_byte, name_in, row_of};
 
 use crate::fault::IdFault;
@@ -49,15 +50,45 @@ fn are_name_bytes(word: &[u8]) -> bool
     word.iter().all(|byte| is_name_byte(*byte))
 }
 
-// Whether two rows are the same. No byte ends the loop, so that all are compared at once.
+// How many bytes of a row are a name's. No byte ends the loop, so that all are looked at at once.
+fn count_name_bytes(row: &[u8; 16]) -> u8
+    ensures { result ≡ count_by is_name_byte row.now }
+{
+    let mut count = 0;
+    for i in 0..16 {
+        count += u8::from(is_name_byte(row[i]));
+    }
+    count
+}
+
+// Eight bytes of a row as one number.
+fn word(row: &[u8; 16], from: usize) -> u64
+    requires { from ≤ 8 }
+    ensures { to_le_bytes w64 result ≡ take 8 (drop from row.now) }
+{
+    match row[from..].first_chunk::<8>() {
+        Some(bytes) => u64::from_le_bytes(*bytes),
+        None => unreachable!(),
+    }
+}
+
+// Whether two rows are the same, by two numbers of each.
 fn are_same(row: &[u8; 16], other: &[u8; 16]) -> bool
     ensures { result ≡ bytes_eq row.now other.now }
 {
-    let mut same = true;
-    for i in 0..16 {
-        same &= row[i] == other[i];
+    word(row, 0) == word(other, 0) && word(row, 8) == word(other, 8)
+}
+
+// What is wrong with a word of more than 16 bytes.
+fn fault_of_long(word: &[u8]) -> IdFault
+    requires { 16 < length word.now }
+    ensures { Err result ≡ name_in word.now }
+{
+    if are_name_bytes(word) {
+        IdFault::Range
+    } else {
+        IdFault::Syntax
     }
-    same
 }
 
 impl Name {
@@ -67,15 +98,15 @@ impl Name {
     pub fn read(word: &[u8]) -> Result<Name, IdFault>
         ensures { result ≡ name_in word.now }
     {
-        if word.is_empty() || !are_name_bytes(word) {
-            return Err(IdFault::Syntax);
-        }
         let len = word.len();
         if len > 16 {
-            return Err(IdFault::Range);
+            return Err(fault_of_long(word));
         }
         let mut bytes = [0u8; 16];
         bytes[..len].copy_from_slice(word);
+        if len == 0 || usize::from(count_name_bytes(&bytes)) != len {
+            return Err(IdFault::Syntax);
+        }
         Ok(Name {
             bytes,
             len: len as u8,

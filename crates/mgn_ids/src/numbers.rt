@@ -41,6 +41,14 @@ impl Model for LotId {
 impl LotId {
     ghost use Rattle.mgn_ids.specs.Number.{IsIdNumber};
 
+    // The lot of this number.
+    pub(crate) fn new(number: u64) -> Self
+        requires { IsIdNumber number }
+        ensures { result ≡ number }
+    {
+        LotId { number }
+    }
+
     /// The number that a word spells. `Syntax` where it spells none, `Range` where it is another than 1 to 10^12.
     /// Takes no memory.
     pub fn read(word: &[u8]) -> Result<LotId, IdFault>
@@ -80,6 +88,14 @@ impl Model for OrderId {
 
 impl OrderId {
     ghost use Rattle.mgn_ids.specs.Number.{IsIdNumber};
+
+    // The order of this number.
+    pub(crate) fn new(number: u64) -> Self
+        requires { IsIdNumber number }
+        ensures { result ≡ number }
+    {
+        OrderId { number }
+    }
 
     /// The number that a word spells. `Syntax` where it spells none, `Range` where it is another than 1 to 10^12.
     /// Takes no memory.

@@ -5,3 +5,4 @@ pub mod StateLemmas
 pub mod TurnLemmas
 pub mod ReworkedLemmas
 pub mod ToldLemmas
+pub mod QuietLemmas

@@ -120,6 +120,11 @@ told_none kept count =
     let none = places_more (credits_else kept kept) 0 count (λ k from low. else_not kept kept k refl) in
     sym (ap (λ (m : ℕ). told_of kept kept m) (omega arith) ∙ none)
 
+pub told_alike : (was now : List Kept) (count : ℕ) → ((j : ℕ) → credits_at now j ≡ credits_at was j) → [] ≡ told_of was now count
+told_alike was now count same =
+    let none = places_more (credits_else was now) 0 count (λ k from low. else_not was now k (same k)) in
+    sym (ap (λ (m : ℕ). told_of was now m) (omega arith) ∙ none)
+
 pub told_not : (kept : List Kept) (i : ℕ) (places : List ℕ) → places ≡ (if credits_else kept kept i then places ++ i ∷ [] else places)
 told_not kept i places =
     sym (if_false (credits_else kept kept i) (places ++ i ∷ []) places (else_not kept kept i refl))

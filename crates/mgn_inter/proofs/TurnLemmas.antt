@@ -11,6 +11,7 @@ use Rattle.std.proofs.lemmas.List.Folds.{list_any_at, list_any_none}
 use Rattle.mgn_params.specs.declared.tables.CreditSpread.{CreditSpread}
 use Rattle.mgn_params.specs.declared.tables.Leg.{Leg}
 use Rattle.mgn_params.specs.Limits.{IsWithinLimits}
+use Rattle.mgn_params.specs.Naming.{IsNaming}
 use Rattle.mgn_params.specs.Tables.{Tables, credit_spread_at, legs_of, no_credit_spread, no_leg}
 use Rattle.mgn_span.specs.Credits.{credits_of, formed}
 use Rattle.mgn_span.specs.Scan.{value_at}
@@ -51,7 +52,7 @@ unreached_at moved g legs j h inside =
     (λ e. true≢false (sym (eq-eqb c g e) ∙ parts.0), parts.1)
 
 -- the rests at the next turn
-rests_suc : (deltas : List ℤ) (risks : List ℕ) (spreads : List CreditSpread) (i : ℕ) → i < length spreads → rests_at deltas risks spreads (i + 1) ≡ (formed deltas risks (state_of deltas risks (take i spreads)) (credit_spread_at spreads i)).0
+pub rests_suc : (deltas : List ℤ) (risks : List ℕ) (spreads : List CreditSpread) (i : ℕ) → i < length spreads → rests_at deltas risks spreads (i + 1) ≡ (formed deltas risks (state_of deltas risks (take i spreads)) (credit_spread_at spreads i)).0
 rests_suc deltas risks spreads i h =
     rw add-one (ap (λ (p : List ℤ × List ℕ). p.0) (state_suc deltas risks spreads i h))
 
@@ -103,8 +104,6 @@ turn_passed set g was moved i c at h none =
           (λ (other : j ≢ i). at.done j (omega arith))
           (cases_eq j i);
       left = λ j low inside. at.left j (omega arith) inside;
-      one_naming_each = at.one_naming_each;
-      naming = at.naming;
     }
 
 -- the rests that are brought are those of the turn, for the legs and for what has moved
@@ -231,8 +230,6 @@ turn_reworked set g was moved marks i c rests credits own limits at h rests_are 
           (cases_eq j i);
       left = λ j low inside.
           rw (kept_other c.kept i j own (λ e. omega (arith, e, low))) (at.left j (omega arith) inside);
-      one_naming_each = at.one_naming_each;
-      naming = at.naming;
     }
 
 -- its credits of the commodities that the spread does not name are as they were
@@ -253,7 +250,7 @@ credit_shares set c k are =
     ap (λ (row : List ℕ). slice_index row k) (are.credits ∙ sym (all_spreads c.deltas c.risks set.credits)) ∙ shares_are c.deltas c.risks set.credits c.kept k (length set.credits) (omega arith) are.kept
 
 -- Before the first spread: only the commodity's rest has moved.
-mark_other : (g k : ℕ) → k ≢ g → moved_at (slice_set (replicate 256 false) g true) k ≡ false
+pub mark_other : (g k : ℕ) → k ≢ g → moved_at (slice_set (replicate 256 false) g true) k ≡ false
 mark_other g k other =
     get_or-set_other (replicate 256 false) g k true false other
     ∙ ⊎_elim
@@ -293,8 +290,6 @@ turn_first set g was d x limits are low small risk = record {
   one_kept_each = are.one_kept_each;
   done = λ j h. absurd (omega arith);
   left = λ j h inside. are.kept j inside;
-  one_naming_each = are.one_naming_each ∙ sym (length-set was.deltas g d);
-  naming = are.naming;
 }
 
 -- the spreads before the first that names the commodity are passed over
@@ -305,13 +300,24 @@ unreached_first g legs none =
     let other : c ≢ g = λ e. true≢false (sym (list_any_at (λ (leg : Leg). leg.commodity == g) legs j d low (eq-eqb c g e)) ∙ none) in
     rw (ne_eqb c g other) (mark_other g c other))
 
+-- a spread that has no bit does not name the commodity
+pub named_not : (spreads : List CreditSpread) (g places i : ℕ) → IsNaming spreads g places → bit_at places i ≡ 0 → names g (legs_of (credit_spread_at spreads i)) ≡ false
+named_not spreads g places i is none =
+    ⊎_elim
+    (λ (named : names g (legs_of (credit_spread_at spreads i)) ≡ true). absurd (omega (arith, none, rw named at (is i))))
+    (λ (no : names g (legs_of (credit_spread_at spreads i)) ≡ false). no)
+    (cases_Bool (names g (legs_of (credit_spread_at spreads i))))
+
+pub misses_of : (spreads : List CreditSpread) (g places : ℕ) → IsNaming spreads g places → Misses spreads places g
+misses_of spreads g places is i inside none = named_not spreads g places i is none
+
 -- Those that name the commodity wait first, then those that a rest reaches which has moved.
 pub waiting_first : (spreads : List CreditSpread) (g waiting : ℕ) → Misses spreads waiting g → AreWaiting spreads g (slice_set (replicate 256 false) g true) 0 waiting
 waiting_first spreads g waiting misses j from inside none =
     unreached_first g (legs_of (credit_spread_at spreads j)) (misses j inside none)
 
-pub waiting_next : (spreads : List CreditSpread) (g i : ℕ) (naming : List ℕ) (moved marks : List Bool) (old new : ℕ) → ((k : ℕ) → Misses spreads (slice_index naming k) k) → AreWaiting spreads g moved i old → ((j : ℕ) → bit_at new j ≡ 0 → bit_at old j ≡ 0) → let legs = legs_of (credit_spread_at spreads i) in ((j n : ℕ) → bit_at new j ≡ 0 → n < length legs → moved_at marks (leg_at legs n).commodity ≡ true → bit_at (slice_index naming (leg_at legs n).commodity) j ≡ 0) → ((k : ℕ) → names k legs ≡ false → moved_at marks k ≡ moved_at moved k) → AreWaiting spreads g marks (i + 1) new
-waiting_next spreads g i naming moved marks old new misses wait kept added out j from inside none =
+pub waiting_next : (spreads : List CreditSpread) (g i : ℕ) (moved marks : List Bool) (old new : ℕ) → AreWaiting spreads g moved i old → ((j : ℕ) → bit_at new j ≡ 0 → bit_at old j ≡ 0) → let legs = legs_of (credit_spread_at spreads i) in ((j n : ℕ) → bit_at new j ≡ 0 → n < length legs → moved_at marks (leg_at legs n).commodity ≡ true → names (leg_at legs n).commodity (legs_of (credit_spread_at spreads j)) ≡ false) → ((k : ℕ) → names k legs ≡ false → moved_at marks k ≡ moved_at moved k) → AreWaiting spreads g marks (i + 1) new
+waiting_next spreads g i moved marks old new wait kept added out j from inside none =
     let own = legs_of (credit_spread_at spreads i) in
     let legs = legs_of (credit_spread_at spreads j) in
     let was : reached moved g legs ≡ false = wait j (omega arith) inside (kept j none) in
@@ -323,8 +329,8 @@ waiting_next spreads g i naming moved marks old new misses wait kept added out j
     ⊎_elim
     (λ (named : names c own ≡ true).
     no_by (moved_at marks c) (λ yes.
-    let bit = named_all (λ (k : ℕ). moved_at marks k ≡ true → bit_at (slice_index naming k) j ≡ 0) c own (λ m inner. added j m none inner) named yes in
-    true≢false (sym (list_any_at (λ (leg : Leg). leg.commodity == c) legs n d low (eq-eqb c c refl)) ∙ misses c j inside bit)))
+    let missed = named_all (λ (k : ℕ). moved_at marks k ≡ true → names k legs ≡ false) c own (λ m inner. added j m none inner) named yes in
+    true≢false (sym (list_any_at (λ (leg : Leg). leg.commodity == c) legs n d low (eq-eqb c c refl)) ∙ missed)))
     (λ (other : names c own ≡ false). out c other ∙ parts.1)
     (cases_Bool (names c own))
     in
@@ -359,14 +365,12 @@ turn_last set g was moved c limits at =
       credits = ext_get_or 0 c.credits of long (λ k h. at.credits k ∙ sym (shares_are c.deltas c.risks set.credits c.kept k n (omega arith) at.done)) ∙ all_spreads c.deltas c.risks set.credits;
       one_kept_each = at.one_kept_each;
       kept = at.done;
-      one_naming_each = at.one_naming_each;
-      naming = at.naming;
       small = λ k. turn_room set g was moved n c k limits at;
     }
 
 -- Nothing held.
-pub credits_none : (set : Tables) (c : Credited) → IsWithinLimits set → let n = length set.commodities in c.deltas ≡ replicate n (pos 0) → c.risks ≡ replicate n 0 → c.rests ≡ replicate n (pos 0) → c.credits ≡ replicate n 0 → c.kept ≡ replicate (length set.credits) nothing_kept → length c.naming ≡ n → ((g : ℕ) → Misses set.credits (slice_index c.naming g) g) → AreCreditsOf set c
-credits_none set c limits deltas risks rests credits kept naming misses =
+pub credits_none : (set : Tables) (c : Credited) → IsWithinLimits set → let n = length set.commodities in c.deltas ≡ replicate n (pos 0) → c.risks ≡ replicate n 0 → c.rests ≡ replicate n (pos 0) → c.credits ≡ replicate n 0 → c.kept ≡ replicate (length set.credits) nothing_kept → AreCreditsOf set c
+credits_none set c limits deltas risks rests credits kept =
     let n = length set.commodities in
     let zeros = replicate n (pos 0) in
     let state = λ (i : ℕ) (h : i ≤ length set.credits). state_none n i (replicate n 0) set.credits h limits.credits in
@@ -383,7 +387,5 @@ credits_none set c limits deltas risks rests credits kept naming misses =
       one_kept_each = omega (arith, ap (λ (r : List Kept). length r) kept, length-replicate {A = Kept} (length set.credits) nothing_kept);
       kept = λ i h.
           rw (deltas, risks, kept, get_or-replicate {A = Kept} (length set.credits) i nothing_kept nothing_kept h) (rw (ap (λ (p : List ℤ × List ℕ). p.0) (state i (omega arith))) (kept_none n (replicate n 0) (credit_spread_at set.credits i) (limits.credits i no_credit_spread h)));
-      one_naming_each = naming ∙ sym (ap (λ (r : List ℤ). length r) deltas ∙ long);
-      naming = misses;
       small = λ g. omega (arith, ap (λ (r : List ℕ). slice_index r g) credits, none_at n g);
     }

@@ -9,5 +9,4 @@ credited_of c = record {
   rests = c.rests.items;
   credits = c.credits.items;
   kept = c.kept.items;
-  naming = c.naming.items;
 }

@@ -3,7 +3,7 @@ use Rattle.std.specs.Prelude.{ℕ, ◌≡◌, ◌≢◌, ◌<◌, ◌≤◌, ◌
 use Rattle.mgn_params.specs.Tables.{Tables, credit_spread_at}
 use Rattle.mgn_span.specs.Credits.{credits_of}
 use Rattle.mgn_span.specs.Scan.{value_at}
-use Rattle.mgn_inter.specs.Rows.{Credited, IsKept, Misses, kept_at, moved_at, rests_at}
+use Rattle.mgn_inter.specs.Rows.{Credited, IsKept, kept_at, moved_at, rests_at}
 use Rattle.mgn_span.specs.Words.{AreNumbers}
 use Rattle.mgn_inter.specs.Shares.{shares}
 
@@ -14,7 +14,6 @@ pub record AreCreditRows (set : Tables) (c : Credited) : Type 0 where
   pub rests : length c.rests ≡ length set.commodities
   pub credits : length c.credits ≡ length set.commodities
   pub kept : length c.kept ≡ length set.credits
-  pub naming : length c.naming ≡ length set.commodities
 
 -- everything is kept for a set: one net delta and one doubled price risk for each of its commodities, and what its
 -- intercommodity spreads make of them
@@ -25,8 +24,6 @@ pub record AreCreditsOf (set : Tables) (c : Credited) : Type 0 where
   pub credits : c.credits ≡ credits_of c.deltas c.risks set.credits
   pub one_kept_each : length c.kept ≡ length set.credits
   pub kept : (i : ℕ) → i < length set.credits → IsKept c.deltas c.risks (rests_at c.deltas c.risks set.credits i) (credit_spread_at set.credits i) (kept_at c.kept i)
-  pub one_naming_each : length c.naming ≡ length c.deltas
-  pub naming : (g : ℕ) → Misses set.credits (slice_index c.naming g) g
   pub small : (g : ℕ) → slice_index c.credits g ≤ 256 * 10 ^ 33
 
 -- at the turn of the spread at a place, while the numbers of one commodity change: what is kept of the spreads before it is
@@ -48,5 +45,3 @@ pub record IsAtTurn (set : Tables) (g : ℕ) (was : Credited) (moved : List Bool
   pub one_kept_each : length c.kept ≡ length set.credits
   pub done : (j : ℕ) → j < i → IsKept c.deltas c.risks (rests_at c.deltas c.risks set.credits j) (credit_spread_at set.credits j) (kept_at c.kept j)
   pub left : (j : ℕ) → i ≤ j → j < length set.credits → IsKept was.deltas was.risks (rests_at was.deltas was.risks set.credits j) (credit_spread_at set.credits j) (kept_at c.kept j)
-  pub one_naming_each : length c.naming ≡ length c.deltas
-  pub naming : (k : ℕ) → Misses set.credits (slice_index c.naming k) k

@@ -3,5 +3,6 @@ pub mod Sizes
 pub mod Rows
 pub mod Shares
 pub mod Told
+pub mod Quiet
 pub mod Credited
 pub mod CreditRows

@@ -5,15 +5,12 @@ use Rattle.std.specs.List.{fold, list_any, sum_by, zip}
 use Rattle.std.specs.Ordering.{int_eq}
 use Rattle.mgn_params.specs.declared.tables.CreditSpread.{CreditSpread}
 use Rattle.mgn_params.specs.declared.tables.Leg.{Leg}
+pub use Rattle.mgn_params.specs.Naming.{names}
 use Rattle.mgn_span.specs.Credits.{formed}
 use Rattle.mgn_span.specs.Scan.{value_at}
 use Rattle.mgn_params.specs.Tables.{credit_spread_at, legs_of}
 use Rattle.mgn_inter.specs.declared.kept.Kept.{Kept}
 use Rattle.mgn_span.specs.Words.{leg_at}
-
--- whether a leg is of a commodity
-abbrev pub names : ℕ → List Leg → Bool
-names g legs = list_any (λ leg. leg.commodity == g) legs
 
 -- whether one of the spreads at some places names a commodity
 abbrev pub named : ℕ → List CreditSpread → List ℕ → Bool
@@ -88,7 +85,6 @@ pub record Credited : Type 0 where
   pub rests : List ℤ
   pub credits : List ℕ
   pub kept : List Kept
-  pub naming : List ℕ
 
 -- no spread but those at some places, by their bits, names the commodity
 abbrev pub Misses : List CreditSpread → ℕ → ℕ → Type 0

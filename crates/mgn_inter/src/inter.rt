@@ -3,20 +3,25 @@ ghost use Rattle.std.specs.List.{Contains};
 ghost use Rattle.std.specs.List.Sorted.{IsStrictlyIncreasing};
 ghost use Rattle.mgn_inter.specs.Credited.{AreCreditRows, AreCreditsOf, IsAtTurn};
 ghost use Rattle.mgn_inter.specs.Rows.{Credited, IsNextOf, AreWaiting, KeepsNumbers, kept_at, moved_at, named, names};
+ghost use Rattle.mgn_inter.specs.Quiet.{AreAlike, IsMoved, NoneForms};
 ghost use Rattle.mgn_inter.specs.Sizes.{IsRisk};
 ghost use Rattle.mgn_inter.specs.Told.{credits_at, credits_else, told_of};
 ghost use Rattle.mgn_span.specs.Credits.{credits_of};
+ghost use Rattle.mgn_params.specs.Naming.{IsNaming};
 ghost use Rattle.mgn_params.specs.Tables.{Tables, credit_spread_at, legs_of};
+ghost use Rattle.mgn_span.specs.Scan.{value_at};
 ghost use Rattle.mgn_span.specs.Sizes.{IsDelta};
 
 use crate::kept::Kept;
-use crate::naming::{await_moved, first_place, name_again, naming_spreads, next_place, spread_at};
+use crate::naming::{await_moved, first_place, next_place, spread_at};
 use crate::reworked::Reworked;
-use crate::rows::{bring_rests, change_credits, form_spread, mark_moved};
+use crate::rows::{
+    bring_rests, change_credits, form_spread, have_same_sign, kept_forms, mark_moved, move_rest,
+};
 use mgn_num::{Cents, TenThousandths};
 use mgn_params::ParamSet;
 use mgn_params::rows::{fill, filled};
-use mgn_span::Delta;
+use mgn_span::{Delta, delta_at};
 use std::alloc::{AllocError, Global};
 use std::marker::Model;
 
@@ -34,8 +39,6 @@ pub struct InterCredits {
     rests: Vec<Delta>,
     credits: Vec<u128>,
     kept: Vec<Kept>,
-    // For each commodity the spreads that name it.
-    naming: Vec<u64>,
 }
 
 impl Model for InterCredits {
@@ -63,7 +66,6 @@ impl InterCredits {
             rests: filled(alloc, count, Delta::ZERO)?,
             credits: filled(alloc, count, 0)?,
             kept: filled(alloc, set.credits().len(), Kept::NOTHING)?,
-            naming: naming_spreads(alloc, set)?,
         })
     }
 
@@ -77,7 +79,6 @@ impl InterCredits {
             && self.rests.len() == count
             && self.credits.len() == count
             && self.kept.len() == set.credits().len()
-            && self.naming.len() == count
     }
 
     /// Nothing held in place of what was kept, under a set that the rows fit. Takes no memory.
@@ -93,7 +94,6 @@ impl InterCredits {
         fill(&mut self.rests, Delta::ZERO);
         fill(&mut self.credits, 0);
         fill(&mut self.kept, Kept::NOTHING);
-        name_again(&mut self.naming, set);
     }
 
     // Writes the numbers of a commodity, and its net delta as its rest.
@@ -162,14 +162,15 @@ impl InterCredits {
         let spread = spread_at(set.credits(), i);
         let legs = &spread.legs[..spread.count];
         let is_told = self.rework(set, i, moved);
-        await_moved(waiting, &self.naming, moved, legs);
+        await_moved(waiting, set, moved, legs);
         reworked.tell(is_told, i as u8);
     }
 
     // Forms again the spreads that a change of a commodity reaches. Those that name it wait for their turn, and those
     // that a rest reaches which has moved.
-    fn rework_reached(&mut self, set: &ParamSet, g: usize) -> Reworked
+    fn rework_reached(&mut self, set: &ParamSet, g: usize, naming: u64) -> Reworked
         requires commodity { g < length set.now.commodities }
+        requires naming { IsNaming set.now.credits g naming }
         requires turn { (was : Credited) ×
             IsAtTurn set.now g was (slice_set (replicate 256 false) g true) 0 self.old }
         ensures of_set { AreCreditsOf set.now self.new }
@@ -183,7 +184,7 @@ impl InterCredits {
         let mut moved = [false; 256];
         moved[g] = true;
         let mut reworked = Reworked::none();
-        let mut waiting = self.naming[g];
+        let mut waiting = naming;
         let count = set.credits().len();
         let mut i = first_place(waiting).min(count);
         while i < count {
@@ -193,11 +194,76 @@ impl InterCredits {
         reworked
     }
 
+    // Whether none of some spreads forms, by what is kept of them.
+    fn none_forms(&self, set: &ParamSet, naming: u64) -> bool
+        requires { AreCreditsOf set.now self.now }
+        ensures { IsTrue result → NoneForms set.now.credits self.now.deltas self.now.risks naming }
+    {
+        set.limits();
+        let spreads = set.credits().len();
+        let mut i = first_place(naming).min(spreads);
+        while i < spreads {
+            let spread = spread_at(set.credits(), i);
+            if kept_forms(&self.kept[i].rests, &spread.legs[..spread.count]) {
+                return false;
+            }
+            i = next_place(naming, i).min(spreads);
+        }
+        true
+    }
+
+    // Whether a commodity's net delta may become this one with no spread noticing.
+    fn is_quiet(&self, set: &ParamSet, g: usize, naming: u64, delta: Delta) -> bool
+        requires of_set { AreCreditsOf set.now self.now }
+        requires commodity { g < length set.now.commodities }
+        ensures alike { IsTrue result → AreAlike delta (value_at self.now.deltas g) }
+        ensures none { IsTrue result → NoneForms set.now.credits self.now.deltas self.now.risks naming }
+    {
+        have_same_sign(delta, delta_at(&self.deltas, g)) && self.none_forms(set, naming)
+    }
+
+    // Gives the legs of a commodity another rest in what is kept of the spread at a place.
+    fn pass(&mut self, set: &ParamSet, g: usize, i: usize, rest: Delta)
+        requires inside { i < length set.now.credits }
+        requires kept { length self.old.kept ≡ length set.now.credits }
+        ensures { (own : Kept) × (self.new ≡ record self.old { kept = slice_set self.old.kept i own })
+            × IsMoved g rest (legs_of (credit_spread_at set.now.credits i)) (kept_at self.old.kept i) own }
+    {
+        set.limits();
+        let spread = spread_at(set.credits(), i);
+        let legs = &spread.legs[..spread.count];
+        let kept = &mut self.kept[i];
+        move_rest(&mut kept.rests, legs, g, rest);
+        move_rest(&mut kept.after, legs, g, rest);
+    }
+
+    // The same of all spreads that name the commodity, of which none forms of the old rest, nor of this.
+    fn pass_all(&mut self, set: &ParamSet, g: usize, naming: u64, rest: Delta)
+        requires commodity { g < length set.now.commodities }
+        requires naming { IsNaming set.now.credits g naming }
+        requires rest { value_at self.old.rests g ≡ rest }
+        requires quiet { (was : Credited) × IsAtTurn set.now g was (slice_set (replicate 256 false) g true) 0 self.old
+            × AreAlike rest (value_at was.deltas g)
+            × NoneForms set.now.credits was.deltas was.risks naming }
+        ensures of_set { AreCreditsOf set.now self.new }
+        ensures numbers { KeepsNumbers self.old self.new }
+        ensures credits { self.new.credits ≡ self.old.credits }
+        ensures same { (i : ℕ) → credits_at self.new.kept i ≡ credits_at self.old.kept i }
+    {
+        set.limits();
+        let spreads = set.credits().len();
+        let mut i = first_place(naming).min(spreads);
+        while i < spreads {
+            self.pass(set, g, i, rest);
+            i = next_place(naming, i).min(spreads);
+        }
+    }
+
     /// Gives the commodity at a place a net delta, in ten-thousandths, and twice a price risk, in cents. Only those
-    /// spreads are formed again that name it, or of which a leg's rest at its turn is not what it was; the answer has
-    /// the places of those that credit something else, and a commodity that none of them names has the credit that it
-    /// had. The net delta is at most
-    /// 2.56 * 10^14 in size, the doubled price risk 0 to 1.1 * 10^18.
+    /// spreads are formed again that name it, or of which a leg's rest at its turn is not what it was; none is where the
+    /// net delta keeps its sign and no spread that names the commodity forms. The answer has the places of those that
+    /// credit something else, and a commodity that none of them names has the credit that it had. The net delta is at
+    /// most 2.56 * 10^14 in size, the doubled price risk 0 to 1.1 * 10^18.
     pub fn refresh(
         &mut self,
         set: &ParamSet,
@@ -221,11 +287,15 @@ impl InterCredits {
         ensures once { IsStrictlyIncreasing result }
     {
         set.limits();
-        self.write_numbers(g, Delta::new(net_delta), price_risk2.size() as u64);
-        if self.naming[g] == 0 {
+        let delta = Delta::new(net_delta);
+        let naming = set.naming(g);
+        let is_quiet = self.is_quiet(set, g, naming, delta);
+        self.write_numbers(g, delta, price_risk2.size() as u64);
+        if is_quiet {
+            self.pass_all(set, g, naming, delta);
             return Reworked::none();
         }
-        self.rework_reached(set, g)
+        self.rework_reached(set, g, naming)
     }
 
     /// Takes over what is kept for a set that the rows fit. Takes no memory.
@@ -238,7 +308,6 @@ impl InterCredits {
         self.rests.copy_from_slice(&others.rests);
         self.credits.copy_from_slice(&others.credits);
         self.kept.copy_from_slice(&others.kept);
-        self.naming.copy_from_slice(&others.naming);
     }
 
     /// What the intercommodity spreads credit to the commodity at a place, in cents.

@@ -1,17 +1,18 @@
 //! The rows of the commodities while spreads are formed.
 
-ghost use Rattle.std.specs.Prelude.{◌≡◌, ℕ, ℤ, ◌+◌, ◌<◌, ◌≤◌, ◌^◌, ◌==◌, if◌then◌else◌, length, map, All, not, slice_index, List};
-ghost use Rattle.std.specs.List.{IsDistinct};
+ghost use Rattle.std.specs.Prelude.{◌≡◌, ℕ, ℤ, ◌+◌, ◌<◌, ◌≤◌, ◌^◌, ◌==◌, if◌then◌else◌, length, map, All, IsTrue, not, slice_index, List};
+ghost use Rattle.std.specs.List.{IsDistinct, list_all};
 ghost use Rattle.std.specs.Str.{bytes_eq};
+ghost use Rattle.mgn_inter.specs.Quiet.{AreAlike, IsRowMoved};
 ghost use Rattle.mgn_inter.specs.Rows.{AreRestsOf, brought, IsKept, marked, moved_at, reached, share_of};
 ghost use Rattle.mgn_span.specs.Words.{AreNear, AreNumbers, leg_at};
-ghost use Rattle.mgn_span.specs.Credits.{formed};
+ghost use Rattle.mgn_span.specs.Credits.{fits, formed, forms};
 ghost use Rattle.mgn_params.specs.Limits.{IsCreditSpread};
 ghost use Rattle.mgn_span.specs.Scan.{value_at};
 ghost use Rattle.mgn_params.specs.Tables.{legs_of};
 
-use mgn_params::{CreditSpread, Leg};
-use mgn_span::legs::{amount_of_legs, credits_of_legs, spread_forms, use_rests};
+use mgn_params::{CreditSpread, Leg, LegSide};
+use mgn_span::legs::{amount_of_legs, credits_of_legs, rest_fits, spread_forms, use_rests};
 use mgn_span::{Delta, delta_at};
 
 // The rest of a commodity at a spread's turn: that of the row if it has moved, else the one that is kept.
@@ -132,4 +133,46 @@ pub(crate) fn mark_moved(moved: &mut [bool], rests: &[Delta], legs: &[Leg], kept
         moved[commodity] = rest.differs(kept[k]);
         kept[k] = rest;
     }
+}
+
+// Whether the rests that are kept of legs all have the legs' directions, where side A is long or not.
+fn all_kept_fit(a_long: bool, kept: &[Delta; 4], legs: &[Leg]) -> bool
+    requires few { length legs.now ≤ 4 }
+    ensures { (rests : List ℤ) → AreRestsOf legs.now rests kept.now → result ≡ list_all (fits a_long rests) legs.now }
+{
+    for k in 0..legs.len() {
+        if !rest_fits(a_long, kept[k], legs[k].side) {
+            return false;
+        }
+    }
+    true
+}
+
+/// Whether a spread forms of the rests that are kept of its legs.
+pub(crate) fn kept_forms(kept: &[Delta; 4], legs: &[Leg]) -> bool
+    requires few { length legs.now ≤ 4 }
+    ensures { (rests : List ℤ) → AreRestsOf legs.now rests kept.now → result ≡ forms rests legs.now }
+{
+    all_kept_fit(true, kept, legs) || all_kept_fit(false, kept, legs)
+}
+
+/// Gives the legs of a commodity another rest in a row of what is kept.
+pub(crate) fn move_rest(kept: &mut [Delta; 4], legs: &[Leg], g: usize, rest: Delta)
+    requires few { length legs.now ≤ 4 }
+    ensures long { length kept.new ≡ 4 }
+    ensures moved { IsRowMoved g rest legs.now kept.old kept.new }
+{
+    for k in 0..legs.len() {
+        if legs[k].commodity == g {
+            kept[k] = rest;
+        }
+    }
+}
+
+/// Whether two rests have the same directions: both are above 0, or below 0, or neither.
+pub(crate) fn have_same_sign(a: Delta, b: Delta) -> bool
+    ensures { IsTrue result → AreAlike a b }
+{
+    rest_fits(true, a, LegSide::A) == rest_fits(true, b, LegSide::A)
+        && rest_fits(false, a, LegSide::A) == rest_fits(false, b, LegSide::A)
 }

@@ -16,15 +16,16 @@ use Rattle.mgn_machine.specs.History.{entry, recorded}
 use Rattle.mgn_machine.specs.State.{State}
 use Rattle.mgn_machine.specs.Step.{step, switched}
 use Rattle.mgn_machine.proofs.Versions.{keeps_version}
+use Rattle.mgn_unit.specs.Rows.{nets_in}
 use Rattle.mgn_plan.specs.declared.plans.Plan.{Plan}
-use Rattle.mgn_plan.specs.Plans.{LeavesNets, nets_in, row_at}
+use Rattle.mgn_plan.specs.Plans.{LeavesNets, row_at}
 use Rattle.mgn_book.specs.BookViews.{Begins, BookView, Committed, KeepsRows, Stands, sets_after}
 use Rattle.mgn_book.specs.declared.book.Outcome.TheVariants.{Done}
 use Rattle.mgn_book.proofs.Begun.{begins_after, begins_itself, kept_so}
-use Rattle.mgn_ledger.specs.Changes.{AreRenewed, AreSwitched, AreUnchangedSince, Leads, settled}
-use Rattle.mgn_ledger.specs.Days.{Day, GoesOn, set_of, version_of}
-use Rattle.mgn_ledger.specs.Ledgers.{AreStamped, IsBefore, IsLedger}
-use Rattle.mgn_ledger.proofs.PlaceFacts.{unchanged-at-last, unchanged-push, unchanged-still}
+use Rattle.mgn_day.specs.Changes.{AreRenewed, AreSwitched, AreUnchangedSince, Leads, settled}
+use Rattle.mgn_day.specs.Days.{Day, set_of, version_of}
+use Rattle.mgn_ledger.specs.Ledgers.{AreStamped, GoesOn, IsBefore, IsLedger}
+use Rattle.mgn_day.proofs.PlaceFacts.{unchanged-at-last, unchanged-push, unchanged-still}
 use Rattle.mgn_ledger.proofs.Seen.{begins-further, begins-itself}
 
 -- a commit that is done

@@ -1,5 +1,3 @@
 -- Lemmas of the crate.
 pub mod Entries
-pub mod Gathers
-pub mod PlaceFacts
 pub mod Seen

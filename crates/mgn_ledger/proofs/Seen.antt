@@ -12,8 +12,8 @@ use Rattle.mgn_machine.specs.History.{Legal, calls, entry, item, items_of, recor
 use Rattle.mgn_machine.proofs.Histories.{calls-push}
 use Rattle.mgn_machine.proofs.Items.{items_of-begun, items_of-push}
 use Rattle.mgn_book.specs.BookViews.{Begins, Stands}
-use Rattle.mgn_ledger.specs.Days.{Day, GoesOn}
-use Rattle.mgn_ledger.specs.Ledgers.{AreStamped, IsBefore}
+use Rattle.mgn_day.specs.Days.{Day}
+use Rattle.mgn_ledger.specs.Ledgers.{AreStamped, GoesOn, IsBefore}
 use Rattle.mgn_ledger.specs.Passes.{IsBeside, IsCalled, IsPass, PassView, history_seen, pass_view, sets_seen, transcript}
 
 -- Lists that begin others.

@@ -1,5 +1,5 @@
 -- What lies under the lock of the book, and what a call does there (own profile).
-use Rattle.std.specs.Prelude.{ℕ, ◌≡◌, ◌⊎◌, ◌+◌, ◌<◌, ◌≤◌, Bool, false, List, length, take, slice_index_or, Option, Some, None}
+use Rattle.std.specs.Prelude.{ℕ, ◌≡◌, ◌⊎◌, ◌+◌, ◌<◌, ◌≤◌, ◌++◌, ◌∷◌, [], Bool, false, List, length, take, slice_index_or, Option, Some, None}
 use Rattle.mgn_machine.specs.declared.command.Command.{Command}
 use Rattle.mgn_machine.specs.declared.reply.Refusal.TheVariants.{Memory, Full, Broken}
 use Rattle.mgn_machine.specs.declared.reply.Reply.{Reply}
@@ -7,13 +7,22 @@ use Rattle.mgn_machine.specs.declared.reply.Reply.TheVariants.{Refused}
 use Rattle.mgn_machine.specs.declared.reply.Answer.{Answer}
 use Rattle.mgn_machine.specs.declared.request.Request.{Request}
 use Rattle.mgn_machine.specs.declared.request.Request.TheVariants.{Do}
+use Rattle.mgn_machine.specs.History.{entry, recorded, request_of}
 use Rattle.mgn_plan.specs.declared.plans.Plan.{Plan}
 use Rattle.mgn_book.specs.BookViews.{Begins, Stands}
-use Rattle.mgn_ledger.specs.Changes.{AreUnchangedSince, Leads}
-use Rattle.mgn_ledger.specs.Days.{Day}
+use Rattle.mgn_day.specs.Changes.{AreUnchangedSince, Leads}
+use Rattle.mgn_day.specs.Days.{Day}
 use Rattle.mgn_ledger.specs.Passes.{IsCalled, PassView}
 use Rattle.mgn_ledger.specs.declared.entered.Entered.{Entered}
 use Rattle.mgn_ledger.specs.declared.entered.Entered.TheVariants.{Placed, Unplaced}
+
+-- The day goes on by one entry, at the end of its history. A set that came into force stands by the version that shows it.
+pub record GoesOn (old : Day) (session number : ℕ) (request : Request) (place : ℕ) (reply : Reply) (new : Day) : Type 0 where
+  pub sets : Begins old.sets new.sets
+  pub history : new.book.history ≡ old.book.history ++ entry session number (recorded request reply) reply ∷ []
+  pub ends : place ≡ length new.book.history
+  pub stands : Stands new.sets new.book
+  pub asked : request_of new.sets (recorded request reply) ≡ request
 
 -- the day up to its n-th entry
 pub record IsBefore (n : ℕ) (before day : Day) : Type 0 where

@@ -8,7 +8,7 @@ use Rattle.mgn_machine.specs.declared.reply.Reply.{Reply}
 use Rattle.mgn_machine.specs.declared.request.Request.{Request}
 use Rattle.mgn_machine.specs.History.{Legal, calls, item, items_of, recorded, request_of}
 use Rattle.mgn_book.specs.BookViews.{Begins, Stands}
-use Rattle.mgn_ledger.specs.Days.{Day}
+use Rattle.mgn_day.specs.Days.{Day}
 
 -- What a pass is seen as: its session's number, and the sets and the history up to its last call.
 pub record PassView : Type 0 where

@@ -27,14 +27,14 @@ fn place_of(account: &AccountName) -> usize
 
 impl KnownUnits {
     /// None. Takes no memory.
-    pub fn new() -> KnownUnits {
+    pub(crate) fn new() -> KnownUnits {
         KnownUnits {
             places: [None; PLACES],
         }
     }
 
     /// The unit of an account, if it is kept.
-    pub fn get(&self, account: &AccountName) -> Option<usize> {
+    pub(crate) fn get(&self, account: &AccountName) -> Option<usize> {
         match &self.places[place_of(account)] {
             Some((name, unit)) if name == account => Some(*unit),
             _ => None,
@@ -42,7 +42,7 @@ impl KnownUnits {
     }
 
     /// Keeps the unit of an account.
-    pub fn keep(&mut self, account: AccountName, unit: usize) {
+    pub(crate) fn keep(&mut self, account: AccountName, unit: usize) {
         self.places[place_of(&account)] = Some((account, unit));
     }
 }

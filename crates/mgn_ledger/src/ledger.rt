@@ -7,17 +7,17 @@ ghost use Rattle.mgn_unit.specs.NewSets.{ArePrepared};
 ghost use Rattle.mgn_plan.specs.Plans.{Foresees, IsPossible, plan_of};
 ghost use Rattle.mgn_register.specs.BookStates.{IsKept, account_unit};
 ghost use Rattle.mgn_book.specs.BookViews.{Stands, opening};
-ghost use Rattle.mgn_ledger.specs.Changes.{SameUnit};
-ghost use Rattle.mgn_ledger.specs.Days.{set_of, version_of};
-ghost use Rattle.mgn_ledger.specs.Gathering.{AreReady};
+ghost use Rattle.mgn_day.specs.Changes.{SameUnit};
+ghost use Rattle.mgn_day.specs.Days.{set_of, version_of};
+ghost use Rattle.mgn_day.specs.Gathering.{AreReady};
 ghost use Rattle.mgn_ledger.specs.Ledgers.{Answers, Enters, IsUnplaced};
 ghost use Rattle.mgn_ledger.specs.Passes.{AreAudited, IsBeside, fresh};
 
 use crate::entered::{AuditFault, Entered};
 use crate::image::Image;
 use crate::pass::Pass;
-use crate::places::{renew, settled, switch};
 use mgn_book::{Book, Outcome};
+use mgn_day::places::{renew, settled, switch};
 use mgn_ids::{AccountName, SessionNo};
 use mgn_machine::{Answer, Command, Refusal, Reply};
 use mgn_params::{ParamSet, Shelf, Version, Work};
@@ -58,7 +58,7 @@ pub struct Ledger<'a, T: Image, J: TableName + SlotNames> {
 
 impl<'a, T: Image, J: TableName + SlotNames> Model for Ledger<'a, T, J> {
     ghost use Rattle.std.specs.Prelude.{◌≡◌, ◌≤◌, vec_capacity};
-    ghost use Rattle.mgn_ledger.specs.Days.{Day};
+    ghost use Rattle.mgn_day.specs.Days.{Day};
     ghost use Rattle.mgn_ledger.specs.Ledgers.{IsLedger};
 
     ghost Value = { Day };

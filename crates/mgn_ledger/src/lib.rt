@@ -9,10 +9,9 @@ mod known_orders;
 mod known_units;
 mod ledger;
 mod pass;
-mod places;
 
 pub use entered::{AuditFault, Entered};
-pub use gathered::Gathered;
 pub use image::{DayImage, Image};
 pub use ledger::Ledger;
+pub use mgn_day::Gathered;
 pub use pass::Pass;

@@ -1,6 +1,6 @@
 ghost use Rattle.std.specs.Prelude.{◌≡◌, ◌≤◌, unsigned_abs};
 
-use mgn_ids::{ContractName, LotId};
+use mgn_ids::{ContractName, ShortId};
 use mgn_num::Quantity;
 
 /// How a lot came, and whether it still counts.
@@ -32,17 +32,17 @@ impl Mark {
 #[derive(Clone, Copy)]
 pub struct Lot {
     /// Its number, used once in an account.
-    pub number: LotId,
+    pub number: ShortId,
+    /// The contract by its name, since a later set of parameters may number its contracts otherwise.
+    pub contract: ContractName,
+    pub mark: Mark,
     /// 1 to 1,000,000 contracts in size, above 0 bought and below 0 sold.
     pub quantity: Quantity,
     /// Cents for each contract, 0 to 10^8.
     pub premium: u32,
-    /// The contract by its name, since a later set of parameters may number its contracts otherwise.
-    pub contract: ContractName,
-    pub mark: Mark,
 }
 
-const _: () = prove!(size_of::<Lot>() == 40);
+const _: () = prove!(size_of::<Lot>() == 32);
 
 impl Lot {
     ghost use Rattle.mgn_lots.specs.Lots.{live_quantity, lot_share};

@@ -190,10 +190,10 @@ impl Lots {
         ensures spent { self.new.reserved ≡ false }
     {
         self.reserved = false;
-        if self.rising == self.lots.len() && is_above(&self.lots, lot.number) {
+        if self.rising == self.lots.len() && is_above(&self.lots, lot.number.lot()) {
             self.rising += 1;
         } else {
-            let _ = self.numbers.insert(lot.number);
+            let _ = self.numbers.insert(lot.number.lot());
         }
         self.lots.push_reserved(*lot);
     }

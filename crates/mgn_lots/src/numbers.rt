@@ -11,7 +11,7 @@ pub(crate) fn is_above(lots: &[Lot], number: LotId) -> bool
     ensures { IsTrue result ↔ All (λ x. x < number) (numbers_of lots.now) }
 {
     match lots.last() {
-        Some(last) => last.number < number,
+        Some(last) => last.number.lot() < number,
         None => true,
     }
 }
@@ -25,5 +25,6 @@ pub(crate) fn place_in_rising(lots: &[Lot], number: LotId) -> Option<usize>
     if is_above(lots, number) {
         return None;
     }
-    lots.binary_search_by_key(&number, |lot| lot.number).ok()
+    lots.binary_search_by_key(&number, |lot| lot.number.lot())
+        .ok()
 }

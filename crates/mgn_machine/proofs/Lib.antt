@@ -2,4 +2,5 @@
 pub mod Histories
 pub mod Items
 pub mod Names
+pub mod StoredLines
 pub mod Versions

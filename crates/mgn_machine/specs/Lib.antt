@@ -9,5 +9,6 @@ pub mod NewSet
 pub mod Totals
 pub mod Step
 pub mod Brief
+pub mod StoredLines
 pub mod Statements
 pub mod History

@@ -3,6 +3,7 @@
 #![tactic(auto)]
 
 pub mod command;
+pub mod commodity_lines;
 pub mod entry;
 pub mod origin;
 pub mod reply;
@@ -10,6 +11,7 @@ pub mod request;
 pub mod statement;
 
 pub use command::{Command, Fill, Hold, Mode, Trade, Transfer};
+pub use commodity_lines::CommodityLines;
 pub use entry::{Entry, Item};
 pub use origin::Origin;
 pub use reply::{Answer, Figures, NewSet, Refusal, Reply, Totals};

@@ -1,6 +1,7 @@
 ghost use Rattle.std.specs.Prelude.{◌≡◌, IfOk};
 
 use crate::command::Mode;
+use crate::commodity_lines::CommodityLines;
 use crate::reply::Figures;
 use mgn_holds::Held;
 use mgn_ids::{AccountName, ClassName, CommodityName, OriginName, SetName};
@@ -72,7 +73,7 @@ pub struct ClassLine {
 #[derive(Drop)]
 pub struct Statement {
     heading: Heading,
-    commodities: Vec<CommodityLine>,
+    commodities: CommodityLines,
     lots: Vec<Lot>,
     holds: Vec<Held>,
     classes: Vec<ClassLine>,
@@ -85,7 +86,7 @@ impl Model for Statement {
 
     ghost view = { λ s. record {
       heading = s.heading;
-      commodities = s.commodities.items;
+      commodities = s.commodities;
       lots = s.lots.items;
       holds = s.holds.items;
       classes = s.classes.items;
@@ -96,12 +97,12 @@ impl Statement {
     /// A statement of these parts.
     pub fn new(
         heading: Heading,
-        commodities: Vec<CommodityLine>,
+        commodities: CommodityLines,
         lots: Vec<Lot>,
         holds: Vec<Held>,
         classes: Vec<ClassLine>,
     ) -> Statement
-        ensures { result ≡ record { heading = heading; commodities = commodities.items; lots = lots.items; holds = holds.items; classes = classes.items } }
+        ensures { result ≡ record { heading = heading; commodities = commodities; lots = lots.items; holds = holds.items; classes = classes.items } }
     {
         Statement {
             heading,
@@ -120,10 +121,10 @@ impl Statement {
     }
 
     /// The commodities in which the unit has a position that is not 0, in file order of the set.
-    pub fn commodities(&self) -> &[CommodityLine]
+    pub fn commodities(&self) -> &CommodityLines
         ensures { result.now ≡ self.now.commodities }
     {
-        self.commodities.as_slice()
+        &self.commodities
     }
 
     /// The live lots of the account, in order of entry.

@@ -321,16 +321,6 @@ pub row-at : (count : ℕ) (starts : List ℕ) (cells row : List ℤ) → listed
 row-at count starts cells row is c inside =
     sym (listed-at count starts cells c (row-within count starts cells row is c inside)) ∙ ap (λ (xs : List ℤ). get_or xs c (pos 0)) is
 
--- the rest of a page that is not kept
-pub closed-rest : (count : ℕ) (starts : List ℕ) (cells row : List ℤ) (room : ℕ) → listed count starts cells ≡ row → ArePages count starts cells room → (c k : ℕ) → get_or starts (c / 16) 0 ≡ 0 → c ≤ k → k < (c / 16 + 1) * 16 → value_at row k ≡ pos 0
-closed-rest count starts cells row room is are c k closed from to =
-    ⊎_elim
-    (λ (inside : k < length row).
-    let page : k / 16 ≡ c / 16 = page-of (c / 16) k (omega (arith, from, page-from c)) (omega (arith, to)) in
-    sym (row-at count starts cells row is k inside) ∙ closed-cell count starts cells room are k (ap (λ (p : ℕ). get_or starts p 0) page ∙ closed))
-    (λ (past : length row ≤ k). get_or_past row k (pos 0) past)
-    (cases_lt k (length row))
-
 -- what stands in a page of the list, and what stands past its end
 pub page-cell : (count : ℕ) (starts : List ℕ) (cells row : List ℤ) (room : ℕ) → listed count starts cells ≡ row → ArePages count starts cells room → (page i : ℕ) → i < 16 → value_at row (page * 16 + i) ≡ value_at cells (get_or starts page 0 + i)
 page-cell count starts cells row room is are page i small =

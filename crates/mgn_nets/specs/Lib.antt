@@ -1,3 +1,4 @@
--- Nets, as they are kept and as they are read.
+-- Nets, as they are kept and as they are read, and those of the four portfolios of a unit.
 pub mod Pages
 pub mod Numbers
+pub mod Portfolios

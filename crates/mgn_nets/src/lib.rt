@@ -3,5 +3,7 @@
 
 mod nets;
 mod pages;
+mod portfolios;
 
 pub use nets::Nets;
+pub use portfolios::Portfolios;

@@ -2,4 +2,5 @@
 pub mod LimitsLemmas
 pub mod NameLemmas
 pub mod RowGrowth
+pub mod NamingLemmas
 pub mod RowEquality

@@ -2,6 +2,7 @@
 pub mod Tables
 pub mod Limits
 pub mod CommodityRows
+pub mod Naming
 pub mod Inside
 pub mod Shelves
 pub mod Marked

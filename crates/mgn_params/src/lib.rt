@@ -4,6 +4,7 @@
 mod array;
 mod commodity_rows;
 mod kinds;
+mod naming;
 pub mod rows;
 mod set;
 mod shelf;

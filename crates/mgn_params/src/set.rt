@@ -2,6 +2,7 @@ ghost use Rattle.std.specs.Prelude.{◌≡◌, ◌+◌, ◌-◌, ◌<◌, ◌≤
 ghost use Rattle.std.specs.List.{filter, find, list_any};
 ghost use Rattle.std.specs.Str.{bytes_eq};
 ghost use Rattle.mgn_params.specs.Limits.{IsWithinLimits, class_names, commodity_names, contract_names};
+ghost use Rattle.mgn_params.specs.Naming.{IsNaming};
 ghost use Rattle.mgn_params.specs.Tables.{is_month, class_at, commodity_at, contract_at, credit_spread_at, month_at, spot_at, spread_at};
 
 use crate::commodity_rows::CommodityRows;
@@ -32,6 +33,8 @@ pub struct ParamSet {
     contract_places: Places<ContractName>,
     class_places: Places<ClassName>,
     commodity_rows: Vec<CommodityRows>,
+    // For each commodity the intercommodity spreads that name it.
+    naming: Vec<u64>,
 }
 
 impl Model for ParamSet {
@@ -252,6 +255,15 @@ impl ParamSet {
         ensures { result.now ≡ self.now.credits }
     {
         self.credits.as_slice()
+    }
+
+    /// The intercommodity spreads that name the commodity at a place: bit `i` stands for the one at place `i`. One look,
+    /// no memory.
+    pub fn naming(&self, g: usize) -> u64
+        requires { g < length self.now.commodities }
+        ensures { IsNaming self.now.credits g result }
+    {
+        self.naming[g]
     }
 
     /// The collateral classes in file order.

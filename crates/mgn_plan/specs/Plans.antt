@@ -1,7 +1,8 @@
 -- What a command changes in the rows of margin units, where nothing but want of room refuses it, and what the units then
 -- require (own profile).
-use Rattle.std.specs.Prelude.{ℕ, ◌≡◌, ◌≢◌, ◌<◌, ◌≤◌, ℤ, neg_ℤ, ◌==◌, if◌then◌else◌, IfSome, IsSome, None, List, length, slice_index_or, Result, Ok, Err}
+use Rattle.std.specs.Prelude.{ℕ, ◌≡◌, ◌≢◌, ◌<◌, ◌≤◌, neg_ℤ, ◌==◌, if◌then◌else◌, IfSome, IsSome, None, List, length, slice_index_or, Result, Ok, Err}
 use Rattle.mgn_params.specs.Tables.{Tables}
+use Rattle.mgn_nets.specs.Portfolios.{UnitNets}
 use Rattle.mgn_lots.specs.declared.lot.Lot.{Lot}
 use Rattle.mgn_lots.specs.Lots.{lot_at}
 use Rattle.mgn_holds.specs.declared.held.Held.{Held}
@@ -22,7 +23,7 @@ use Rattle.mgn_machine.specs.Transfers.{move_places}
 use Rattle.mgn_unit.specs.Changes.{bust_change, fill_change, hold_change, lot_change, moved_change, release_change}
 use Rattle.mgn_unit.specs.declared.change.Change.{Change}
 use Rattle.mgn_unit.specs.declared.row.Row.{Row}
-use Rattle.mgn_unit.specs.Rows.{IsChange, IsRoomy, IsRow, Prices, more_at, no_row}
+use Rattle.mgn_unit.specs.Rows.{IsChange, IsRoomy, IsRow, Prices, more_at, nets_in, no_row}
 use Rattle.mgn_plan.specs.declared.plans.Known.{Known}
 use Rattle.mgn_plan.specs.declared.plans.Plan.{Plan}
 use Rattle.mgn_plan.specs.declared.plans.Plan.TheVariants.{Nothing, One, Two}
@@ -135,16 +136,6 @@ IsPossible set rows (One u) = CanChange set rows u
 IsPossible set rows (Two u v) = CanChange set rows u × CanChange set rows v × (v.unit ≢ u.unit)
 
 -- What a plan leaves of the nets.
-
--- the nets of the four portfolios of a unit
-pub record UnitNets : Type 0 where
-  pub lots : List ℤ
-  pub buys : List ℤ
-  pub sales : List ℤ
-  pub all : List ℤ
-
-abbrev pub nets_in : Row → UnitNets
-nets_in row = record { lots = row.lots.nets; buys = row.buys.nets; sales = row.sales.nets; all = row.all.nets }
 
 abbrev pub moved_nets : Change → UnitNets → UnitNets
 moved_nets change nets = record {

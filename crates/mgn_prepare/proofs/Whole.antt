@@ -3,18 +3,16 @@ use Rattle.std.proofs.Common.{◌≡◌, ◌<◌, ◌+◌, ◌∙◌, ℕ, zero,
 use Rattle.std.specs.Prelude.{slice_index_or}
 use Rattle.std.proofs.lemmas.List.{get_or-map, length-map, map-append, take_more}
 use Rattle.mgn_params.specs.Tables.{Tables}
-use Rattle.mgn_unit.specs.declared.prepared.CopiedNets.{CopiedNets}
-use Rattle.mgn_unit.specs.declared.row.PreparedUnit.{PreparedUnit}
-use Rattle.mgn_unit.specs.NewSets.{ArePrepared, IsPrepared}
-use Rattle.mgn_unit.specs.Prepared.{AreCopied}
+use Rattle.mgn_nets.specs.Portfolios.{AreUnitNets, UnitNets}
+use Rattle.mgn_unit.specs.NewSets.{ArePrepared, IsPrepared, PreparedUnit}
 use Rattle.mgn_prepare.specs.declared.marks.Job.{Job}
 use Rattle.mgn_prepare.specs.Jobs.{IsDone}
 use Rattle.mgn_prepare.specs.Marks.{mark_of}
 
 -- what holds of the nets of each job holds of all nets
-pub jobs-copied : (old : Tables) (nets : List CopiedNets) (jobs : List Job) → map (λ (job : Job). job.nets) jobs ≡ nets → All (AreCopied old) nets → All (λ (job : Job). AreCopied old job.nets) jobs
+pub jobs-copied : (old : Tables) (nets : List UnitNets) (jobs : List Job) → map (λ (job : Job). job.nets) jobs ≡ nets → All (AreUnitNets old) nets → All (λ (job : Job). AreUnitNets old job.nets) jobs
 jobs-copied old nets jobs same all = λ k d small.
-    subst (AreCopied old) (ap (λ (l : List CopiedNets). get_or l k d.nets) (sym same) ∙ get_or-map (λ (job : Job). job.nets) jobs k d d.nets small)
+    subst (AreUnitNets old) (ap (λ (l : List UnitNets). get_or l k d.nets) (sym same) ∙ get_or-map (λ (job : Job). job.nets) jobs k d d.nets small)
     (all k d.nets (omega (arith, small, ap length same, length-map jobs (λ (job : Job). job.nets))))
 
 -- all jobs are done, one by one
@@ -53,7 +51,7 @@ prepared-done old new (b ∷ bs) (a ∷ rest) (m ∷ ms) long done same (suc u) 
     prepared-done old new bs rest ms (omega (arith, long)) (λ k d small. done (suc k) d (omega (arith, small))) (cc) u one is
 
 -- all marks that come of jobs which were done for these nets
-pub whole : {V E : Type 0} (items : V → List (Option PreparedUnit)) (r : Result V E) (old new from to : Tables) (nets : List CopiedNets) (before after : List Job) → from ≡ old → to ≡ new
+pub whole : {V E : Type 0} (items : V → List (Option PreparedUnit)) (r : Result V E) (old new from to : Tables) (nets : List UnitNets) (before after : List Job) → from ≡ old → to ≡ new
     → map (λ (job : Job). job.nets) before ≡ nets → length after ≡ length before → AreDone from to before after → IfOk r (λ v. map Ok (items v) ≡ map (λ (job : Job). job.mark) after)
     → IfOk r (λ v. items v ≡ map (mark_of old new) nets)
 whole items (Err e) old new from to nets before after is_old is_new same long done are = tt
@@ -74,7 +72,7 @@ more-prepared new [] m are some (suc u) one is = absurd (cc)
 more-prepared new (x ∷ xs) m are some zero one is = are 0 one is
 more-prepared new (x ∷ xs) m are some (suc u) one is = more-prepared new xs m (λ k o e. are (suc k) o e) some u one is
 
-pub more-marks : (old new : Tables) (nets : List CopiedNets) (u : ℕ) (n : CopiedNets) (marks : List (Option PreparedUnit)) (m : Option PreparedUnit) → u < length nets → n ≡ get_or nets u n → marks ≡ map (mark_of old new) (take u nets) → m ≡ mark_of old new n
+pub more-marks : (old new : Tables) (nets : List UnitNets) (u : ℕ) (n : UnitNets) (marks : List (Option PreparedUnit)) (m : Option PreparedUnit) → u < length nets → n ≡ get_or nets u n → marks ≡ map (mark_of old new) (take u nets) → m ≡ mark_of old new n
     → marks ++ m ∷ [] ≡ map (mark_of old new) (take (u + 1) nets)
 more-marks old new nets u n marks m inside same are mark =
     ap (λ (xs : List (Option PreparedUnit)). xs ++ m ∷ []) are

@@ -1,6 +1,6 @@
 ghost use Rattle.std.specs.Prelude.{◌≡◌, map, All, IfOk};
+ghost use Rattle.mgn_nets.specs.Portfolios.{AreUnitNets};
 ghost use Rattle.mgn_unit.specs.NewSets.{ArePrepared};
-ghost use Rattle.mgn_unit.specs.Prepared.{AreCopied};
 ghost use Rattle.mgn_prepare.specs.Marks.{mark_of};
 
 use crate::marker::Marker;
@@ -18,7 +18,7 @@ pub fn mark_alone<G: UnitGate>(
     nets: &[CopiedNets],
     gate: &G,
 ) -> Result<Vec<Option<PreparedUnit>>, AllocError>
-    requires { All (AreCopied old.now) nets.now }
+    requires { All (AreUnitNets old.now) nets.now }
     ensures marks { IfOk result (λ marks. marks.items ≡ map (mark_of old.now new.now) nets.now) }
     ensures prepared { IfOk result (λ marks. ArePrepared new.now marks.items) }
 {

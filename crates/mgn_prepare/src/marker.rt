@@ -1,12 +1,12 @@
 //! What one unit is marked with.
 
 ghost use Rattle.std.specs.Prelude.{◌≡◌, IfOk, IfSome};
+ghost use Rattle.mgn_nets.specs.Portfolios.{AreUnitNets};
 ghost use Rattle.mgn_unit.specs.NewSets.{IsPrepared};
-ghost use Rattle.mgn_unit.specs.Prepared.{AreCopied};
 ghost use Rattle.mgn_prepare.specs.Marks.{mark_of};
 
 use mgn_params::{ParamSet, Work};
-use mgn_unit::{CopiedNets, PreparedUnit, Switch};
+use mgn_unit::{CopiedNets, PreparedUnit, Switch, is_unit_covered};
 use std::alloc::{AllocError, Global};
 
 /// What all workers share: the set in force, the one that is to come, and where the contracts of each stand in the other.
@@ -41,14 +41,14 @@ impl<'a> Marker<'a> {
 
     // What a unit with these nets under the old set is marked with. An error says that memory was refused.
     pub(crate) fn mark(&self, nets: &CopiedNets) -> Result<Option<PreparedUnit>, AllocError>
-        requires { AreCopied self.now.old.now nets.now }
+        requires { AreUnitNets self.now.old.now nets.now }
         ensures mark { IfOk result (λ mark. mark ≡ mark_of self.now.old.now self.now.new.now nets.now) }
         ensures prepared { IfOk result (λ mark. IfSome mark (IsPrepared self.now.new.now)) }
     {
-        if !nets.are_covered_by(self.old, self.new) {
+        if !is_unit_covered(nets, self.old, self.new) {
             return Ok(None);
         }
-        let one = nets.prepare(self.alloc, &self.switch, &mut Work::new())?;
+        let one = self.switch.prepare(self.alloc, nets, &mut Work::new())?;
         Ok(Some(one))
     }
 }

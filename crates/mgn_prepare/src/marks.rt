@@ -1,6 +1,6 @@
 ghost use Rattle.std.specs.Prelude.{ℕ, ◌≡◌, ◌<◌, ◌≤◌, length, map, slice_index_or, All, IfOk, Ok};
+ghost use Rattle.mgn_nets.specs.Portfolios.{AreUnitNets};
 ghost use Rattle.mgn_unit.specs.NewSets.{ArePrepared};
-ghost use Rattle.mgn_unit.specs.Prepared.{AreCopied};
 ghost use Rattle.mgn_prepare.specs.Jobs.{IsDone};
 ghost use Rattle.mgn_prepare.specs.Marks.{mark_of};
 
@@ -47,7 +47,7 @@ fn do_all<R: Threads + Sync, G: UnitGate + Sync>(
     gate: &G,
 )
     requires workers { 0 < workers }
-    requires nets { All (λ job. AreCopied marker.now.old.now job.nets) jobs.old }
+    requires nets { All (λ job. AreUnitNets marker.now.old.now job.nets) jobs.old }
     ensures done { (u : ℕ) (d : _) → u < length jobs.old →
         IsDone marker.now.old.now marker.now.new.now (slice_index_or jobs.old u d) (slice_index_or jobs.new u d) }
     ensures long { length jobs.new ≡ length jobs.old }
@@ -57,7 +57,7 @@ fn do_all<R: Threads + Sync, G: UnitGate + Sync>(
         jobs,
         workers,
         &|unit: usize, job: &mut Job|
-            requires { AreCopied marker.now.old.now job.old.nets }
+            requires { AreUnitNets marker.now.old.now job.old.nets }
             ensures { IsDone marker.entry.now.old.now marker.entry.now.new.now job.old job.new }
         {
             gate.before(unit);
@@ -75,7 +75,7 @@ fn do_list<R: Threads + Sync, G: UnitGate + Sync>(
     gate: &G,
 )
     requires workers { 0 < workers }
-    requires nets { All (λ job. AreCopied marker.now.old.now job.nets) jobs.old.items }
+    requires nets { All (λ job. AreUnitNets marker.now.old.now job.nets) jobs.old.items }
     ensures done { (u : ℕ) (d : _) → u < length jobs.old.items →
         IsDone marker.now.old.now marker.now.new.now (slice_index_or jobs.old.items u d) (slice_index_or jobs.new.items u d) }
     ensures long { length jobs.new.items ≡ length jobs.old.items }
@@ -109,7 +109,7 @@ pub fn mark_all<R: Threads + Sync, G: UnitGate + Sync>(
 ) -> Result<Vec<Option<PreparedUnit>>, AllocError>
     requires some { 0 < workers }
     requires few { workers ≤ 64 }
-    requires nets { All (AreCopied old.now) nets.items }
+    requires nets { All (AreUnitNets old.now) nets.items }
     ensures marks { IfOk result (λ marks. marks.items ≡ map (mark_of old.now new.now) nets.items) }
     ensures prepared { IfOk result (λ marks. ArePrepared new.now marks.items) }
 {

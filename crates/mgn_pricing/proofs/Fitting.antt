@@ -12,16 +12,16 @@ use Rattle.std.proofs.lemmas.Option.{slice_get_past}
 use Rattle.std.proofs.lemmas.Bool.{ltb-false}
 use Rattle.std.proofs.lemmas.List.{ext_get_or, length-set}
 use Rattle.mgn_params.specs.Tables.{Tables}
+use Rattle.mgn_nets.specs.Portfolios.{UnitNets}
 use Rattle.mgn_desk.specs.declared.desk.Marked.{Marked}
 use Rattle.mgn_desk.specs.Desks.{DeskRows, IsMarkedBy, Requires}
-use Rattle.mgn_desk.specs.Portfolios.{AreSmall, FourNets, nets_of, requirements_of}
+use Rattle.mgn_desk.specs.Portfolios.{AreSmall, nets_of, requirements_of}
 use Rattle.mgn_unit.specs.declared.change.Change.{Change}
-use Rattle.mgn_unit.specs.declared.row.Priced.{Priced}
 use Rattle.mgn_unit.specs.declared.row.Row.{Row}
-use Rattle.mgn_unit.specs.Rows.{Prices}
+use Rattle.mgn_unit.specs.Rows.{Priced, Prices, nets_in}
 use Rattle.mgn_plan.specs.declared.plans.UnitChange.{UnitChange}
-use Rattle.mgn_plan.specs.Plans.{moved_nets, nets_in, row_at}
-use Rattle.mgn_pricing.specs.Desks.{four, is_of, required_by}
+use Rattle.mgn_plan.specs.Plans.{moved_nets, row_at}
+use Rattle.mgn_pricing.specs.Desks.{is_of}
 use Rattle.mgn_pricing.specs.Given.{IsRight, fits, fits_change, marked_in, same_four, same_nets}
 use Rattle.mgn_pricing.proofs.Moved.{prices-by}
 
@@ -67,25 +67,25 @@ both-true : (a b : Bool) → (a && b) ≡ true → (a ≡ true) × (b ≡ true)
 both-true true b e = (refl, e)
 both-true false b e = cc
 
-same-is : (m n : FourNets) → same_four m n ≡ true → m ≡ n
+same-is : (m n : UnitNets) → same_four m n ≡ true → m ≡ n
 same-is m n e =
     let lots = both-true (same_nets m.lots n.lots) (same_nets m.buys n.buys && (same_nets m.sales n.sales && same_nets m.all n.all)) e in
     let buys = both-true (same_nets m.buys n.buys) (same_nets m.sales n.sales && same_nets m.all n.all) lots.1 in
     let sales = both-true (same_nets m.sales n.sales) (same_nets m.all n.all) buys.1 in
     four-same m n ((decided m.lots n.lots).0 lots.0) ((decided m.buys n.buys).0 buys.0) ((decided m.sales n.sales).0 sales.0) ((decided m.all n.all).0 sales.1)
   where
-    four-same : (m n : FourNets) → m.lots ≡ n.lots → m.buys ≡ n.buys → m.sales ≡ n.sales → m.all ≡ n.all → m ≡ n
+    four-same : (m n : UnitNets) → m.lots ≡ n.lots → m.buys ≡ n.buys → m.sales ≡ n.sales → m.all ≡ n.all → m ≡ n
     four-same m n a b c d = λ j. record { lots = a j; buys = b j; sales = c j; all = d j }
 
-pub fits-of : (version : ℕ) (nets : FourNets) (m : Option Marked) → fits version nets m ≡ true → is_of version m ≡ true
+pub fits-of : (version : ℕ) (nets : UnitNets) (m : Option Marked) → fits version nets m ≡ true → is_of version m ≡ true
 fits-of version nets None is = cc
 fits-of version nets (Some m) is = (both-true (m.version == version) (same_four (nets_of m.portfolios) nets) is).0
 
-pub priced-fit : (set' : Tables) (version : ℕ) (row : Row) (change : Change) (m : Option Marked) (p : Priced) → fits version (four (moved_nets change (nets_in row))) m ≡ true → Requires set' m (required_by p) → AreSmall (required_by p) → Prices set' change row p
+pub priced-fit : (set' : Tables) (version : ℕ) (row : Row) (change : Change) (m : Option Marked) (p : Priced) → fits version (moved_nets change (nets_in row)) m ≡ true → Requires set' m p → AreSmall p → Prices set' change row p
 priced-fit set' version row change None p is required small = cc
 priced-fit set' version row change (Some m) p is required small =
-    let nets : nets_of m.portfolios ≡ four (moved_nets change (nets_in row)) =
-    same-is (nets_of m.portfolios) (four (moved_nets change (nets_in row))) (both-true (m.version == version) (same_four (nets_of m.portfolios) (four (moved_nets change (nets_in row)))) is).1
+    let nets : nets_of m.portfolios ≡ moved_nets change (nets_in row) =
+    same-is (nets_of m.portfolios) (moved_nets change (nets_in row)) (both-true (m.version == version) (same_four (nets_of m.portfolios) (moved_nets change (nets_in row))) is).1
     in
     prices-by set' row change p (required ∙ ap (requirements_of set') nets) small
 
@@ -145,12 +145,12 @@ found-none f p xs none = no-place f p xs (not-found (λ a. p (f a)) xs none)
 -- no desk of the unit
 pub unfit-none : {A : Type 0} (f : A → DeskRows) (set' : Tables) (version : ℕ) (rows : List Row) (u : UnitChange) (desks : List A) → position (λ d. (f d).unit == u.unit) desks ≡ None → fits_change set' version rows (map f desks) u ≡ false
 unfit-none f set' version rows u desks none =
-    ap (λ (o : Option DeskRows). fits version (four (moved_nets u.change (nets_in (row_at set' rows u.unit)))) (marked_in o)) (found-none f (λ d. d.unit == u.unit) desks none)
+    ap (λ (o : Option DeskRows). fits version (moved_nets u.change (nets_in (row_at set' rows u.unit))) (marked_in o)) (found-none f (λ d. d.unit == u.unit) desks none)
 
 -- the desk of the unit, and its row
 pub fits-place : {A : Type 0} (f : A → DeskRows) (set' : Tables) (version : ℕ) (rows : List Row) (u : UnitChange) (desks : List A) (i : ℕ) (d : A) (row : Row)
-    → u.unit < length rows → row ≡ get_or rows u.unit row → position (λ a. (f a).unit == u.unit) desks ≡ Some i → d ≡ get_or desks i d → fits_change set' version rows (map f desks) u ≡ fits version (four (moved_nets u.change (nets_in row))) (f d).marked
-fits-place {A = A} f set' version rows u desks i d row inside row_is at d_is = λ j. fits version (four (moved_nets u.change (nets_in (row-same j)))) (marked_in (desk-same j))
+    → u.unit < length rows → row ≡ get_or rows u.unit row → position (λ a. (f a).unit == u.unit) desks ≡ Some i → d ≡ get_or desks i d → fits_change set' version rows (map f desks) u ≡ fits version (moved_nets u.change (nets_in row)) (f d).marked
+fits-place {A = A} f set' version rows u desks i d row inside row_is at d_is = λ j. fits version (moved_nets u.change (nets_in (row-same j))) (marked_in (desk-same j))
   where
     row-same : row_at set' rows u.unit ≡ row
     row-same = default-is rows u.unit _ row inside ∙ sym row_is

@@ -1,19 +1,18 @@
 -- The desks of margin units beside the rows of a book (own profile).
 use Rattle.std.specs.Prelude.{ℕ, ◌≡◌, ◌≢◌, ◌<◌, ◌≤◌, ◌==◌, ◌||◌, Bool, false, true, List, length, slice_index_or, Option, Some, None}
 use Rattle.mgn_params.specs.Tables.{Tables}
+use Rattle.mgn_nets.specs.Portfolios.{AreUnitNets, UnitNets}
 use Rattle.mgn_desk.specs.declared.desk.Marked.{Marked}
 use Rattle.mgn_desk.specs.declared.moves.Moves.{Moves}
-use Rattle.mgn_desk.specs.declared.moves.Requirements.{Requirements}
 use Rattle.mgn_desk.specs.Desks.{DeskRows}
-use Rattle.mgn_desk.specs.Portfolios.{AreFourNets, ArePortfolios, FourNets, nets_of}
+use Rattle.mgn_desk.specs.Portfolios.{ArePortfolios, nets_of}
 use Rattle.mgn_unit.specs.declared.change.Change.{Change}
-use Rattle.mgn_unit.specs.declared.prepared.KeptNets.{KeptNets}
-use Rattle.mgn_unit.specs.declared.row.Priced.{Priced}
 use Rattle.mgn_unit.specs.declared.row.Row.{Row}
+use Rattle.mgn_unit.specs.Rows.{nets_in}
 use Rattle.mgn_plan.specs.declared.plans.Plan.{Plan}
 use Rattle.mgn_plan.specs.declared.plans.Plan.TheVariants.{Nothing, One, Two}
 use Rattle.mgn_plan.specs.declared.plans.UnitChange.{UnitChange}
-use Rattle.mgn_plan.specs.Plans.{UnitNets, moved_nets, nets_in, planned_nets, row_at}
+use Rattle.mgn_plan.specs.Plans.{moved_nets, planned_nets, row_at}
 
 -- what a change moves in the nets of a desk
 abbrev pub moves_of : Change → Moves
@@ -25,23 +24,11 @@ moves_of change = record {
   all = change.all.quantity;
 }
 
--- requirements of a row as a desk tells them
-abbrev pub required_by : Priced → Requirements
-required_by r = record { lots = r.lots; buys = r.buys; sales = r.sales; all = r.all }
-
--- nets as a desk shows them
-abbrev pub four : UnitNets → FourNets
-four nets = record { lots = nets.lots; buys = nets.buys; sales = nets.sales; all = nets.all }
-
--- nets where a row keeps them, as a desk shows them
-abbrev pub four_kept : KeptNets → FourNets
-four_kept nets = record { lots = nets.lots.now; buys = nets.buys.now; sales = nets.sales.now; all = nets.all.now }
-
 -- nets can change so: they are within their limits before and after
 pub record CanGain (set : Tables) (nets : UnitNets) (change : Change) : Type 0 where
   pub contract : change.contract < length set.contracts
-  pub before : AreFourNets set (four nets)
-  pub after : AreFourNets set (four (moved_nets change nets))
+  pub before : AreUnitNets set nets
+  pub after : AreUnitNets set (moved_nets change nets)
 
 -- what is marked on the desk of a unit, nothing where there is no desk
 abbrev pub marked_at : List DeskRows → ℕ → Option Marked
@@ -63,7 +50,7 @@ is_of version (Some m) = m.version == version
 pub record IsReadyWith (set : Tables) (version : ℕ) (nets : UnitNets) (m : Marked) : Type 0 where
   pub under : m.version ≡ version
   pub of_set : ArePortfolios set m.portfolios
-  pub shows : nets_of m.portfolios ≡ four nets
+  pub shows : nets_of m.portfolios ≡ nets
 
 abbrev pub IsReady : Tables → ℕ → UnitNets → Option Marked → Type 0
 IsReady set version nets None = ⊥

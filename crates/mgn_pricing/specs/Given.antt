@@ -4,15 +4,16 @@ use Rattle.std.specs.Cmp.Lexicographic.{pointwise}
 use Rattle.std.specs.List.{find, list_any}
 use Rattle.std.specs.Ordering.{int_eq}
 use Rattle.mgn_params.specs.Tables.{Tables}
+use Rattle.mgn_nets.specs.Portfolios.{UnitNets}
 use Rattle.mgn_desk.specs.declared.desk.Marked.{Marked}
 use Rattle.mgn_desk.specs.Desks.{DeskRows}
-use Rattle.mgn_desk.specs.Portfolios.{ArePortfolios, FourNets, nets_of}
+use Rattle.mgn_desk.specs.Portfolios.{ArePortfolios, nets_of}
 use Rattle.mgn_unit.specs.declared.row.Row.{Row}
+use Rattle.mgn_unit.specs.Rows.{nets_in}
 use Rattle.mgn_plan.specs.declared.plans.Plan.{Plan}
 use Rattle.mgn_plan.specs.declared.plans.Plan.TheVariants.{Nothing, One, Two}
 use Rattle.mgn_plan.specs.declared.plans.UnitChange.{UnitChange}
-use Rattle.mgn_plan.specs.Plans.{moved_nets, nets_in, row_at}
-use Rattle.mgn_pricing.specs.Desks.{four}
+use Rattle.mgn_plan.specs.Plans.{moved_nets, row_at}
 
 abbrev pub marked_in : Option DeskRows → Option Marked
 marked_in None = None
@@ -33,19 +34,19 @@ is_one_older version desks = list_any (λ d. is_older version d.marked) desks
 abbrev pub same_nets : List ℤ → List ℤ → Bool
 same_nets = pointwise int_eq
 
-abbrev pub same_four : FourNets → FourNets → Bool
+abbrev pub same_four : UnitNets → UnitNets → Bool
 same_four m n =
     same_nets m.lots n.lots && (same_nets m.buys n.buys && (same_nets m.sales n.sales && same_nets m.all n.all))
 
 -- a desk is marked under the version with these nets
-abbrev pub fits : ℕ → FourNets → Option Marked → Bool
+abbrev pub fits : ℕ → UnitNets → Option Marked → Bool
 fits version nets None = false
 fits version nets (Some m) = m.version == version && same_four (nets_of m.portfolios) nets
 
 -- the desk of a unit has the nets of its row after a change
 abbrev pub fits_change : Tables → ℕ → List Row → List DeskRows → UnitChange → Bool
 fits_change set version rows desks u =
-    fits version (four (moved_nets u.change (nets_in (row_at set rows u.unit)))) (desk_of u.unit desks)
+    fits version (moved_nets u.change (nets_in (row_at set rows u.unit))) (desk_of u.unit desks)
 
 -- each unit of a plan has a desk with the nets of its row after the plan
 abbrev pub fit_plan : Tables → ℕ → List Row → List DeskRows → Plan → Bool

@@ -1,14 +1,10 @@
 ghost use Rattle.std.specs.Prelude.{◌≡◌, ◌<◌, ◌≤◌, ◌+◌, [], ℕ, IfOk, IsOk, OnErr, OnOk, None, length, false, true};
-ghost use Rattle.mgn_desk.specs.Desks.{CanMoveMarked, IsMarkedBy, Requires};
-ghost use Rattle.mgn_desk.specs.Portfolios.{AreSmall};
-ghost use Rattle.mgn_params.specs.Tables.{Tables};
-ghost use Rattle.mgn_unit.specs.Rows.{IsChange, IsRoomy, IsRow, Prices};
+ghost use Rattle.mgn_unit.specs.Rows.{IsChange, IsRoomy, IsRow, Prices, nets_in};
 ghost use Rattle.mgn_unit.specs.declared.row.Row.{Row as UnitRow};
-ghost use Rattle.mgn_plan.specs.Plans.{CanChange, Foresees, IsPossible, UnitNets, moved_nets, nets_in, row_at};
+ghost use Rattle.mgn_plan.specs.Plans.{CanChange, Foresees, IsPossible, moved_nets, row_at};
 ghost use Rattle.mgn_plan.specs.declared.plans.Plan.TheVariants.{Nothing};
-ghost use Rattle.mgn_pricing.specs.Desks.{IsReady, Rests, is_of, moves_of, required_by};
+ghost use Rattle.mgn_pricing.specs.Desks.{IsReady, Rests, is_of, moves_of};
 
-use crate::marks::mark;
 use mgn_desk::{Desk, Moves};
 use mgn_params::{ParamSet, Version, Work};
 use mgn_plan::{Known, Plan, UnitChange};
@@ -78,23 +74,7 @@ fn ready(
     if is_of(desk, version) {
         return Ok(());
     }
-    mark(desk, alloc, version, set, &row.nets())
-}
-
-/// What the portfolios of a marked desk require, in cents.
-pub fn priced(desk: &Desk) -> Priced
-    requires { (set : Tables) × IsMarkedBy set desk.now.marked }
-    ensures requirements { (set : Tables) → IsMarkedBy set desk.now.marked →
-        Requires set desk.now.marked (required_by result) }
-    ensures small { AreSmall (required_by result) }
-{
-    let required = desk.requirements();
-    Priced {
-        lots: required.lots,
-        buys: required.buys,
-        sales: required.sales,
-        all: required.all,
-    }
+    desk.mark(alloc, version, set, &row.nets())
 }
 
 // Moves a ready desk as a change of its unit's row says, and tells what is then required.
@@ -108,7 +88,7 @@ fn foresee(desk: &mut Desk, version: Version, set: &ParamSet, row: &Row, change:
     ensures number { desk.new.unit ≡ desk.old.unit }
 {
     desk.apply(set, &moves_of(change), &mut Work::new());
-    priced(desk)
+    desk.requirements()
 }
 
 // Moves a desk back that was moved by a change which came to nothing.

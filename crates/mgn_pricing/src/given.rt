@@ -3,17 +3,14 @@
 ghost use Rattle.std.specs.Prelude.{◌≡◌, ◌<◌, ◌==◌, IfSome, is_some, length, map, None, All};
 ghost use Rattle.std.specs.Option.{option_map_or};
 ghost use Rattle.std.specs.List.{list_any, position};
-ghost use Rattle.mgn_plan.specs.Plans.{CanChange, Foresees, IsPossible, KnowsAll};
+ghost use Rattle.mgn_plan.specs.Plans.{CanChange, Foresees, IsPossible, KnowsAll, moved_nets, row_at};
 ghost use Rattle.mgn_span.specs.Scan.{value_at};
 ghost use Rattle.mgn_num.specs.Amount.{IsQuantity};
-ghost use Rattle.mgn_unit.specs.Rows.{IsChange, IsRoomy, IsRow, Prices, more_at};
-ghost use Rattle.mgn_plan.specs.Plans.{moved_nets, nets_in};
-ghost use Rattle.mgn_plan.specs.Plans.{row_at};
+ghost use Rattle.mgn_unit.specs.Rows.{IsChange, IsRoomy, IsRow, Prices, more_at, nets_in};
 ghost use Rattle.std.specs.Prelude.{◌+ℤ◌};
-ghost use Rattle.mgn_pricing.specs.Desks.{four};
 ghost use Rattle.mgn_pricing.specs.Given.{IsRight, desk_of, fit_plan, fits, fits_change, is_older, is_one_older, same_nets};
 
-use crate::desks::{is_of, priced};
+use crate::desks::is_of;
 use mgn_desk::Desk;
 use mgn_nets::Nets;
 use mgn_num::Quantity;
@@ -99,7 +96,7 @@ fn fits(desk: &Desk, version: Version, set: &ParamSet, row: &Row, change: &Chang
     requires change { IsChange set.now change.now }
     requires roomy { IsRoomy change.now row.now }
     requires right { IsRight set.now version desk.now.marked }
-    ensures { result ≡ fits version (four (moved_nets change.now (nets_in row.now))) desk.now.marked }
+    ensures { result ≡ fits version (moved_nets change.now (nets_in row.now)) desk.now.marked }
 {
     if !is_of(desk, version) {
         return false;
@@ -129,7 +126,7 @@ fn priced_by(
     if !fits(desk, version, set, &rows[change.unit], &change.change) {
         return None;
     }
-    Some(priced(desk))
+    Some(desk.requirements())
 }
 
 /// What the units of a plan require once it is done, by desks that the plan has moved; none where a unit has no desk

@@ -3,8 +3,6 @@
 
 mod desks;
 mod given;
-mod marks;
 
-pub use desks::{Desks, is_of, moves_of, priced};
+pub use desks::{Desks, is_of, moves_of};
 pub use given::{is_one_older, known_by};
-pub use marks::mark;

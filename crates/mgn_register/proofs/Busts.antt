@@ -10,11 +10,10 @@ use Rattle.mgn_lots.specs.declared.lot.Lot.{Lot}
 use Rattle.mgn_lots.specs.Lots.{IsLot, is_live, lot_at, no_lot, busted}
 use Rattle.mgn_machine.specs.declared.origin.Origin.{Origin}
 use Rattle.mgn_unit.specs.declared.row.Row.{Row}
-use Rattle.mgn_unit.specs.declared.row.Priced.{Priced}
 use Rattle.mgn_machine.specs.State.{AccountState, with_bust}
 use Rattle.mgn_machine.specs.Portfolios.{account_size, unit_sum}
 use Rattle.mgn_machine.specs.Refusals.{contract_of, has_contract, IsKnown}
-use Rattle.mgn_unit.specs.Rows.{IsRoomy, Prices, row_with}
+use Rattle.mgn_unit.specs.Rows.{IsRoomy, Priced, Prices, row_with}
 use Rattle.mgn_unit.specs.Changes.{bust_change}
 use Rattle.mgn_unit.proofs.AccountMoves.{bust-moves, bust-limits}
 use Rattle.mgn_unit.proofs.Bounded.{unit-within}

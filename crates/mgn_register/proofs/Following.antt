@@ -3,11 +3,12 @@ use Rattle.std.proofs.Common.{◌≡◌, ◌≢◌, ◌<◌, ◌∙◌, ⊎_elim
 use Rattle.std.proofs.lemmas.Bool.{cases_eq}
 use Rattle.std.proofs.lemmas.List.{get_or-set_same, get_or-set_other, get_or_append_left, get_or_default, length-set}
 use Rattle.mgn_params.specs.Tables.{Tables}
+use Rattle.mgn_nets.specs.Portfolios.{UnitNets}
 use Rattle.mgn_machine.specs.declared.reply.Refusal.{Refusal}
 use Rattle.mgn_machine.specs.State.{AccountState, State, account_at, no_account}
 use Rattle.mgn_unit.specs.declared.change.Change.{Change}
 use Rattle.mgn_unit.specs.declared.row.Row.{Row}
-use Rattle.mgn_unit.specs.Rows.{no_row, row_with}
+use Rattle.mgn_unit.specs.Rows.{nets_in, no_row, row_with}
 use Rattle.mgn_register.specs.declared.fault.Fault.{Fault}
 use Rattle.mgn_register.specs.declared.fault.Fault.TheVariants.{Refused, Memory}
 use Rattle.mgn_plan.specs.declared.plans.Plan.{Plan}
@@ -15,7 +16,7 @@ use Rattle.mgn_plan.specs.declared.plans.Plan.TheVariants.{Nothing, One, Two}
 use Rattle.mgn_plan.specs.declared.plans.UnitChange.{UnitChange}
 use Rattle.mgn_register.specs.declared.transfers.Party.{Party}
 use Rattle.mgn_register.specs.BookStates.{BookState, Steps, answer_of}
-use Rattle.mgn_plan.specs.Plans.{FollowsPlan, LeavesNets, UnitNets, both_plan, in_unit_of, moved_nets, nets_by, nets_in, row_at}
+use Rattle.mgn_plan.specs.Plans.{FollowsPlan, LeavesNets, both_plan, in_unit_of, moved_nets, nets_by, row_at}
 use Rattle.mgn_register.proofs.Moving.{EnteredAcross, EnteredWithin}
 
 nets_by-same : (u : UnitChange) (k : ℕ) (nets : UnitNets) → u.unit ≡ k → nets_by u k nets ≡ moved_nets u.change nets

@@ -19,12 +19,11 @@ use Rattle.mgn_machine.specs.declared.origin.Origin.{Origin}
 use Rattle.mgn_machine.specs.declared.reply.Refusal.{Refusal}
 use Rattle.mgn_machine.specs.declared.reply.Refusal.TheVariants.{NoRoom, Limit}
 use Rattle.mgn_unit.specs.declared.row.Row.{Row}
-use Rattle.mgn_unit.specs.declared.row.Priced.{Priced}
 use Rattle.mgn_machine.specs.State.{State, AccountState, IsAccount, no_account, account_at, put, traded_lot}
 use Rattle.mgn_machine.specs.Portfolios.{account_size}
 use Rattle.mgn_machine.specs.Room.{unit_room}
 use Rattle.mgn_machine.specs.Refusals.{◌>>=◌, refuse_if, if_room, place_of, contract_of, has_contract, is_over, premium_fits, IsKnown}
-use Rattle.mgn_unit.specs.Rows.{IsRoomy, Prices, row_of, row_with, lacks_room}
+use Rattle.mgn_unit.specs.Rows.{IsRoomy, Priced, Prices, row_of, row_with, lacks_room}
 use Rattle.mgn_unit.specs.Changes.{Moves, hold_change, release_change, fill_change}
 use Rattle.mgn_machine.specs.Holding.{entered, hold_places, new_hold, with_hold, without_hold, fill_of}
 use Rattle.mgn_machine.proofs.Names.{unit_size}

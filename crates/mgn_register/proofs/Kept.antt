@@ -17,12 +17,11 @@ use Rattle.mgn_unit.specs.declared.change.Gain.{Gain}
 use Rattle.mgn_machine.specs.declared.origin.Origin.{Origin}
 use Rattle.mgn_machine.specs.declared.reply.Refusal.{Refusal}
 use Rattle.mgn_unit.specs.declared.row.Row.{Row}
-use Rattle.mgn_unit.specs.declared.row.Priced.{Priced}
 use Rattle.mgn_unit.specs.declared.row.PortfolioRow.{PortfolioRow}
 use Rattle.mgn_machine.specs.State.{AccountState, IsAccount, no_account}
 use Rattle.mgn_machine.specs.Portfolios.{Portfolio, OnlyLots, WithBuys, WithSales, WithAll}
 use Rattle.mgn_machine.specs.Refusals.{found, contract_of, account_names, has_contract, IsKnown}
-use Rattle.mgn_unit.specs.Rows.{IsRow, IsPortfolioRow, IsRoomy, Prices, PricesPortfolio, more_at, row_of, row_with, row_with_worth, portfolio_of, portfolio_with, portfolio_with_worth}
+use Rattle.mgn_unit.specs.Rows.{IsRow, IsPortfolioRow, IsRoomy, Prices, PricesPortfolio, Priced, more_at, row_of, row_with, row_with_worth, portfolio_of, portfolio_with, portfolio_with_worth}
 use Rattle.mgn_unit.specs.Changes.{Moves, MovesWorth}
 use Rattle.mgn_unit.proofs.Bounded.{worth-le}
 use Rattle.mgn_unit.proofs.Moved.{Stands, row-moved, row-moved_worth, row-apart, roomy}

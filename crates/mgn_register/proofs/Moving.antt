@@ -19,10 +19,9 @@ use Rattle.mgn_machine.specs.State.{State, AccountState, IsAccount, no_account, 
 use Rattle.mgn_machine.specs.Refusals.{◌>>=◌, if_room, contract_of, has_contract, is_over, IsKnown, account_names}
 use Rattle.mgn_machine.specs.Transfers.{moved, moved_lot, move_places, quantity_in_unit, with_move}
 use Rattle.mgn_machine.proofs.Names.{unit_size}
-use Rattle.mgn_unit.specs.declared.row.Priced.{Priced}
 use Rattle.mgn_unit.specs.declared.row.Row.{Row}
 use Rattle.mgn_unit.specs.Changes.{Moves, moved_change}
-use Rattle.mgn_unit.specs.Rows.{IsChange, IsRoomy, Prices, lacks_room, no_row, row_of, row_with, row_with_size}
+use Rattle.mgn_unit.specs.Rows.{IsChange, IsRoomy, Priced, Prices, lacks_room, no_row, row_of, row_with, row_with_size}
 use Rattle.mgn_unit.proofs.AccountMoves.{lot-limits}
 use Rattle.mgn_unit.proofs.Moved.{Stands, row-moved, row-apart}
 use Rattle.mgn_unit.proofs.TransferMoves.{moved-moves, row-within}

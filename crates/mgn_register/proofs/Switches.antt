@@ -10,13 +10,11 @@ use Rattle.mgn_params.specs.Limits.{IsWithinLimits}
 use Rattle.mgn_params.specs.Tables.{Tables}
 use Rattle.mgn_machine.specs.NewSet.{covers, on_call}
 use Rattle.mgn_machine.specs.State.{AccountState}
-use Rattle.mgn_unit.specs.declared.amounts.UnitAmounts.{UnitAmounts}
-use Rattle.mgn_unit.specs.declared.row.PreparedUnit.{PreparedUnit}
 use Rattle.mgn_unit.specs.declared.row.Row.{Row}
-use Rattle.mgn_unit.specs.Amounts.{AreWithAmounts, no_amounts, row_with_amounts}
-use Rattle.mgn_unit.specs.NewSets.{ArePrepared, AreWorths, IsPrepared, is_covered, row_on_call, row_under, unit_gain}
-use Rattle.mgn_unit.specs.Prepared.{AreCarried, AreCurrent, ArePreparedFor, copied}
-use Rattle.mgn_unit.specs.Rows.{IsRow, row_with_worth}
+use Rattle.mgn_unit.specs.Amounts.{UnitAmounts, no_amounts, row_with_amounts}
+use Rattle.mgn_unit.specs.NewSets.{ArePrepared, AreWorths, IsPrepared, PreparedUnit, is_covered, row_on_call, row_under, unit_gain}
+use Rattle.mgn_unit.specs.Prepared.{AreCarried, AreCurrent, ArePreparedFor}
+use Rattle.mgn_unit.specs.Rows.{IsRow, nets_in, row_with_worth}
 use Rattle.mgn_unit.proofs.Carried.{on_call-by_rows, row-under, worths-under}
 use Rattle.mgn_unit.proofs.Covered.{AreRowsOf, covers-by_rows}
 use Rattle.mgn_register.specs.BookStates.{BookState, IsKept, IsUnitRow}
@@ -82,14 +80,6 @@ amounts-pushed set' accounts rows all it n long so_far last u inside d = ⊎_eli
         subst (λ (x : UnitAmounts). IsUnitRow set' accounts u (row_with_amounts x (get_or rows u d))) (sym (get_or-append_right all (it ∷ []) n u no_amounts long more ∙ ap (λ (k : ℕ). get_or (it ∷ []) k no_amounts) none))
         (subst (λ (k : ℕ). IsUnitRow set' accounts k (row_with_amounts it (get_or rows k d))) same (last d))
 
--- rows with the amounts of all units are those of the state under the set
-pub new-rows_kept : (set' : Tables) (f : BookState) (amounts : List UnitAmounts) (after : List Row) → length amounts ≡ length f.rows
-    → ((u : ℕ) (d : Row) → u < length f.rows → IsUnitRow set' f.state.accounts u (row_with_amounts (get_or amounts u no_amounts) (get_or f.rows u d)))
-    → AreWithAmounts amounts f.rows after → (u : ℕ) (d : Row) → u < length after → IsUnitRow set' f.state.accounts u (get_or after u d)
-new-rows_kept set' f amounts after long are with u d inside =
-    let here : u < length f.rows = omega (arith, inside, with.long) in
-    subst (λ (row : Row). IsUnitRow set' f.state.accounts u row) (sym (with.are u d here)) (are u d here)
-
 -- how many units are on call
 pub on_call-counted : (set' : Tables) (accounts : List AccountState) (rows : List Row) → ((u : ℕ) (d : Row) → u < length rows → IsUnitRow set' accounts u (get_or rows u d)) → length (filter row_on_call rows) ≡ on_call set' accounts (length rows)
 on_call-counted set' accounts rows are = length-filter row_on_call rows ∙ sym (on_call-by_rows set' accounts rows (λ u d inside. (are u d inside).is))
@@ -101,18 +91,18 @@ found-prepared t units u (Some one) found are = are u one (sym found)
 
 -- what was prepared of a unit, as it is found for its row under a switch, is for the nets that the row carries over
 pub found-carried : (old new s t : Tables) (rows : List Row) (units : List (Option PreparedUnit)) (u : ℕ) (row : Row) (r : Option PreparedUnit) → s ≡ old → t ≡ new → u < length rows → row ≡ get_or rows u row → r ≡ get_or units u None
-    → ArePreparedFor old new rows units → IsSomeAnd r (AreCarried s t (copied row))
+    → ArePreparedFor old new rows units → IsSomeAnd r (AreCarried s t (nets_in row))
 found-carried old new s t rows units u row r s_is t_is inside is found ready =
-    subst (λ (x : Option PreparedUnit). IsSomeAnd x (AreCarried s t (copied row))) (sym found)
-    (subst (λ (x : Tables). IsSomeAnd (get_or units u None) (AreCarried x t (copied row))) (sym s_is)
-    (subst (λ (x : Tables). IsSomeAnd (get_or units u None) (AreCarried old x (copied row))) (sym t_is)
-    (subst (λ (x : Row). IsSomeAnd (get_or units u None) (AreCarried old new (copied x))) (sym is) (ready u row inside))))
+    subst (λ (x : Option PreparedUnit). IsSomeAnd x (AreCarried s t (nets_in row))) (sym found)
+    (subst (λ (x : Tables). IsSomeAnd (get_or units u None) (AreCarried x t (nets_in row))) (sym s_is)
+    (subst (λ (x : Tables). IsSomeAnd (get_or units u None) (AreCarried old x (nets_in row))) (sym t_is)
+    (subst (λ (x : Row). IsSomeAnd (get_or units u None) (AreCarried old new (nets_in x))) (sym is) (ready u row inside))))
 
 -- and where it is known to be for the nets that the unit has, it is for those that the row carries over
 pub found-current : (old new s t : Tables) (rows : List Row) (units : List (Option PreparedUnit)) (current : List Bool) (u : ℕ) (row : Row) (r : Option PreparedUnit) (b : Bool) → s ≡ old → t ≡ new → u < length rows → row ≡ get_or rows u row → r ≡ get_or units u None
-    → b ≡ get_or current u false → AreCurrent old new rows units current → b ≡ true → IfSome r (AreCarried s t (copied row))
+    → b ≡ get_or current u false → AreCurrent old new rows units current → b ≡ true → IfSome r (AreCarried s t (nets_in row))
 found-current old new s t rows units current u row None b s_is t_is inside is found noted known current_is = tt
 found-current old new s t rows units current u row (Some one) b s_is t_is inside is found noted known current_is =
-    subst (λ (x : Tables). AreCarried x t (copied row) one) (sym s_is)
-    (subst (λ (x : Tables). AreCarried old x (copied row) one) (sym t_is)
-    (subst (λ (x : Row). AreCarried old new (copied x) one) (sym is) (known u row one inside (sym noted ∙ current_is) (sym found))))
+    subst (λ (x : Tables). AreCarried x t (nets_in row) one) (sym s_is)
+    (subst (λ (x : Tables). AreCarried old x (nets_in row) one) (sym t_is)
+    (subst (λ (x : Row). AreCarried old new (nets_in x) one) (sym is) (known u row one inside (sym noted ∙ current_is) (sym found))))

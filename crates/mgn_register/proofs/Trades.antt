@@ -13,12 +13,11 @@ use Rattle.mgn_lots.specs.Lots.{IsLot, is_live, is_full}
 use Rattle.mgn_machine.specs.declared.command.Trade.{Trade}
 use Rattle.mgn_machine.specs.declared.origin.Origin.{Origin}
 use Rattle.mgn_unit.specs.declared.row.Row.{Row}
-use Rattle.mgn_unit.specs.declared.row.Priced.{Priced}
 use Rattle.mgn_machine.specs.State.{AccountState, IsAccount, no_account, traded_lot, with_lot}
 use Rattle.mgn_machine.specs.Portfolios.{account_size}
 use Rattle.mgn_machine.specs.Refusals.{contract_of, has_contract, is_over, IsKnown}
 use Rattle.mgn_machine.proofs.Names.{unit_size}
-use Rattle.mgn_unit.specs.Rows.{IsRoomy, Prices, row_with}
+use Rattle.mgn_unit.specs.Rows.{IsRoomy, Priced, Prices, row_with}
 use Rattle.mgn_unit.specs.Changes.{lot_change}
 use Rattle.mgn_unit.proofs.AccountMoves.{traded-moves, lot-limits}
 use Rattle.mgn_unit.proofs.Moved.{Stands}

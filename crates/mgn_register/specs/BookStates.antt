@@ -1,6 +1,7 @@
 -- The machine's state with a kept row for each margin unit.
 use Rattle.std.specs.Prelude.{ℕ, ◌≡◌, ◌<◌, ◌≤◌, List, length, Bool, slice_index_or, All, IfSome, Option, None, Some, Result, Ok, Err}
 use Rattle.mgn_params.specs.Tables.{Tables}
+use Rattle.mgn_machine.specs.declared.entry.Entry.{Entry}
 use Rattle.mgn_machine.specs.declared.origin.Origin.{Origin}
 use Rattle.mgn_machine.specs.declared.reply.Refusal.{Refusal}
 use Rattle.mgn_machine.specs.declared.reply.Refusal.TheVariants.{NoRoom}
@@ -35,6 +36,11 @@ book_state origins accounts rows closed version =
       state = record { origins = origins; accounts = accounts; units = units; closed = closed; version = version };
       rows = rows;
     }
+
+-- the state of a book with its rows, and the history that made it
+pub record BookView : Type 0 where
+  pub book : BookState
+  pub history : List Entry
 
 -- a row is that of the unit, worked out from lots, holds and collateral, and within the limits
 pub record IsUnitRow (set : Tables) (accounts : List AccountState) (u : ℕ) (row : Row) : Type 0 where

@@ -2,17 +2,16 @@ ghost use Rattle.std.specs.Prelude.{◌≡◌, ◌≢◌, ◌<◌, ◌≤◌, �
 ghost use Rattle.mgn_lots.specs.Lots.{has_number, is_full, IsLot, is_live, lot_at};
 ghost use Rattle.mgn_machine.specs.State.{account_at, put, with_lot, with_bust, with_amount, traded_lot};
 ghost use Rattle.mgn_coll.specs.Posted.{IsPosted, amount_of, most_of, value};
-ghost use Rattle.mgn_unit.specs.Rows.{IsRow, IsChange, IsRoomy, Prices, row_with, row_with_worth};
+ghost use Rattle.mgn_unit.specs.Rows.{IsRow, IsChange, IsRoomy, Prices, Priced, row_with, row_with_worth};
 ghost use Rattle.mgn_machine.specs.Step.{traded, undone, posted, drawn};
 ghost use Rattle.mgn_machine.specs.Refusals.{bust_places, trade_places};
-ghost use Rattle.mgn_unit.specs.declared.row.Priced.{Priced};
 ghost use Rattle.mgn_register.specs.BookStates.{IsKept, Steps};
 ghost use Rattle.mgn_plan.specs.Plans.{FollowsPlan, Foresees, IsIdle, KnowsAll, bust_plan, trade_plan};
 ghost use Rattle.mgn_plan.specs.declared.plans.Plan.TheVariants.{Nothing};
 
 use crate::fault::Fault;
 use crate::register::Register;
-use mgn_ids::{AccountName, ClassName, ContractName, LotId, LotQuantity, Premium, Units};
+use mgn_ids::{AccountName, ClassName, ContractName, LotId, LotQuantity, Premium, ShortId, Units};
 use mgn_lots::{Lot, Mark};
 use mgn_machine::{Refusal, Trade};
 use mgn_params::{ParamSet, Work};
@@ -31,7 +30,7 @@ pub(crate) fn traded_lot(
     ensures limits { IsLot result }
 {
     Lot {
-        number,
+        number: ShortId::of_lot(number),
         contract,
         quantity: quantity.quantity(),
         premium: premium.cents(),

@@ -7,10 +7,9 @@ ghost use Rattle.mgn_params.specs.Tables.{Tables};
 ghost use Rattle.mgn_span.specs.Scan.{value_at};
 ghost use Rattle.mgn_params.specs.Limits.{IsWithinLimits};
 ghost use Rattle.mgn_unit.specs.Amounts.{AreAfter, AreWithAmounts, KeepsPlaces, no_amounts, row_with_amounts};
-ghost use Rattle.mgn_unit.specs.NewSets.{ArePrepared, AreWorths, IsPrepared, is_covered, row_on_call, row_under};
-ghost use Rattle.mgn_unit.specs.Prepared.{AreCarried, AreCurrent, ArePreparedFor, copied};
-ghost use Rattle.mgn_unit.specs.Rows.{IsRow, row_with_worth};
-ghost use Rattle.mgn_unit.specs.declared.row.PreparedUnit.{PreparedUnit as Prepared};
+ghost use Rattle.mgn_unit.specs.NewSets.{ArePrepared, AreWorths, IsPrepared, PreparedUnit as Prepared, is_covered, row_on_call, row_under};
+ghost use Rattle.mgn_unit.specs.Prepared.{AreCarried, AreCurrent, ArePreparedFor};
+ghost use Rattle.mgn_unit.specs.Rows.{IsRow, nets_in, row_with_worth};
 ghost use Rattle.mgn_unit.specs.declared.row.Row.{Row as UnitRow};
 ghost use Rattle.mgn_register.specs.BookStates.{IsKept, IsUnitRow, book_state};
 ghost use Rattle.mgn_register.specs.Fits.{Fits};
@@ -80,11 +79,11 @@ fn row_by(
 ) -> Result<Row, AllocError>
     requires row { IsRow switch.now.old row.now }
     requires prepared { IfSome prepared (IsPrepared switch.now.new) }
-    requires current { IsTrue is_current → IfSome prepared (AreCarried switch.now.old switch.now.new (copied row.now)) }
+    requires current { IsTrue is_current → IfSome prepared (AreCarried switch.now.old switch.now.new (nets_in row.now)) }
     requires worths { AreWorths (row_with_worth gain row.now) }
     ensures row { IfOk result (λ it. it ≡ row_under switch.now.old switch.now.new gain row.now) }
     ensures limits { IfOk result (λ it. IsRow switch.now.new it) }
-    ensures idle { IsSomeAnd prepared (AreCarried switch.now.old switch.now.new (copied row.now))
+    ensures idle { IsSomeAnd prepared (AreCarried switch.now.old switch.now.new (nets_in row.now))
         → work.new ≡ work.old }
 {
     match prepared {
@@ -109,12 +108,12 @@ fn amounts_by(
     requires keeps { KeepsPlaces switch.now.old switch.now.new }
     requires prepared { ArePrepared switch.now.new prepared.now }
     requires current { IsTrue is_current → (one : Prepared) → slice_index_or prepared.now unit None ≡ Some one →
-        AreCarried switch.now.old switch.now.new (copied row.now) one }
+        AreCarried switch.now.old switch.now.new (nets_in row.now) one }
     requires worths { AreWorths (row_with_worth gain row.now) }
     ensures row { IfOk result (λ it. row_with_amounts it row.now ≡ row_under switch.now.old switch.now.new gain row.now) }
     ensures limits { IfOk result (λ it. IsRow switch.now.new (row_with_amounts it row.now)) }
     ensures idle { IsSomeAnd (slice_index_or prepared.now unit None)
-        (AreCarried switch.now.old switch.now.new (copied row.now)) → work.new ≡ work.old }
+        (AreCarried switch.now.old switch.now.new (nets_in row.now)) → work.new ≡ work.old }
 {
     match prepared_of(prepared, unit) {
         Some(one) => row.amounts_by(alloc, switch, gain, one, is_current, work),

@@ -6,8 +6,7 @@ ghost use Rattle.mgn_machine.specs.Transfers.{moved, moved_lot, move_places, par
 ghost use Rattle.mgn_params.specs.Tables.{Tables};
 ghost use Rattle.mgn_span.specs.Positions.{IsNet};
 ghost use Rattle.mgn_span.specs.Scan.{value_at};
-ghost use Rattle.mgn_unit.specs.Rows.{IsChange, IsRow, Prices, row_with, row_with_size};
-ghost use Rattle.mgn_unit.specs.declared.row.Priced.{Priced};
+ghost use Rattle.mgn_unit.specs.Rows.{IsChange, IsRow, Priced, Prices, row_with, row_with_size};
 ghost use Rattle.mgn_register.specs.BookStates.{IsKept, Steps};
 ghost use Rattle.mgn_plan.specs.Plans.{FollowsPlan, Foresees, IsIdle, move_plan, row_at};
 ghost use Rattle.mgn_register.specs.RoomAsked.{AsksRoom};
@@ -16,7 +15,7 @@ ghost use Rattle.mgn_register.specs.TransferRows.{AskBoth, TakesChange, TakesLot
 use crate::changes::price;
 use crate::fault::Fault;
 use crate::register::{Register, contract_of, passes_limit, refuse_if};
-use mgn_ids::{ContractName, LotId, LotQuantity};
+use mgn_ids::{ContractName, LotId, LotQuantity, ShortId};
 use mgn_lots::{Lot, Mark};
 use mgn_machine::{Refusal, Transfer};
 use mgn_num::Quantity;
@@ -46,7 +45,7 @@ fn moved_lot(number: LotId, contract: ContractName, quantity: Quantity) -> Lot
     ensures limits { IsLot result }
 {
     Lot {
-        number,
+        number: ShortId::of_lot(number),
         contract,
         quantity,
         premium: 0,

@@ -4,6 +4,7 @@ use Rattle.std.proofs.lemmas.Bool.{cases_lt}
 use Rattle.std.proofs.lemmas.List.{get_or_past}
 use Rattle.mgn_params.specs.Shelves.{set_at}
 use Rattle.mgn_params.specs.Tables.{Tables}
+use Rattle.mgn_nets.specs.Portfolios.{UnitNets}
 use Rattle.mgn_desk.specs.declared.desk.Marked.{Marked}
 use Rattle.mgn_desk.specs.Desks.{DeskRows}
 use Rattle.mgn_machine.specs.declared.command.Command.{Command}
@@ -16,10 +17,11 @@ use Rattle.mgn_machine.specs.State.{State}
 use Rattle.mgn_machine.specs.Step.{switched}
 use Rattle.mgn_machine.proofs.Versions.{keeps_version}
 use Rattle.mgn_unit.specs.declared.row.Row.{Row}
+use Rattle.mgn_unit.specs.Rows.{nets_in}
 use Rattle.mgn_plan.specs.declared.plans.Plan.{Plan}
 use Rattle.mgn_plan.specs.declared.plans.Plan.TheVariants.{Nothing}
 use Rattle.mgn_register.specs.BookStates.{BookState}
-use Rattle.mgn_plan.specs.Plans.{FollowsPlan, UnitNets, nets_in, row_at}
+use Rattle.mgn_plan.specs.Plans.{FollowsPlan, row_at}
 use Rattle.mgn_pricing.specs.Desks.{AreDesks, Rests, marked_at}
 use Rattle.mgn_book.specs.BookViews.{BookView, Committed, KeepsRows, Leaves, LeavesRows, Shelves, sets_after}
 use Rattle.mgn_book.specs.declared.book.Outcome.{Outcome}

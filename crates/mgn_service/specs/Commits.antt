@@ -3,11 +3,11 @@ use Rattle.std.specs.Prelude.{ℕ, ◌≡◌, Option, Some, None}
 use Rattle.mgn_machine.specs.declared.command.Command.{Command}
 use Rattle.mgn_machine.specs.declared.reply.Reply.TheVariants.{Done}
 use Rattle.mgn_machine.specs.declared.request.Request.TheVariants.{Do}
-use Rattle.mgn_ledger.specs.Days.{Day}
+use Rattle.mgn_day.specs.Days.{Day}
 use Rattle.mgn_ledger.specs.Ledgers.{Answers}
 use Rattle.mgn_ledger.specs.Passes.{IsCalled, PassView}
-use Rattle.mgn_service.specs.UnitDesks.{IsAfter}
-use Rattle.mgn_service.specs.declared.sight.UnitMove.{UnitMove}
+use Rattle.mgn_unit_desk.specs.UnitDesks.{IsAfter}
+use Rattle.mgn_unit_desk.specs.declared.sight.UnitMove.{UnitMove}
 use Rattle.mgn_service.specs.declared.service.Begun.{Begun}
 use Rattle.mgn_service.specs.declared.service.Begun.TheVariants as begun
 use Rattle.mgn_service.specs.declared.service.Tried.{Tried}

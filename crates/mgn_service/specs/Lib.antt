@@ -1,4 +1,3 @@
 -- Sessions that share a book.
 pub mod Commits
 pub mod Pairs
-pub mod UnitDesks

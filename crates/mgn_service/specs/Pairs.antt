@@ -1,15 +1,15 @@
 -- What a look at the two units of a transfer finds, and what its commit then does (own profile).
 use Rattle.std.specs.Prelude.{ℕ, ◌≡◌, Option, Some, None}
+use Rattle.mgn_nets.specs.Portfolios.{UnitNets}
 use Rattle.mgn_desk.specs.Desks.{DeskRows}
 use Rattle.mgn_machine.specs.declared.command.Command.{Command}
 use Rattle.mgn_machine.specs.declared.reply.Reply.TheVariants.{Done}
 use Rattle.mgn_machine.specs.declared.request.Request.TheVariants.{Do}
-use Rattle.mgn_unit.specs.declared.prepared.CopiedNets.{CopiedNets}
-use Rattle.mgn_ledger.specs.Days.{Day}
+use Rattle.mgn_day.specs.Days.{Day}
 use Rattle.mgn_ledger.specs.Ledgers.{Answers}
 use Rattle.mgn_ledger.specs.Passes.{IsCalled, PassView}
-use Rattle.mgn_service.specs.UnitDesks.{IsAfter}
-use Rattle.mgn_service.specs.declared.sight.UnitMove.{UnitMove}
+use Rattle.mgn_unit_desk.specs.UnitDesks.{IsAfter}
+use Rattle.mgn_unit_desk.specs.declared.sight.UnitMove.{UnitMove}
 use Rattle.mgn_service.specs.declared.commits.Decided.{Decided}
 use Rattle.mgn_service.specs.declared.commits.Decided.TheVariants as decided
 use Rattle.mgn_service.specs.declared.pairs.LookedAtBoth.{LookedAtBoth}
@@ -18,7 +18,7 @@ use Rattle.mgn_service.specs.declared.pairs.Sights.{Sights}
 
 -- what a sight is seen as: the change, what shows the unit's nets, and a copy of these
 abbrev pub SightView : Type 0 → Type 0
-SightView T = UnitMove × ((ℕ × T) × Option CopiedNets)
+SightView T = UnitMove × ((ℕ × T) × Option UnitNets)
 
 -- a sight of a desk's unit, with a copy of the unit's nets unless the desk's own stamp shows them
 pub record IsSightOf {T : Type 0} (desk : DeskRows × Option (ℕ × T)) (sight : SightView T) : Type 0 where

@@ -1,16 +1,15 @@
 //! The commit of a command whose units' desks have moved.
 
-ghost use Rattle.std.specs.Prelude.{◌≡◌, IsTrue};
+ghost use Rattle.std.specs.Prelude.{IsTrue};
 ghost use Rattle.mgn_service.specs.Commits.{Decides};
-ghost use Rattle.mgn_service.specs.UnitDesks.{IsAsSeen, IsMoved, SameMoves};
+ghost use Rattle.mgn_unit_desk.specs.UnitDesks.{IsAsSeen, IsMoved};
 
-use crate::sight::{Sight, UnitMove};
-use crate::unit_desk::UnitDesk;
 use mgn_ledger::{Entered, Image, Ledger, Pass};
 use mgn_machine::{Answer, Command, Reply};
 use mgn_plan::{Known, Plan, UnitChange};
 use mgn_slots::{SlotNames, Stamp};
 use mgn_table::TableName;
+use mgn_unit_desk::{Sight, UnitDesk};
 use std::sync::Wait;
 
 /// What a commit by desks did.
@@ -26,29 +25,6 @@ pub(crate) enum Decided<'a, T: Image, J: SlotNames> {
     Apart,
 }
 
-// Whether two changes are of one unit and move its nets by as much.
-fn moves_same(a: &UnitChange, b: &UnitMove) -> bool
-    ensures unit { IsTrue result → a.now.unit ≡ b.now.unit }
-    ensures moves { IsTrue result → SameMoves a.now.change b.now.change }
-{
-    if !(a.unit == b.unit) {
-        return false;
-    }
-    if !(a.change.contract == b.change.contract) {
-        return false;
-    }
-    if !(a.change.lots.quantity == b.change.lots.quantity) {
-        return false;
-    }
-    if !(a.change.buys.quantity == b.change.buys.quantity) {
-        return false;
-    }
-    if !(a.change.sales.quantity == b.change.sales.quantity) {
-        return false;
-    }
-    a.change.all.quantity == b.change.all.quantity
-}
-
 // Whether a change is of the unit that was looked at and moves its nets by as much, and the unit is as it was then.
 pub(crate) fn is_as_seen<'a, T: Image, J: TableName + SlotNames>(
     ledger: &Ledger<'a, T, J>,
@@ -57,10 +33,10 @@ pub(crate) fn is_as_seen<'a, T: Image, J: TableName + SlotNames>(
 ) -> bool
     ensures { IsTrue result → IsAsSeen T.shown ledger.now now.now sight.now.0 sight.now.1.0.1 }
 {
-    if !moves_same(now, &sight.change) {
+    if !sight.moves_same(now) {
         return false;
     }
-    ledger.is_since(now.unit, &sight.stamp)
+    ledger.is_since(now.unit, sight.stamp())
 }
 
 /// The commit of a command of one unit, whose desk has moved as it was looked at. No list of nets is compared, and nothing is
@@ -76,7 +52,7 @@ pub(crate) fn commit<'a, R: Wait, T: Image, J: TableName + SlotNames>(
     requires { IsMoved T.shown sight.now.0 sight.now.1.0.1 desk.now.0 }
     ensures { Decides T.shown pass.old command.now sight.now.0 sight.now.1.0.1 result pass.new }
 {
-    if sight.version.number() < ledger.version().number() {
+    if sight.version().number() < ledger.version().number() {
         return Decided::Stale;
     }
     let plan = ledger.plan(rt, command);

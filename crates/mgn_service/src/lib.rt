@@ -3,21 +3,16 @@
 #![tactic(auto)]
 
 mod commits;
-mod foreseen;
-mod gate;
 mod looks;
+mod orders;
 mod pairs;
 mod prepared;
 mod service;
-mod sight;
 mod transfers;
-mod unit_desk;
 mod units;
 mod waits;
-mod workers;
 
-pub use gate::{Gate, Point, SessionGate, Through};
+pub use mgn_unit_desk::{
+    Gate, Marking, Point, SessionGate, Sight, Through, UnitDesk, UnitMove, Workers,
+};
 pub use service::Service;
-pub use sight::{Sight, UnitMove};
-pub use unit_desk::UnitDesk;
-pub use workers::{Marking, Workers};

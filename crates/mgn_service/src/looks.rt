@@ -2,17 +2,17 @@
 
 ghost use Rattle.std.specs.Prelude.{◌≡◌, IfErr, IfOk, None, Some};
 ghost use Rattle.mgn_plan.specs.Plans.{CanChange};
-ghost use Rattle.mgn_ledger.specs.Days.{set_of};
+ghost use Rattle.mgn_day.specs.Days.{set_of};
 ghost use Rattle.mgn_ledger.specs.Ledgers.{IsUnplaced};
 ghost use Rattle.mgn_service.specs.Commits.{Looks};
-ghost use Rattle.mgn_service.specs.UnitDesks.{moved_in};
+ghost use Rattle.mgn_unit_desk.specs.UnitDesks.{moved_in};
 
-use crate::sight::{Sight, UnitMove};
 use mgn_ledger::{Image, Ledger, Pass};
 use mgn_machine::{Answer, Command, Refusal, Reply};
 use mgn_plan::{Known, Plan, UnitChange};
 use mgn_slots::{SlotNames, Stamp};
 use mgn_table::TableName;
+use mgn_unit_desk::{Sight, UnitMove};
 use std::alloc::Global;
 use std::sync::Wait;
 

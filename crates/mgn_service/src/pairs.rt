@@ -2,20 +2,19 @@
 
 ghost use Rattle.std.specs.Prelude.{◌≡◌, IfErr, IfOk};
 ghost use Rattle.mgn_plan.specs.Plans.{CanChange};
-ghost use Rattle.mgn_ledger.specs.Days.{set_of};
+ghost use Rattle.mgn_day.specs.Days.{set_of};
 ghost use Rattle.mgn_ledger.specs.Ledgers.{IsUnplaced};
 ghost use Rattle.mgn_service.specs.Pairs.{AreSightsOf, DecidesBoth, LooksAtBoth};
-ghost use Rattle.mgn_service.specs.UnitDesks.{IsMoved};
+ghost use Rattle.mgn_unit_desk.specs.UnitDesks.{IsMoved};
 
 use crate::commits::{Decided, is_as_seen};
 use crate::looks::sight;
-use crate::sight::Sight;
-use crate::unit_desk::UnitDesk;
 use mgn_ledger::{Entered, Image, Ledger, Pass};
 use mgn_machine::{Answer, Command, Refusal, Reply};
 use mgn_plan::{Known, Plan, UnitChange};
 use mgn_slots::SlotNames;
 use mgn_table::TableName;
+use mgn_unit_desk::{Sight, UnitDesk};
 use std::alloc::Global;
 use std::sync::Wait;
 
@@ -108,7 +107,7 @@ pub(crate) fn commit_both<'a, R: Wait, T: Image, J: TableName + SlotNames>(
     requires taker { IsMoved T.shown sights.now.taker.0 sights.now.taker.1.0.1 taker.now.0 }
     ensures { DecidesBoth T.shown pass.old command.now sights.now result pass.new }
 {
-    if sights.giver.version.number() < ledger.version().number() {
+    if sights.giver.version().number() < ledger.version().number() {
         return Decided::Stale;
     }
     let plan = ledger.plan(rt, command);

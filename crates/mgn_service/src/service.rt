@@ -3,27 +3,23 @@ ghost use Rattle.mgn_params.specs.Tables.{Tables};
 ghost use Rattle.mgn_machine.specs.declared.entry.Entry.{Entry};
 ghost use Rattle.mgn_machine.specs.declared.request.Request.TheVariants.{Do, Switch};
 ghost use Rattle.mgn_unit.specs.NewSets.{ArePrepared};
-ghost use Rattle.mgn_ledger.specs.Gathering.{AreReady};
+ghost use Rattle.mgn_day.specs.Gathering.{AreReady};
 ghost use Rattle.mgn_ledger.specs.Ledgers.{Answers};
 ghost use Rattle.mgn_ledger.specs.Passes.{AreAudited, fresh};
 ghost use Rattle.mgn_service.specs.Commits.{Begins, Tries};
 
 use crate::commits::{Decided, commit};
-use crate::foreseen::keep_order;
-use crate::gate::{Gate, Point};
 use crate::looks::{Looked, look};
-use crate::prepared::Prepared;
-use crate::sight::Sight;
-use crate::unit_desk::UnitDesk;
+use crate::orders::{keep_order, order_of};
 use crate::units::{Units, keep_unit, known_unit, units_of};
 use crate::waits::hold;
-use crate::workers::Workers;
 use mgn_ids::SessionNo;
 use mgn_ledger::{AuditFault, Image, Ledger, Pass};
 use mgn_machine::{Answer, Command, Refusal, Reply};
 use mgn_params::ParamSet;
 use mgn_slots::{SlotNames, Slots};
 use mgn_table::{SetTable, TableName};
+use mgn_unit_desk::{Gate, Point, Prepared, Sight, UnitDesk, Workers};
 use std::alloc::{AllocError, Global};
 use std::sync::atomic::{AtomicU64, Ordering};
 use std::sync::{Mutex, Wait};
@@ -241,7 +237,7 @@ impl<'a, T: Image, J: TableName + SlotNames> Service<'a, T, J> {
             return self.ledger.lock(rt).exec_plain(rt, pass, command);
         };
         let mut desk = hold(rt, place);
-        if let Some(sight) = desk.foreseen(pass, command) {
+        if let Some(sight) = desk.foreseen(command, &order_of(pass, command)) {
             if let Tried::Answered(answer) = self.try_sight(
                 rt, pass, gate, command, &mut desk, &sight,
             ) {

@@ -7,15 +7,14 @@ ghost use Rattle.mgn_service.specs.Commits.{Tries};
 ghost use Rattle.mgn_service.specs.Pairs.{AreSightsOf};
 
 use crate::commits::Decided;
-use crate::gate::{Gate, Point};
 use crate::pairs::{LookedAtBoth, Sights, commit_both, look_at_both};
 use crate::service::{MOST_LOOKS, Service, Tried};
-use crate::unit_desk::UnitDesk;
 use crate::waits::hold;
 use mgn_ledger::{Image, Pass};
 use mgn_machine::{Answer, Command, Refusal, Reply};
 use mgn_slots::SlotNames;
 use mgn_table::TableName;
+use mgn_unit_desk::{Gate, Point, UnitDesk};
 use std::alloc::AllocError;
 use std::sync::Wait;
 

@@ -15,10 +15,13 @@ abbrev pub is_long : Bool → LegSide → Bool
 is_long a_long A = a_long
 is_long a_long B = not a_long
 
--- whether the rest of a leg's commodity has the leg's direction
+-- whether a rest has the direction of a leg of a side
+abbrev pub rest_fits : Bool → ℤ → LegSide → Bool
+rest_fits a_long rest side = if is_long a_long side then int_lt (pos 0) rest else int_lt rest (pos 0)
+
+-- whether that of a leg's commodity has the leg's direction
 abbrev pub fits : Bool → List ℤ → Leg → Bool
-fits a_long rests leg =
-    if is_long a_long leg.side then int_lt (pos 0) (value_at rests leg.commodity) else int_lt (value_at rests leg.commodity) (pos 0)
+fits a_long rests leg = rest_fits a_long (value_at rests leg.commodity) leg.side
 
 -- a spread forms where side A is long and side B short, or the other way round
 abbrev pub forms : List ℤ → List Leg → Bool

@@ -2,7 +2,7 @@
 
 ghost use Rattle.std.specs.Prelude.{◌≡◌, ℕ, ◌*◌, ◌<◌, ◌≤◌, ◌^◌, length, All, slice_index};
 ghost use Rattle.std.specs.List.{list_all};
-ghost use Rattle.mgn_span.specs.Credits.{fits, forms, is_long, leg_amount, leg_credit, rests_after, spread_amount};
+ghost use Rattle.mgn_span.specs.Credits.{fits, forms, is_long, leg_amount, leg_credit, rest_fits, rests_after, spread_amount};
 ghost use Rattle.mgn_span.specs.Stages.{used};
 ghost use Rattle.mgn_span.specs.Words.{IsCreditable, leg_at};
 
@@ -23,17 +23,23 @@ fn is_long_leg(a_long: bool, side: LegSide) -> bool
     }
 }
 
+/// Whether a rest has the direction of a leg of a side, where side A is long or not.
+pub fn rest_fits(a_long: bool, rest: Delta, side: LegSide) -> bool
+    ensures { result ≡ rest_fits a_long rest side }
+{
+    if is_long_leg(a_long, side) {
+        rest.is_positive()
+    } else {
+        rest.is_negative()
+    }
+}
+
 // Whether the rest of a leg's commodity has the leg's direction.
 fn leg_fits(a_long: bool, rests: &[Delta], leg: &Leg) -> bool
     requires { leg.now.commodity < length rests.now }
     ensures { result ≡ fits a_long rests.now leg.now }
 {
-    let rest = delta_at(rests, leg.commodity);
-    if is_long_leg(a_long, leg.side) {
-        rest.is_positive()
-    } else {
-        rest.is_negative()
-    }
+    rest_fits(a_long, delta_at(rests, leg.commodity), leg.side)
 }
 
 fn all_fit(a_long: bool, rests: &[Delta], legs: &[Leg]) -> bool

@@ -7,7 +7,7 @@ ghost use Rattle.mgn_machine.specs.Totals.{shortfall};
 ghost use Rattle.mgn_statement.specs.Statement.{heading_by, statement_by};
 
 use crate::lines::{class_lines, commodity_lines, live_lots};
-use mgn_machine::{CommodityLine, Heading, Mode, Origin, Statement};
+use mgn_machine::{CommodityLines, Heading, Mode, Origin, Statement};
 use mgn_num::Cents;
 use mgn_params::{ParamSet, Version, Work};
 use mgn_plain::NetFigures;
@@ -60,9 +60,9 @@ fn commodity_figures(
     alloc: Global,
     set: &ParamSet,
     lots: &PortfolioRow,
-) -> Result<(Vec<CommodityLine>, Cents), AllocError>
+) -> Result<(CommodityLines, Cents), AllocError>
     requires { IsPortfolioRow set.now lots.now }
-    ensures lines { IfOk result (λ told. told.0.items ≡ commodity_lines set.now (positions set.now.contracts lots.now.nets)) }
+    ensures lines { IfOk result (λ told. told.0 ≡ commodity_lines set.now (positions set.now.contracts lots.now.nets)) }
     ensures value { IfOk result (λ told. told.1 ≡ net_option_value (positions set.now.contracts lots.now.nets)) }
 {
     let figures = NetFigures::of(alloc, set, &lots.nets, &mut Work::new())?;

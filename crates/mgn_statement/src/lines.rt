@@ -9,7 +9,7 @@ ghost use Rattle.mgn_statement.specs.Statement.{line_by};
 
 use mgn_coll::{Collateral, class_value};
 use mgn_lots::Lot;
-use mgn_machine::{ClassLine, CommodityLine};
+use mgn_machine::{ClassLine, CommodityLine, CommodityLines};
 use mgn_nets::Nets;
 use mgn_params::{Class, ParamSet};
 use mgn_plain::{CommodityFigures, NetFigures};
@@ -56,19 +56,20 @@ pub(crate) fn commodity_lines(
     set: &ParamSet,
     nets: &Nets,
     figures: &NetFigures,
-) -> Result<Vec<CommodityLine>, AllocError>
+) -> Result<CommodityLines, AllocError>
     requires one_each { length nets.now ≡ length set.now.contracts }
     requires figures { figures.now ≡ record { set = set.now; nets = nets.now } }
-    ensures { IfOk result (λ lines. lines.items ≡ commodity_lines set.now (positions set.now.contracts nets.now)) }
+    ensures { IfOk result (λ lines. lines ≡ commodity_lines set.now (positions set.now.contracts nets.now)) }
 {
     let held = held_commodities(set, nets);
     let count = held.iter().filter(|&&mark| mark).count();
-    let mut lines = Vec::with_capacity(alloc, count)?;
+    let mut lines = CommodityLines::with_capacity(alloc, count)?;
     for commodity in 0..set.commodity_count() {
         if held[commodity] {
-            lines.push_reserved(line_of(set, commodity, &figures.commodity(commodity)));
+            lines.push(&line_of(set, commodity, &figures.commodity(commodity)))?;
         }
     }
+    prove!(lines.len() <= count);
     Ok(lines)
 }
 

@@ -6,13 +6,12 @@ use Rattle.std.proofs.lemmas.List.{length-map}
 use Rattle.mgn_params.specs.declared.tables.Contract.{Contract}
 use Rattle.mgn_params.specs.Limits.{contract_names}
 use Rattle.mgn_params.specs.Tables.{Tables}
+use Rattle.mgn_nets.specs.Portfolios.{AreNets}
 use Rattle.mgn_unit.specs.declared.row.PortfolioRow.{PortfolioRow}
-use Rattle.mgn_unit.specs.declared.row.Priced.{Priced}
 use Rattle.mgn_unit.specs.declared.row.Row.{Row}
 use Rattle.mgn_unit.specs.Amounts.{AreRequired, KeepsPlaces, amounts_with, portfolio_with_amounts, row_with_amounts}
 use Rattle.mgn_unit.specs.NewSets.{AreWorths, IsRequired, carried, places_in, portfolio_under, row_under}
-use Rattle.mgn_unit.specs.Prepared.{IsCopied}
-use Rattle.mgn_unit.specs.Rows.{IsPortfolioRow, IsRow, priced, row_with_worth}
+use Rattle.mgn_unit.specs.Rows.{IsPortfolioRow, IsRow, Priced, priced, row_with_worth}
 use Rattle.mgn_unit.proofs.InPlace.{carried-in_place, own-length}
 
 -- the new set has as many contracts
@@ -25,8 +24,8 @@ kept-length old new keeps =
 pub kept-carried : (old new : Tables) (row : List ℤ) → KeepsPlaces old new → length row ≡ length old.contracts → carried old new row ≡ row
 kept-carried old new row keeps long = carried-in_place old new (places_in old new) row refl keeps long
 
-pub kept-copied : (old new : Tables) (nets : List ℤ) → KeepsPlaces old new → IsCopied old nets → IsCopied new nets
-kept-copied old new nets keeps are = record { one_each = are.one_each ∙ kept-length old new keeps; small = are.small }
+pub kept-nets : (old new : Tables) (nets : List ℤ) → KeepsPlaces old new → AreNets old nets → AreNets new nets
+kept-nets old new nets keeps are = record { one_each = are.one_each ∙ kept-length old new keeps; small = are.small }
 
 -- what is required for nets that were carried over is required for those before
 pub kept-required : (old new : Tables) (nets ready : List ℤ) (r : ℤ) → KeepsPlaces old new → length nets ≡ length old.contracts → ready ≡ carried old new nets → IsRequired new ready r → IsRequired new nets r

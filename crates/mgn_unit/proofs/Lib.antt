@@ -17,3 +17,4 @@ pub mod InPlace
 pub mod KeptPlaces
 pub mod Places
 pub mod Parts
+pub mod RowNets

@@ -1,18 +1,22 @@
 -- Rows of margin units under another set in which each contract keeps its place: nets and sizes stay, amounts are new.
 use Rattle.std.specs.Prelude.{ℕ, ◌≡◌, ◌<◌, ℤ, pos, ◌+ℤ◌, List, length, slice_index_or}
 use Rattle.mgn_params.specs.Tables.{Tables}
+use Rattle.mgn_nets.specs.declared.portfolios.Portfolios.{Portfolios}
 use Rattle.mgn_unit.specs.declared.amounts.Amounts.{Amounts}
-use Rattle.mgn_unit.specs.declared.amounts.UnitAmounts.{UnitAmounts}
 use Rattle.mgn_unit.specs.declared.amounts.NewRows.{NewRows}
 use Rattle.mgn_unit.specs.declared.amounts.NewRows.TheVariants.{Kept, Moved}
 use Rattle.mgn_unit.specs.declared.row.PortfolioRow.{PortfolioRow}
-use Rattle.mgn_unit.specs.declared.row.Priced.{Priced}
 use Rattle.mgn_unit.specs.declared.row.Row.{Row}
 use Rattle.mgn_unit.specs.NewSets.{IsRequired, own_places, places_in}
+use Rattle.mgn_unit.specs.Rows.{Priced}
 
 -- each contract of the old set has its own place in the new one, which has no other
 abbrev pub KeepsPlaces : Tables → Tables → Type 0
 KeepsPlaces old new = places_in old new ≡ own_places (length old.contracts)
+
+-- the amounts of the portfolios of a unit
+abbrev pub UnitAmounts : Type 0
+UnitAmounts = Portfolios Amounts
 
 abbrev pub portfolio_with_amounts : Amounts → PortfolioRow → PortfolioRow
 portfolio_with_amounts amounts side =

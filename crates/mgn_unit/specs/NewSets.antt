@@ -1,5 +1,5 @@
 -- Rows of margin units under a set that comes into force during the day.
-use Rattle.std.specs.Prelude.{ℕ, ◌≡◌, ◌≤◌, ◌^◌, Bool, IsTrue, ◌↔◌, ◌||◌, ℤ, pos, ◌+ℤ◌, ◌-ℤ◌, int_lt, unsigned_abs, Option, None, Some, position, List, length, map, slice_index_or}
+use Rattle.std.specs.Prelude.{ℕ, ◌≡◌, ◌≤◌, ◌^◌, Bool, IsTrue, ◌↔◌, ◌||◌, ◌&&◌, ℤ, pos, ◌+ℤ◌, ◌-ℤ◌, int_lt, unsigned_abs, Option, None, Some, position, List, length, map, slice_index_or}
 use Rattle.std.specs.List.{list_all, range_with_len}
 use Rattle.std.specs.Ordering.{int_eq}
 use Rattle.std.specs.Str.{bytes_eq}
@@ -8,13 +8,14 @@ use Rattle.mgn_params.specs.Limits.{contract_names}
 use Rattle.mgn_params.specs.Tables.{Tables, contract_at}
 use Rattle.mgn_span.specs.Requirement.{requirement}
 use Rattle.mgn_span.specs.Scan.{value_at}
+use Rattle.mgn_nets.specs.declared.portfolios.Portfolios.{Portfolios}
 use Rattle.mgn_nets.specs.Numbers.{number_at}
+use Rattle.mgn_nets.specs.Portfolios.{UnitNets}
 use Rattle.mgn_coll.specs.Posted.{value}
 use Rattle.mgn_machine.specs.State.{AccountState}
 use Rattle.mgn_machine.specs.Portfolios.{unit_sum}
 use Rattle.mgn_machine.specs.Refusals.{has_contract}
 use Rattle.mgn_unit.specs.declared.row.Row.{Row}
-use Rattle.mgn_unit.specs.declared.row.PreparedUnit.{PreparedUnit}
 use Rattle.mgn_unit.specs.declared.row.PreparedPortfolio.{PreparedPortfolio}
 use Rattle.mgn_unit.specs.declared.row.PortfolioRow.{PortfolioRow}
 use Rattle.mgn_unit.specs.Rows.{priced}
@@ -64,6 +65,10 @@ pub record IsRequired (set : Tables) (nets : List ℤ) (r : ℤ) : Type 0 where
 abbrev pub IsPreparedPortfolio : Tables → PreparedPortfolio → Type 0
 IsPreparedPortfolio set prepared = IsRequired set prepared.nets prepared.requirement
 
+-- what was prepared of the portfolios of a unit
+abbrev pub PreparedUnit : Type 0
+PreparedUnit = Portfolios PreparedPortfolio
+
 pub record IsPrepared (set : Tables) (prepared : PreparedUnit) : Type 0 where
   pub lots : IsPreparedPortfolio set prepared.lots
   pub buys : IsPreparedPortfolio set prepared.buys
@@ -96,6 +101,12 @@ is_covered_at old new sizes i = int_eq (value_at sizes i) (pos 0) || has_contrac
 -- the new set has each contract in which something is live or held
 abbrev pub is_covered : Tables → Tables → List ℤ → Bool
 is_covered old new sizes = list_all (is_covered_at old new sizes) (range_with_len 0 (length old.contracts))
+
+-- the new set has each contract in which a net of a unit is not 0
+abbrev pub is_unit_covered : Tables → Tables → UnitNets → Bool
+is_unit_covered old new nets =
+    let by = is_covered old new in
+    by nets.lots && by nets.buys && by nets.sales && by nets.all
 
 -- the lots require more than is there for them
 abbrev pub row_on_call : Row → Bool

@@ -4,10 +4,11 @@ use Rattle.mgn_span.specs.Positions.{IsNet}
 use Rattle.mgn_span.specs.Requirement.{requirement}
 use Rattle.mgn_span.specs.Scan.{value_at}
 use Rattle.mgn_params.specs.Tables.{Tables}
+use Rattle.mgn_nets.specs.declared.portfolios.Portfolios.{Portfolios}
+use Rattle.mgn_nets.specs.Portfolios.{UnitNets}
 use Rattle.mgn_unit.specs.declared.change.Change.{Change}
 use Rattle.mgn_unit.specs.declared.change.Gain.{Gain}
 use Rattle.mgn_machine.specs.declared.reply.Figures.{Figures}
-use Rattle.mgn_unit.specs.declared.row.Priced.{Priced}
 use Rattle.mgn_unit.specs.declared.row.Row.{Row}
 use Rattle.mgn_unit.specs.declared.row.PortfolioRow.{PortfolioRow}
 use Rattle.mgn_machine.specs.State.{AccountState}
@@ -30,6 +31,10 @@ row_of set accounts u = record {
   sales = portfolio_of set accounts u WithSales;
   all = portfolio_of set accounts u WithAll;
 }
+
+-- the nets of a row
+abbrev pub nets_in : Row → UnitNets
+nets_in row = record { lots = row.lots.nets; buys = row.buys.nets; sales = row.sales.nets; all = row.all.nets }
 
 -- Room (own profile).
 
@@ -150,6 +155,10 @@ pub record IsRoomy (change : Change) (row : Row) : Type 0 where
   pub buys : All IsNet (more_at row.buys.nets change.contract change.buys.quantity)
   pub sales : All IsNet (more_at row.sales.nets change.contract change.sales.quantity)
   pub all : All IsNet (more_at row.all.nets change.contract change.all.quantity)
+
+-- what the portfolios of a unit require
+abbrev pub Priced : Type 0
+Priced = Portfolios ℤ
 
 -- what a portfolio requires after a change
 pub record PricesPortfolio (set : Tables) (i : ℕ) (gain : Gain) (side : PortfolioRow) (r : ℤ) : Type 0 where

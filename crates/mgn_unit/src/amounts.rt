@@ -1,15 +1,16 @@
 //! What changes of a unit under another set where each contract keeps its place: worths and requirements alone.
 
 ghost use Rattle.std.specs.Prelude.{◌≡◌, ◌≤◌, ◌^◌, ◌+ℤ◌, ◌↔◌, IfOk, IfSome, IsSome, IsTrue, unsigned_abs};
+ghost use Rattle.mgn_nets.specs.Portfolios.{AreNets};
 ghost use Rattle.mgn_unit.specs.Amounts.{AreRequired, KeepsPlaces, amounts_with, portfolio_with_amounts, row_with_amounts};
 ghost use Rattle.mgn_unit.specs.NewSets.{AreWorths, IsPrepared, IsPreparedPortfolio, IsRequired, carried, row_under};
-ghost use Rattle.mgn_unit.specs.Prepared.{AreCarried, IsCopied, copied};
-ghost use Rattle.mgn_unit.specs.Rows.{IsPortfolioRow, IsRow, row_with_worth};
+ghost use Rattle.mgn_unit.specs.Prepared.{AreCarried};
+ghost use Rattle.mgn_unit.specs.Rows.{IsPortfolioRow, IsRow, nets_in, row_with_worth};
 
 use crate::new_set::Switch;
 use crate::prepared::{required, required_beside};
 use crate::row::{PortfolioRow, PreparedPortfolio, PreparedUnit, Priced, Row};
-use mgn_nets::Nets;
+use mgn_nets::{Nets, Portfolios};
 use mgn_num::Cents;
 use mgn_params::Work;
 use std::alloc::{AllocError, Global};
@@ -24,17 +25,7 @@ pub struct Amounts {
 }
 
 /// The amounts of the four portfolios of a margin unit.
-#[derive(Clone, Copy)]
-pub struct UnitAmounts {
-    /// Those of the lots.
-    pub lots: Amounts,
-    /// Those of the lots and the held buys.
-    pub buys: Amounts,
-    /// Those of the lots and the held sales.
-    pub sales: Amounts,
-    /// Those of the lots and all holds.
-    pub all: Amounts,
-}
+pub type UnitAmounts = Portfolios<Amounts>;
 
 /// The rows of all margin units under another set.
 #[derive(Drop)]
@@ -52,7 +43,7 @@ fn prepared_requirement(
     prepared: &PreparedPortfolio,
     is_current: bool,
 ) -> Option<Cents>
-    requires nets { IsCopied switch.now.old nets.now }
+    requires nets { AreNets switch.now.old nets.now }
     requires keeps { KeepsPlaces switch.now.old switch.now.new }
     requires prepared { IsPreparedPortfolio switch.now.new prepared.now }
     requires current { IsTrue is_current → prepared.now.nets ≡ carried switch.now.old switch.now.new nets.now }
@@ -76,7 +67,7 @@ impl PortfolioRow {
         is_current: bool,
         work: &mut Work,
     ) -> Result<Cents, AllocError>
-        requires nets { IsCopied switch.now.old self.now.nets }
+        requires nets { AreNets switch.now.old self.now.nets }
         requires keeps { KeepsPlaces switch.now.old switch.now.new }
         requires prepared { IsPreparedPortfolio switch.now.new prepared.now }
         requires current { IsTrue is_current → prepared.now.nets ≡ carried switch.now.old switch.now.new self.now.nets }
@@ -100,7 +91,7 @@ impl PortfolioRow {
         known: Cents,
         work: &mut Work,
     ) -> Result<Cents, AllocError>
-        requires nets { IsCopied switch.now.old self.now.nets }
+        requires nets { AreNets switch.now.old self.now.nets }
         requires keeps { KeepsPlaces switch.now.old switch.now.new }
         requires prepared { IsPreparedPortfolio switch.now.new prepared.now }
         requires current { IsTrue is_current → prepared.now.nets ≡ carried switch.now.old switch.now.new self.now.nets }
@@ -185,9 +176,9 @@ impl Row {
         requires row { IsRow switch.now.old self.now }
         requires keeps { KeepsPlaces switch.now.old switch.now.new }
         requires prepared { IsPrepared switch.now.new prepared.now }
-        requires current { IsTrue is_current → AreCarried switch.now.old switch.now.new (copied self.now) prepared.now }
+        requires current { IsTrue is_current → AreCarried switch.now.old switch.now.new (nets_in self.now) prepared.now }
         ensures required { IfOk result (AreRequired switch.now.new self.now) }
-        ensures idle { AreCarried switch.now.old switch.now.new (copied self.now) prepared.now → work.new ≡ work.old }
+        ensures idle { AreCarried switch.now.old switch.now.new (nets_in self.now) prepared.now → work.new ≡ work.old }
     {
         let first = &self.lots.nets;
         let lots = self
@@ -261,11 +252,11 @@ impl Row {
         requires row { IsRow switch.now.old self.now }
         requires keeps { KeepsPlaces switch.now.old switch.now.new }
         requires prepared { IsPrepared switch.now.new prepared.now }
-        requires current { IsTrue is_current → AreCarried switch.now.old switch.now.new (copied self.now) prepared.now }
+        requires current { IsTrue is_current → AreCarried switch.now.old switch.now.new (nets_in self.now) prepared.now }
         requires worths { AreWorths (row_with_worth gain self.now) }
         ensures row { IfOk result (λ it. row_with_amounts it self.now ≡ row_under switch.now.old switch.now.new gain self.now) }
         ensures limits { IfOk result (λ it. IsRow switch.now.new (row_with_amounts it self.now)) }
-        ensures idle { AreCarried switch.now.old switch.now.new (copied self.now) prepared.now → work.new ≡ work.old }
+        ensures idle { AreCarried switch.now.old switch.now.new (nets_in self.now) prepared.now → work.new ≡ work.old }
     {
         let priced = self.requirements_by(alloc, switch, prepared, is_current, work)?;
         Ok(self.amounts(gain, &priced))

@@ -4,16 +4,17 @@ ghost use Rattle.mgn_params.specs.Tables.{Tables};
 ghost use Rattle.mgn_span.specs.Positions.{IsNet};
 ghost use Rattle.mgn_span.specs.Requirement.{requirement};
 ghost use Rattle.mgn_span.specs.Scan.{value_at};
+ghost use Rattle.mgn_nets.specs.Portfolios.{AreNets};
 ghost use Rattle.mgn_machine.specs.State.{AccountState};
-ghost use Rattle.mgn_unit.specs.Rows.{IsRow, IsPortfolioRow, row_with_worth};
-ghost use Rattle.mgn_unit.specs.Prepared.{AreCarried, IsCopied, copied};
+ghost use Rattle.mgn_unit.specs.Rows.{IsRow, IsPortfolioRow, nets_in, row_with_worth};
+ghost use Rattle.mgn_unit.specs.Prepared.{AreCarried};
 ghost use Rattle.mgn_unit.specs.Amounts.{KeepsPlaces};
-ghost use Rattle.mgn_unit.specs.NewSets.{AreWorths, IsPrepared, IsPreparedPortfolio, SetPair, carried, is_covered, is_covered_at, own_places, portfolio_under, row_on_call, row_under, unit_gain, value_gain};
+ghost use Rattle.mgn_unit.specs.NewSets.{AreWorths, IsPrepared, IsPreparedPortfolio, PreparedUnit, SetPair, carried, is_covered, is_covered_at, own_places, portfolio_under, row_on_call, row_under, unit_gain, value_gain};
 
 use crate::account::Account;
 use crate::prepared::{prepare, prepare_beside};
 use crate::row::{PortfolioRow, PreparedPortfolio, PreparedUnit, Row};
-use mgn_nets::Nets;
+use mgn_nets::{Nets, Portfolios};
 use mgn_num::{Cents, Quantity};
 use mgn_params::{ParamSet, Work};
 use std::alloc::{AllocError, Global};
@@ -219,10 +220,10 @@ fn still_prepared(
     nets: &Nets,
     prepared: Option<PreparedPortfolio>,
 ) -> Option<PreparedPortfolio>
-    requires nets { IsCopied switch.now.old nets.now }
+    requires nets { AreNets switch.now.old nets.now }
     requires prepared { IfSome prepared (IsPreparedPortfolio switch.now.new) }
     ensures prepared { IfSome result (IsPreparedPortfolio switch.now.new) }
-    ensures limits { IfSome result (λ it. IsCopied switch.now.new it.nets) }
+    ensures limits { IfSome result (λ it. AreNets switch.now.new it.nets) }
     ensures nets { IfSome result (λ it. it.nets ≡ carried switch.now.old switch.now.new nets.now) }
     ensures used { IsSomeAnd prepared (λ it. it.nets ≡ carried switch.now.old switch.now.new nets.now) → IsSome result }
 {
@@ -255,7 +256,7 @@ impl PortfolioRow {
           worth = self.now.worth +ℤ gain;
           requirement = prepared.requirement;
         } }
-        ensures limits { (set : Tables) → IsCopied set prepared.nets → IsPreparedPortfolio set prepared →
+        ensures limits { (set : Tables) → AreNets set prepared.nets → IsPreparedPortfolio set prepared →
             IsPortfolioRow set result }
     {
         PortfolioRow {
@@ -327,15 +328,7 @@ impl PortfolioRow {
 }
 
 // What was prepared of the portfolios of a unit, if anything was.
-#[derive(Drop)]
-struct Parts {
-    lots: Option<PreparedPortfolio>,
-    buys: Option<PreparedPortfolio>,
-    sales: Option<PreparedPortfolio>,
-    all: Option<PreparedPortfolio>,
-}
-
-fn parts_of(prepared: Option<PreparedUnit>) -> Parts
+fn parts_of(prepared: Option<PreparedUnit>) -> Portfolios<Option<PreparedPortfolio>>
     ensures { result ≡ record {
       lots = option_map (λ (it : PreparedUnit). it.lots) prepared;
       buys = option_map (λ (it : PreparedUnit). it.buys) prepared;
@@ -344,13 +337,13 @@ fn parts_of(prepared: Option<PreparedUnit>) -> Parts
     } }
 {
     match prepared {
-        Some(it) => Parts {
+        Some(it) => Portfolios {
             lots: Some(it.lots),
             buys: Some(it.buys),
             sales: Some(it.sales),
             all: Some(it.all),
         },
-        None => Parts {
+        None => Portfolios {
             lots: None,
             buys: None,
             sales: None,
@@ -376,7 +369,7 @@ impl Row {
         requires worths { AreWorths (row_with_worth gain self.now) }
         ensures row { IfOk result (λ row. row ≡ row_under switch.now.old switch.now.new gain self.now) }
         ensures limits { IfOk result (λ row. IsRow switch.now.new row) }
-        ensures idle { IsSomeAnd prepared (AreCarried switch.now.old switch.now.new (copied self.now))
+        ensures idle { IsSomeAnd prepared (AreCarried switch.now.old switch.now.new (nets_in self.now))
             → work.new ≡ work.old }
     {
         let sizes = switch.carry(alloc, &self.sizes)?;
@@ -410,7 +403,7 @@ impl Row {
     ) -> Result<Row, AllocError>
         requires row { IsRow switch.now.old self.now }
         requires prepared { IsPrepared switch.now.new prepared }
-        requires current { AreCarried switch.now.old switch.now.new (copied self.now) prepared }
+        requires current { AreCarried switch.now.old switch.now.new (nets_in self.now) prepared }
         requires worths { AreWorths (row_with_worth gain self.now) }
         ensures row { IfOk result (λ row. row ≡ row_under switch.now.old switch.now.new gain self.now) }
         ensures limits { IfOk result (λ row. IsRow switch.now.new row) }

@@ -1,49 +1,25 @@
 //! What units require under a set, worked out before that set comes into force.
 
-ghost use Rattle.std.specs.Prelude.{◌≡◌, ◌&&◌, IfOk, Ok};
-ghost use Rattle.mgn_unit.specs.NewSets.{IsPrepared, IsPreparedPortfolio, IsRequired, carried, is_covered};
-ghost use Rattle.mgn_unit.specs.Prepared.{AreCarried, AreCopied, IsCopied, copied, kept_nets};
+ghost use Rattle.std.specs.Prelude.{◌≡◌, IfOk, Ok};
+ghost use Rattle.mgn_nets.specs.Portfolios.{AreNets, AreUnitNets, behind};
+ghost use Rattle.mgn_unit.specs.NewSets.{IsPrepared, IsPreparedPortfolio, IsRequired, carried, is_unit_covered};
+ghost use Rattle.mgn_unit.specs.Prepared.{AreCarried};
+ghost use Rattle.mgn_unit.specs.Rows.{nets_in};
 
 use crate::new_set::{Switch, are_covered};
-use crate::row::{PreparedPortfolio, PreparedUnit, Row};
-use mgn_nets::Nets;
+use crate::row::{CopiedNets, PreparedPortfolio, PreparedUnit, Row};
+use mgn_nets::{Nets, Portfolios};
 use mgn_num::Cents;
 use mgn_params::{ParamSet, Work};
 use mgn_plain::requirement;
 use std::alloc::{AllocError, Global};
 
-/// A copy of the nets of the four portfolios of a margin unit, one for each contract of a set.
-#[derive(Drop)]
-pub struct CopiedNets {
-    /// The lots.
-    pub lots: Nets,
-    /// The lots and the held buys.
-    pub buys: Nets,
-    /// The lots and the held sales.
-    pub sales: Nets,
-    /// The lots and all holds.
-    pub all: Nets,
-}
-
-/// The nets of the four portfolios of a margin unit where they are kept.
-#[derive(Clone, Copy)]
-pub struct KeptNets<'a> {
-    /// The lots.
-    pub lots: &'a Nets,
-    /// The lots and the held buys.
-    pub buys: &'a Nets,
-    /// The lots and the held sales.
-    pub sales: &'a Nets,
-    /// The lots and all holds.
-    pub all: &'a Nets,
-}
-
 impl Row {
     /// The nets, as they are kept.
-    pub fn nets(&self) -> KeptNets<'_>
-        ensures { kept_nets result ≡ copied self.now }
+    pub fn nets(&self) -> Portfolios<&Nets>
+        ensures { behind result ≡ nets_in self.now }
     {
-        KeptNets {
+        Portfolios {
             lots: &self.lots.nets,
             buys: &self.buys.nets,
             sales: &self.sales.nets,
@@ -53,7 +29,7 @@ impl Row {
 
     /// A copy of the nets. An error says that memory was refused.
     pub fn copy_nets(&self, alloc: Global) -> Result<CopiedNets, AllocError>
-        ensures { IfOk result (λ nets. nets ≡ copied self.now) }
+        ensures { IfOk result (λ nets. nets ≡ nets_in self.now) }
     {
         Ok(CopiedNets {
             lots: self.lots.nets.copy(alloc)?,
@@ -71,7 +47,7 @@ pub(crate) fn required(
     nets: &Nets,
     work: &mut Work,
 ) -> Result<Cents, AllocError>
-    requires { IsCopied set.now nets.now }
+    requires { AreNets set.now nets.now }
     ensures { IfOk result (IsRequired set.now nets.now) }
 {
     requirement(alloc, set, nets, work)
@@ -84,10 +60,10 @@ pub(crate) fn prepare(
     nets: &Nets,
     work: &mut Work,
 ) -> Result<PreparedPortfolio, AllocError>
-    requires nets { IsCopied switch.now.old nets.now }
+    requires nets { AreNets switch.now.old nets.now }
     ensures prepared { IfOk result (IsPreparedPortfolio switch.now.new) }
     ensures nets { IfOk result (λ side. side.nets ≡ carried switch.now.old switch.now.new nets.now) }
-    ensures limits { IfOk result (λ side. IsCopied switch.now.new side.nets) }
+    ensures limits { IfOk result (λ side. AreNets switch.now.new side.nets) }
 {
     let carried = switch.carry(alloc, nets)?;
     let requirement = required(alloc, switch.new_set(), &carried, work)?;
@@ -106,7 +82,7 @@ pub(crate) fn required_beside(
     known: Cents,
     work: &mut Work,
 ) -> Result<Cents, AllocError>
-    requires nets { IsCopied set.now nets.now }
+    requires nets { AreNets set.now nets.now }
     requires other { IsRequired set.now other.now known }
     ensures required { IfOk result (IsRequired set.now nets.now) }
     ensures taken { other.now ≡ nets.now → result ≡ Ok known }
@@ -127,11 +103,11 @@ pub(crate) fn prepare_beside(
     known: Cents,
     work: &mut Work,
 ) -> Result<PreparedPortfolio, AllocError>
-    requires nets { IsCopied switch.now.old nets.now }
+    requires nets { AreNets switch.now.old nets.now }
     requires other { IsRequired switch.now.new other.now known }
     ensures prepared { IfOk result (IsPreparedPortfolio switch.now.new) }
     ensures nets { IfOk result (λ side. side.nets ≡ carried switch.now.old switch.now.new nets.now) }
-    ensures limits { IfOk result (λ side. IsCopied switch.now.new side.nets) }
+    ensures limits { IfOk result (λ side. AreNets switch.now.new side.nets) }
     ensures alike { other.now ≡ carried switch.now.old switch.now.new nets.now → work.new ≡ work.old }
 {
     let carried = switch.carry(alloc, nets)?;
@@ -142,62 +118,35 @@ pub(crate) fn prepare_beside(
     })
 }
 
-impl CopiedNets {
-    /// The nets, as they are kept.
-    pub fn nets(&self) -> KeptNets<'_>
-        ensures { kept_nets result ≡ self.now }
-    {
-        KeptNets {
-            lots: &self.lots,
-            buys: &self.buys,
-            sales: &self.sales,
-            all: &self.all,
-        }
-    }
+/// Whether the new set has each contract of the old one in which a net of a unit is not 0.
+pub fn is_unit_covered(nets: &CopiedNets, old: &ParamSet, new: &ParamSet) -> bool
+    requires { AreUnitNets old.now nets.now }
+    ensures { result ≡ is_unit_covered old.now new.now nets.now }
+{
+    are_covered(&nets.lots, old, new)
+        && are_covered(&nets.buys, old, new)
+        && are_covered(&nets.sales, old, new)
+        && are_covered(&nets.all, old, new)
+}
 
-    /// Whether the new set has each contract of the old one in which a net is not 0.
-    pub fn are_covered_by(&self, old: &ParamSet, new: &ParamSet) -> bool
-        requires { AreCopied old.now self.now }
-        ensures { let by = is_covered old.now new.now in
-            result ≡ by self.now.lots && by self.now.buys && by self.now.sales && by self.now.all }
-    {
-        are_covered(&self.lots, old, new)
-            && are_covered(&self.buys, old, new)
-            && are_covered(&self.sales, old, new)
-            && are_covered(&self.all, old, new)
-    }
-
-    /// What these nets under the old set of a switch require under the new one, by the contracts' names. An error says
-    /// that memory was refused.
+impl<'a> Switch<'a> {
+    /// What the nets of a unit under the old set require under the new one, by the contracts' names. An error says that
+    /// memory was refused.
     pub fn prepare(
         &self,
         alloc: Global,
-        switch: &Switch,
+        nets: &CopiedNets,
         work: &mut Work,
     ) -> Result<PreparedUnit, AllocError>
-        requires { AreCopied switch.now.old self.now }
-        ensures prepared { IfOk result (IsPrepared switch.now.new) }
-        ensures nets { IfOk result (AreCarried switch.now.old switch.now.new self.now) }
+        requires { AreUnitNets self.now.old nets.now }
+        ensures prepared { IfOk result (IsPrepared self.now.new) }
+        ensures nets { IfOk result (AreCarried self.now.old self.now.new nets.now) }
     {
-        let lots = prepare(alloc, switch, &self.lots, work)?;
+        let lots = prepare(alloc, self, &nets.lots, work)?;
         Ok(PreparedUnit {
-            buys: prepare_beside(
-                alloc,
-                switch,
-                &self.buys,
-                &lots.nets,
-                lots.requirement,
-                work,
-            )?,
-            sales: prepare_beside(
-                alloc,
-                switch,
-                &self.sales,
-                &lots.nets,
-                lots.requirement,
-                work,
-            )?,
-            all: prepare_beside(alloc, switch, &self.all, &lots.nets, lots.requirement, work)?,
+            buys: prepare_beside(alloc, self, &nets.buys, &lots.nets, lots.requirement, work)?,
+            sales: prepare_beside(alloc, self, &nets.sales, &lots.nets, lots.requirement, work)?,
+            all: prepare_beside(alloc, self, &nets.all, &lots.nets, lots.requirement, work)?,
             lots,
         })
     }

@@ -1,4 +1,4 @@
-use mgn_nets::Nets;
+use mgn_nets::{Nets, Portfolios};
 use mgn_num::Cents;
 
 /// One portfolio of a margin unit.
@@ -37,19 +37,10 @@ pub struct PreparedPortfolio {
 }
 
 /// What the four portfolios of a margin unit require under a set, worked out before that set comes into force.
-#[derive(Drop)]
-pub struct PreparedUnit {
-    pub lots: PreparedPortfolio,
-    pub buys: PreparedPortfolio,
-    pub sales: PreparedPortfolio,
-    pub all: PreparedPortfolio,
-}
+pub type PreparedUnit = Portfolios<PreparedPortfolio>;
 
-/// The requirements of the four portfolios of a unit.
-#[derive(Clone, Copy)]
-pub struct Priced {
-    pub lots: Cents,
-    pub buys: Cents,
-    pub sales: Cents,
-    pub all: Cents,
-}
+/// The requirements of the four portfolios of a margin unit, in cents.
+pub type Priced = Portfolios<Cents>;
+
+/// A copy of the nets of the four portfolios of a margin unit, one for each contract of a set.
+pub type CopiedNets = Portfolios<Nets>;

@@ -76,7 +76,7 @@ pub(crate) fn print(text: &str, out: &mut Vec<u8>) -> Result<(), AllocError>
 
 // A single byte costs less this way than as a text.
 #[inline]
-fn print_byte(byte: u8, out: &mut Vec<u8>) -> Result<(), AllocError>
+pub(crate) fn print_byte(byte: u8, out: &mut Vec<u8>) -> Result<(), AllocError>
     ensures ok { OnOk result (out.new.items ≡ out.old.items ++ byte ∷ []) }
     ensures kept { take (length out.old.items) out.new.items ≡ out.old.items }
     ensures room { FitsIn 1 out.old out.new result }

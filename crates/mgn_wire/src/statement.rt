@@ -1,14 +1,14 @@
-ghost use Rattle.std.specs.Prelude.{◌≡◌, ◌++◌, OnOk, OnErr, length, take};
+ghost use Rattle.std.specs.Prelude.{◌≡◌, ◌++◌, ◌∷◌, [], OnOk, OnErr, codes, length, take};
 ghost use Rattle.std.specs.List.{flat_map};
 ghost use Rattle.mgn_wire.specs.Fields.{field, number_text};
 ghost use Rattle.mgn_wire.specs.StatementText.{account_line, cash_line, charges_text, class_text, commodity_text, figures_line, hold_text, line_count, lot_text, mark_text, mode_text, name_text, option_line, own_lines, statement_text, unit_lines};
 
 use crate::fault::Memory;
-use crate::reply::{print, print_field, print_figures, print_number};
+use crate::reply::{print, print_byte, print_field, print_figures, print_number};
 use itoa::Buffer;
 use mgn_holds::Held;
 use mgn_lots::{Lot, Mark};
-use mgn_machine::{ClassLine, CommodityLine, Heading, Mode, Statement};
+use mgn_machine::{ClassLine, CommodityLine, CommodityLines, Heading, Mode, Statement};
 use mgn_num::Quantity;
 use std::alloc::AllocError;
 
@@ -18,7 +18,7 @@ fn print_name(name: &[u8], out: &mut Vec<u8>) -> Result<(), AllocError>
     ensures ok { OnOk result (out.new.items ≡ out.old.items ++ name_text name.now) }
     ensures kept { take (length out.old.items) out.new.items ≡ out.old.items }
 {
-    print(" ", out)?;
+    print_byte(b' ', out)?;
     out.extend_from_slice(name)
 }
 
@@ -26,7 +26,7 @@ fn print_quantity(quantity: Quantity, out: &mut Vec<u8>) -> Result<(), AllocErro
     ensures ok { OnOk result (out.new.items ≡ out.old.items ++ field quantity) }
     ensures kept { take (length out.old.items) out.new.items ≡ out.old.items }
 {
-    print(" ", out)?;
+    print_byte(b' ', out)?;
     print(Buffer::new().format(quantity.contracts()), out)
 }
 
@@ -40,15 +40,22 @@ fn print_mode(mode: Mode, out: &mut Vec<u8>) -> Result<(), AllocError>
     }
 }
 
+fn mark_letter(mark: Mark) -> u8
+    ensures { codes " " ++ result ∷ [] ≡ mark_text mark }
+{
+    match mark {
+        Mark::Traded => b'T',
+        Mark::Moved => b'M',
+        Mark::Busted => b'B',
+    }
+}
+
 fn print_mark(mark: Mark, out: &mut Vec<u8>) -> Result<(), AllocError>
     ensures ok { OnOk result (out.new.items ≡ out.old.items ++ mark_text mark) }
     ensures kept { take (length out.old.items) out.new.items ≡ out.old.items }
 {
-    match mark {
-        Mark::Traded => print(" T", out),
-        Mark::Moved => print(" M", out),
-        Mark::Busted => print(" B", out),
-    }
+    print_byte(b' ', out)?;
+    print_byte(mark_letter(mark), out)
 }
 
 // The account, its origin and how that is margined.
@@ -66,21 +73,21 @@ fn print_account(heading: &Heading, out: &mut Vec<u8>) -> Result<(), AllocError>
     ensures ok { OnOk result (out.new.items ≡ out.old.items ++ account_line heading.now) }
     ensures kept { take (length out.old.items) out.new.items ≡ out.old.items }
 {
-    print("S", out)?;
+    print_byte(b'S', out)?;
     print_owner(heading, out)?;
     print_name(heading.set.as_bytes(), out)?;
     print_number(u64::from(heading.version.number()), out)?;
-    print("\n", out)
+    print_byte(b'\n', out)
 }
 
 fn print_figures_line(heading: &Heading, out: &mut Vec<u8>) -> Result<(), AllocError>
     ensures ok { OnOk result (out.new.items ≡ out.old.items ++ figures_line heading.now) }
     ensures kept { take (length out.old.items) out.new.items ≡ out.old.items }
 {
-    print("F", out)?;
+    print_byte(b'F', out)?;
     print_figures(&heading.figures, out)?;
     print_field(heading.call, out)?;
-    print("\n", out)
+    print_byte(b'\n', out)
 }
 
 fn print_charges(line: &CommodityLine, out: &mut Vec<u8>) -> Result<(), AllocError>
@@ -98,21 +105,21 @@ fn print_commodity(line: &CommodityLine, out: &mut Vec<u8>) -> Result<(), AllocE
     ensures ok { OnOk result (out.new.items ≡ out.old.items ++ commodity_text line.now) }
     ensures kept { take (length out.old.items) out.new.items ≡ out.old.items }
 {
-    print("G", out)?;
+    print_byte(b'G', out)?;
     print_name(line.commodity.as_bytes(), out)?;
     print_field(line.scan, out)?;
     print_number(u64::from(line.active), out)?;
     print_charges(line, out)?;
-    print("\n", out)
+    print_byte(b'\n', out)
 }
 
 fn print_option_value(heading: &Heading, out: &mut Vec<u8>) -> Result<(), AllocError>
     ensures ok { OnOk result (out.new.items ≡ out.old.items ++ option_line heading.now) }
     ensures kept { take (length out.old.items) out.new.items ≡ out.old.items }
 {
-    print("N", out)?;
+    print_byte(b'N', out)?;
     print_field(heading.option_value, out)?;
-    print("\n", out)
+    print_byte(b'\n', out)
 }
 
 // The contract, the quantity and the price of a lot or an order.
@@ -135,7 +142,7 @@ fn print_lot(lot: &Lot, out: &mut Vec<u8>) -> Result<(), AllocError>
     ensures ok { OnOk result (out.new.items ≡ out.old.items ++ lot_text lot.now) }
     ensures kept { take (length out.old.items) out.new.items ≡ out.old.items }
 {
-    print("L", out)?;
+    print_byte(b'L', out)?;
     print_number(lot.number.number(), out)?;
     print_terms(
         lot.contract.as_bytes(),
@@ -144,14 +151,14 @@ fn print_lot(lot: &Lot, out: &mut Vec<u8>) -> Result<(), AllocError>
         out,
     )?;
     print_mark(lot.mark, out)?;
-    print("\n", out)
+    print_byte(b'\n', out)
 }
 
 fn print_hold(held: &Held, out: &mut Vec<u8>) -> Result<(), AllocError>
     ensures ok { OnOk result (out.new.items ≡ out.old.items ++ hold_text held.now) }
     ensures kept { take (length out.old.items) out.new.items ≡ out.old.items }
 {
-    print("O", out)?;
+    print_byte(b'O', out)?;
     print_number(held.order.number(), out)?;
     print_terms(
         held.contract.as_bytes(),
@@ -159,7 +166,7 @@ fn print_hold(held: &Held, out: &mut Vec<u8>) -> Result<(), AllocError>
         u64::from(held.limit),
         out,
     )?;
-    print("\n", out)
+    print_byte(b'\n', out)
 }
 
 fn print_cash(heading: &Heading, out: &mut Vec<u8>) -> Result<(), AllocError>
@@ -168,26 +175,26 @@ fn print_cash(heading: &Heading, out: &mut Vec<u8>) -> Result<(), AllocError>
 {
     print("C CASH", out)?;
     print_number(heading.cash, out)?;
-    print("\n", out)
+    print_byte(b'\n', out)
 }
 
 fn print_class(line: &ClassLine, out: &mut Vec<u8>) -> Result<(), AllocError>
     ensures ok { OnOk result (out.new.items ≡ out.old.items ++ class_text line.now) }
     ensures kept { take (length out.old.items) out.new.items ≡ out.old.items }
 {
-    print("C", out)?;
+    print_byte(b'C', out)?;
     print_name(line.class.as_bytes(), out)?;
     print_number(line.units, out)?;
     print_number(line.value, out)?;
-    print("\n", out)
+    print_byte(b'\n', out)
 }
 
-fn print_commodities(lines: &[CommodityLine], out: &mut Vec<u8>) -> Result<(), AllocError>
+fn print_commodities(lines: &CommodityLines, out: &mut Vec<u8>) -> Result<(), AllocError>
     ensures ok { OnOk result (out.new.items ≡ out.old.items ++ flat_map commodity_text lines.now) }
     ensures kept { take (length out.old.items) out.new.items ≡ out.old.items }
 {
-    for line in lines {
-        print_commodity(line, out)?;
+    for place in 0..lines.len() {
+        print_commodity(&lines.line(place), out)?;
     }
     Ok(())
 }

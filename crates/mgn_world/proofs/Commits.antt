@@ -9,8 +9,8 @@ use Rattle.std.proofs.lemmas.List.{get_or-set_same, get_or-set_other, get_or_app
 use Rattle.mgn_params.specs.Limits.{IsWithinLimits}
 use Rattle.mgn_params.specs.Shelves.{set_at}
 use Rattle.mgn_params.specs.Tables.{Tables, no_tables}
+use Rattle.mgn_nets.specs.Portfolios.{UnitNets}
 use Rattle.mgn_desk.specs.Desks.{MarkedNets}
-use Rattle.mgn_desk.specs.Portfolios.{FourNets}
 use Rattle.mgn_machine.specs.declared.command.Command.{Command}
 use Rattle.mgn_machine.specs.declared.reply.Refusal.{Refusal}
 use Rattle.mgn_machine.specs.declared.reply.Reply.{Reply}
@@ -28,7 +28,8 @@ use Rattle.mgn_world.specs.Claims.{HasPlan, IsAmong, IsReplayed, Rests, before_c
 use Rattle.mgn_world.specs.declared.stages.Call.{Call}
 use Rattle.mgn_world.specs.declared.stages.Stage.{Stage}
 use Rattle.mgn_world.specs.declared.stages.Stage.TheVariants.{Idle, Held, Applied, Failed, Ended, Gathered}
-use Rattle.mgn_world.specs.Stages.{Gathering, Seen, View}
+use Rattle.mgn_world.specs.Stages.{Gathering, View}
+use Rattle.mgn_world.specs.declared.stages.Seen.{Seen}
 use Rattle.mgn_world.specs.World.{World, are_fit, are_stale, desk_at, in_force, is_apart, is_done, is_fit, is_stale, lengthened, lock_at, placed, plan_units, planned, same_nets, seen_at, stage_at, stepped, unit_nets, units_of, with_stage}
 use Rattle.mgn_world.specs.Standing.{DeskOf, Good, HeldDesk, Owns, Sees, StageOf}
 use Rattle.mgn_world.proofs.Desks.{plan_held}
@@ -146,7 +147,7 @@ pub pointwise_same : (xs : List ℤ) → pointwise int_eq xs xs ≡ true
 pointwise_same [] = refl
 pointwise_same (x ∷ xs) = (λ j. (Decides-int_eq x x).1 refl j && pointwise int_eq xs xs) ∙ pointwise_same xs
 
-nets_same : (n : FourNets) → same_nets n n ≡ true
+nets_same : (n : UnitNets) → same_nets n n ≡ true
 nets_same n = λ j. pointwise_same n.lots j && pointwise_same n.buys j && pointwise_same n.sales j && pointwise_same n.all j
 
 fit_at : (w : World) (plan : Plan) (u : ℕ) (d : Option MarkedNets) (l : View) → l.plan ≡ plan → l.version ≡ w.state.version → HasPlan w.sets w.state.accounts l u d → is_fit w plan u d ≡ true
@@ -154,7 +155,7 @@ fit_at w plan u None l same now h = absurd h
 fit_at w plan u (Some m) l same now h =
     let nets : m.nets ≡ planned plan (in_force w) w.state.accounts u = h.1 ∙ (λ j. planned (same j) (set_at w.sets (now j)) w.state.accounts u) in
     (λ j. eq-eqb m.version w.state.version (h.0 ∙ now) j && same_nets m.nets (planned plan (in_force w) w.state.accounts u))
-    ∙ ap (λ (n : FourNets). same_nets n (planned plan (in_force w) w.state.accounts u)) nets
+    ∙ ap (λ (n : UnitNets). same_nets n (planned plan (in_force w) w.state.accounts u)) nets
     ∙ nets_same (planned plan (in_force w) w.state.accounts u)
 
 fit_all : (w : World) (plan : Plan) (us : List ℕ) (l : View) → l.plan ≡ plan → l.version ≡ w.state.version → ((u : ℕ) → IsAmong u us → HasPlan w.sets w.state.accounts l u (desk_at w u)) → are_fit w plan us ≡ true

@@ -8,19 +8,19 @@ use Rattle.std.proofs.lemmas.Bool.Decides.{nat_tests}
 use Rattle.std.proofs.lemmas.List.{get_or-map, length-map}
 use Rattle.mgn_params.specs.Shelves.{set_at}
 use Rattle.mgn_params.specs.Tables.{Tables}
+use Rattle.mgn_nets.specs.Portfolios.{UnitNets}
 use Rattle.mgn_desk.specs.declared.desk.Marked.{Marked}
 use Rattle.mgn_desk.specs.Desks.{DeskRows, MarkedNets, marked_nets}
-use Rattle.mgn_desk.specs.Portfolios.{ArePortfolios, FourNets, nets_of}
+use Rattle.mgn_desk.specs.Portfolios.{ArePortfolios, nets_of}
 use Rattle.mgn_machine.specs.declared.command.Command.{Command}
 use Rattle.mgn_machine.specs.declared.request.Request.TheVariants.{Do}
 use Rattle.mgn_machine.specs.History.{calls, entry, recorded}
 use Rattle.mgn_machine.specs.State.{AccountState, State}
-use Rattle.mgn_unit.specs.Rows.{no_row, row_of}
+use Rattle.mgn_unit.specs.Rows.{nets_in, no_row, row_of}
 use Rattle.mgn_plan.specs.declared.plans.Plan.{Plan}
 use Rattle.mgn_plan.specs.declared.plans.Plan.TheVariants.{Nothing, One, Two}
 use Rattle.mgn_plan.specs.declared.plans.UnitChange.{UnitChange}
-use Rattle.mgn_plan.specs.Plans.{UnitNets, moved_nets, nets_by, nets_in, plan_of, planned_nets, row_at}
-use Rattle.mgn_pricing.specs.Desks.{four}
+use Rattle.mgn_plan.specs.Plans.{moved_nets, nets_by, plan_of, planned_nets, row_at}
 use Rattle.mgn_pricing.specs.Given.{IsRight, desk_of, fit_plan, fits, fits_change, is_older, is_one_older, marked_in, same_four}
 use Rattle.mgn_book.specs.BookViews.{BookView, Committed, Stands}
 use Rattle.mgn_book.specs.declared.book.Outcome.TheVariants.{Done as Settled}
@@ -92,19 +92,19 @@ stage_seen w p k l sound is = of_stage w.shelf (length w.desks.items) w.stages.i
 
 -- They fit.
 
-four_same : (n : FourNets) → same_four n n ≡ true
+four_same : (n : UnitNets) → same_four n n ≡ true
 four_same n = λ j. pointwise_same n.lots j && (pointwise_same n.buys j && (pointwise_same n.sales j && pointwise_same n.all j))
 
 abbrev marked_or : MarkedNets → Option MarkedNets → MarkedNets
 marked_or d None = d
 marked_or d (Some m) = m
 
-fits_marked : (version : ℕ) (nets : FourNets) (m : Option Marked) → marked_nets m ≡ Some record { version = version; nets = nets } → fits version nets m ≡ true
+fits_marked : (version : ℕ) (nets : UnitNets) (m : Option Marked) → marked_nets m ≡ Some record { version = version; nets = nets } → fits version nets m ≡ true
 fits_marked version nets None e = cc
 fits_marked version nets (Some m) e =
     let of = ap (marked_or record { version = version; nets = nets }) e in
     (λ j. eq-eqb m.version version (ap (λ (x : MarkedNets). x.version) of) j && same_four (nets_of m.portfolios) nets)
-    ∙ ap (λ (n : FourNets). same_four n nets) (ap (λ (x : MarkedNets). x.nets) of) ∙ four_same nets
+    ∙ ap (λ (n : UnitNets). same_four n nets) (ap (λ (x : MarkedNets). x.nets) of) ∙ four_same nets
 
 -- the two units of a plan are two
 two_apart : (w : Kept) (p : ℕ) (k : Call) (l : View) (u v : UnitChange) → Good (shown w) → IsSound w → stage_at (shown w) p ≡ Applied k l → l.plan ≡ Two u v → v.unit ≢ u.unit
@@ -138,14 +138,14 @@ fits_now w p k l given good sound is now are = ⊎_elim
         let desk = slice_index_or w.desks.items u.unit record { unit = u.unit; marked = None } in
         let rows : u.unit < length w.book.book.rows = omega (arith, inside, length-map w.desks.items desk_shown, good.desks_long, sound.book.kept.units) in
         let row : row_at t w.book.book.rows u.unit ≡ row_of t s.accounts u.unit = (sound.book.kept.rows u.unit (no_row t) rows).is in
-        let shows : marked_nets desk.marked ≡ Some record { version = l.version; nets = four (moved_nets u.change (row_nets u.unit)) } =
+        let shows : marked_nets desk.marked ≡ Some record { version = l.version; nets = moved_nets u.change (row_nets u.unit) } =
         sym (get_or-map desk_shown w.desks.items u.unit record { unit = u.unit; marked = None } None inside)
-        ∙ has_nets w.shelf s.accounts l u.unit (desk_at (shown w) u.unit) (four (moved_nets u.change (row_nets u.unit))) (has_plan (shown w) p k l good is u.unit among)
-        (ap (λ (n : ℕ). planned l.plan (set_at w.shelf n) s.accounts u.unit) now ∙ ap four nets)
+        ∙ has_nets w.shelf s.accounts l u.unit (desk_at (shown w) u.unit) (moved_nets u.change (row_nets u.unit)) (has_plan (shown w) p k l good is u.unit among)
+        (ap (λ (n : ℕ). planned l.plan (set_at w.shelf n) s.accounts u.unit) now ∙ nets)
         in
-        ap (fits s.version (four (moved_nets u.change (nets_in (row_at t w.book.book.rows u.unit))))) (are u.unit record { unit = u.unit; marked = None } among)
-        ∙ fits_marked s.version (four (moved_nets u.change (nets_in (row_at t w.book.book.rows u.unit)))) desk.marked
-        (shows ∙ (λ j. Some record { version = now j; nets = four (moved_nets u.change (nets_in (sym row j))) }))
+        ap (fits s.version (moved_nets u.change (nets_in (row_at t w.book.book.rows u.unit)))) (are u.unit record { unit = u.unit; marked = None } among)
+        ∙ fits_marked s.version (moved_nets u.change (nets_in (row_at t w.book.book.rows u.unit))) desk.marked
+        (shows ∙ (λ j. Some record { version = now j; nets = moved_nets u.change (nets_in (sym row j)) }))
 
     by : (plan : Plan) → l.plan ≡ plan → fit_plan t s.version w.book.book.rows given plan ≡ true
     by Nothing e = refl

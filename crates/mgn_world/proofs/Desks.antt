@@ -5,6 +5,7 @@ use Rattle.std.proofs.lemmas.Bool.{cases_eq, eqb-true, eq-eqb}
 use Rattle.std.proofs.lemmas.List.{get_or-set_same, get_or-set_other, length-set, set-get_or}
 use Rattle.mgn_params.specs.Shelves.{set_at}
 use Rattle.mgn_params.specs.Tables.{Tables}
+use Rattle.mgn_nets.specs.Portfolios.{UnitNets}
 use Rattle.mgn_desk.specs.Desks.{MarkedNets, Shown, moved_marked}
 use Rattle.mgn_desk.specs.Portfolios.{opposite}
 use Rattle.mgn_desk.proofs.MovedLemmas.{desk_back}
@@ -12,14 +13,15 @@ use Rattle.mgn_machine.specs.State.{AccountState}
 use Rattle.mgn_plan.specs.declared.plans.Plan.{Plan}
 use Rattle.mgn_plan.specs.declared.plans.Plan.TheVariants.{Nothing, One, Two}
 use Rattle.mgn_plan.specs.declared.plans.UnitChange.{UnitChange}
-use Rattle.mgn_plan.specs.Plans.{UnitNets, moved_nets, nets_by, nets_in, planned_nets}
-use Rattle.mgn_unit.specs.Rows.{row_of}
-use Rattle.mgn_pricing.specs.Desks.{four, moves_of}
+use Rattle.mgn_plan.specs.Plans.{moved_nets, nets_by, planned_nets}
+use Rattle.mgn_unit.specs.Rows.{nets_in, row_of}
+use Rattle.mgn_pricing.specs.Desks.{moves_of}
 use Rattle.mgn_world.specs.Claims.{HasPlan, IsAmong, Rests}
 use Rattle.mgn_world.specs.declared.stages.Call.{Call}
 use Rattle.mgn_world.specs.declared.stages.Stage.{Stage}
 use Rattle.mgn_world.specs.declared.stages.Stage.TheVariants.{Idle, Held, Looked, Applied, Failed, Ended}
-use Rattle.mgn_world.specs.Stages.{Seen, View}
+use Rattle.mgn_world.specs.Stages.{View}
+use Rattle.mgn_world.specs.declared.stages.Seen.{Seen}
 use Rattle.mgn_world.specs.World.{World, are_of, desk_at, desks_with, desks_without, in_order, is_of, lock_at, mark_first, plan_units, planned_desks, seen_at, stage_at, unit_nets, unplanned_desks}
 use Rattle.mgn_world.specs.Standing.{Good, HeldDesk, IsPassed, Owns, Sees, StageOf}
 use Rattle.mgn_world.proofs.Frames.{view_inside, view_units}
@@ -160,7 +162,7 @@ unplanned_back (Two u v) x d = ap (unmoved_at u x) (back_at v x (moved_at u x d)
 
 -- the nets that a desk shows are moved as those of the row
 abbrev marked : ℕ → UnitNets → Option MarkedNets
-marked version nets = Some record { version = version; nets = four nets }
+marked version nets = Some record { version = version; nets = nets }
 
 moved_nets_at : (u : UnitChange) (x version : ℕ) (nets : UnitNets) → moved_at u x (marked version nets) ≡ marked version (nets_by u x nets)
 moved_nets_at u x version nets = by (u.unit == x)

@@ -9,6 +9,7 @@ use Rattle.mgn_machine.specs.declared.command.Command.{Command}
 use Rattle.mgn_machine.specs.declared.request.Request.{Request}
 use Rattle.mgn_machine.specs.declared.request.Request.TheVariants.{Do, Switch}
 use Rattle.mgn_machine.specs.Step.{step}
+use Rattle.mgn_unit.specs.NewSets.{is_unit_covered}
 use Rattle.mgn_plan.specs.declared.plans.Plan.{Plan}
 use Rattle.mgn_plan.specs.declared.plans.Plan.TheVariants.{Nothing, One, Two}
 use Rattle.mgn_plan.specs.Plans.{plan_of}
@@ -20,7 +21,7 @@ use Rattle.mgn_world.specs.declared.stages.Stage.{Stage}
 use Rattle.mgn_world.specs.declared.stages.Stage.TheVariants.{Idle, Held, Looked, Applied, Failed, Ended, Gathered}
 use Rattle.mgn_world.specs.declared.stages.Step.{Step}
 use Rattle.mgn_world.specs.Stages.{Gathering, View}
-use Rattle.mgn_world.specs.World.{World, applies, are_covered, are_free, are_of, are_stale, backs, begin_on, begins, commits, does, does_as, ends, finished, gathers, in_force, is_apart, is_full, look_on, looks, marks, next, no_nets, opening, placed, planned_desks, prepared_more, prepares, run, stage_at, stepped, taken, units_of, with_stage}
+use Rattle.mgn_world.specs.World.{World, applies, are_free, are_of, are_stale, backs, begin_on, begins, commits, does, does_as, ends, finished, gathers, in_force, is_apart, is_full, look_on, looks, marks, next, no_nets, opening, placed, planned_desks, prepared_more, prepares, run, stage_at, stepped, taken, units_of, with_stage}
 use Rattle.mgn_world.specs.Standing.{Good, StageOf}
 use Rattle.mgn_world.proofs.Commits.{good_at_once, good_placed, good_planless, good_switch, stale_passed}
 use Rattle.mgn_world.proofs.Desks.{good_applied, good_backed, good_mark}
@@ -125,7 +126,7 @@ gathered_set false g prepared = refl
 good_prepare : (w : World) (p u : ℕ) (st : Stage) → Good w → stage_at w p ≡ st → p < length w.stages → Good (prepares w p u st)
 good_prepare w p u (Gathered g) good is there =
     good_stage w p (Gathered g) (Gathered (prepared_more (set_at w.sets g.version) u g)) good is there
-    (subst IsWithinLimits (sym (gathered_set (nat_lt u (length g.nets) && are_covered (set_at w.sets g.version) g.set (slice_index_or g.nets u no_nets)) g (slice_set g.prepared u true))) (session w p (Gathered g) good is))
+    (subst IsWithinLimits (sym (gathered_set (nat_lt u (length g.nets) && is_unit_covered (set_at w.sets g.version) g.set (slice_index_or g.nets u no_nets)) g (slice_set g.prepared u true))) (session w p (Gathered g) good is))
     (λ x d h. h)
 good_prepare w p u st good is there = good
 

@@ -9,6 +9,7 @@ use Rattle.std.proofs.lemmas.List.Elements.{All-get_or, All-push, All-set}
 use Rattle.std.proofs.lemmas.List.Quantifiers.{position-Some}
 use Rattle.mgn_params.specs.Limits.{IsWithinLimits}
 use Rattle.mgn_params.specs.Tables.{Tables}
+use Rattle.mgn_nets.specs.Portfolios.{UnitNets}
 use Rattle.mgn_lots.specs.declared.lot.Lot.{Lot}
 use Rattle.mgn_lots.specs.Lots.{busted, is_live, lot_at, no_lot}
 use Rattle.mgn_holds.specs.declared.held.Held.{Held}
@@ -35,7 +36,7 @@ use Rattle.mgn_machine.specs.Step.{answered, asked as figures_asked, drawn, ende
 use Rattle.mgn_machine.specs.Transfers.{move_places, moved, moved_lot, with_move}
 use Rattle.mgn_unit.specs.Changes.{Moves, bust_change, fill_change, gain_of, hold_change, lot_change, moved_change, release_change}
 use Rattle.mgn_unit.specs.declared.change.Change.{Change}
-use Rattle.mgn_unit.specs.Rows.{row_of}
+use Rattle.mgn_unit.specs.Rows.{nets_in, row_of}
 use Rattle.mgn_unit.proofs.AccountMoves.{bust-moves, traded-moves}
 use Rattle.mgn_unit.proofs.FillMoves.{All-filled, fill-moves}
 use Rattle.mgn_unit.proofs.HoldMoves.{All-removed, hold-moves, release-moves}
@@ -45,9 +46,8 @@ use Rattle.mgn_unit.proofs.TransferMoves.{moved-moves}
 use Rattle.mgn_plan.specs.declared.plans.Plan.{Plan}
 use Rattle.mgn_plan.specs.declared.plans.Plan.TheVariants.{Nothing, One, Two}
 use Rattle.mgn_plan.specs.declared.plans.UnitChange.{UnitChange}
-use Rattle.mgn_plan.specs.Plans.{UnitNets, bust_plan, bust_plan_at, fill_plan, fill_plan_at, hold_plan, in_unit_of, move_plan, moved_nets, nets_by, nets_in, plan_of, release_plan, release_plan_at, trade_plan}
+use Rattle.mgn_plan.specs.Plans.{bust_plan, bust_plan_at, fill_plan, fill_plan_at, hold_plan, in_unit_of, move_plan, moved_nets, nets_by, plan_of, release_plan, release_plan_at, trade_plan}
 use Rattle.mgn_register.proofs.Kept.{contract-stands, found-Some, known-stands, stands-known}
-use Rattle.mgn_pricing.specs.Desks.{four}
 use Rattle.mgn_world.specs.Claims.{IsAmong}
 use Rattle.mgn_world.specs.World.{is_done, planned, unit_found, unit_nets, units_found, units_of}
 use Rattle.mgn_world.specs.Standing.{IsHoused}
@@ -166,7 +166,7 @@ effect-put set' s us k b contract change before inside are stands renews = recor
   };
   housed = housed-put s k b inside renews.moves.unit before.housed;
   known = All-set (IsKnown set') s.accounts k b (renews.known (All-get_or (IsKnown set') s.accounts k no_account inside before.known)) before.known;
-  nets = λ u. ap four (nets-put set' s.accounts k u b contract change inside stands renews.moves);
+  nets = λ u. nets-put set' s.accounts k u b contract change inside stands renews.moves;
   same = λ e. absurd (cc);
 }
   where
@@ -456,10 +456,10 @@ effect-move set' s us m g k i one before there here apart known are is = record 
     nets : (o : Bool) → (account_at s.accounts g).unit == (account_at s.accounts k).unit ≡ o → (u : ℕ)
         → unit_nets set' (with_move s g k m).accounts u ≡ planned (if o then Nothing else Two (in_unit_of s g given) (in_unit_of s k taken)) set' s.accounts u
     nets true e u = within e set' u
-    nets false e u = ap four
-        (nets-put set' first k u b m.contract taken inside stands (subst (λ (x : AccountState). Moves set' m.contract taken x b) (sym kept_there) (moved-moves set' (account_at s.accounts k) m.lot m.contract i m.quantity))
+    nets false e u =
+        nets-put set' first k u b m.contract taken inside stands (subst (λ (x : AccountState). Moves set' m.contract taken x b) (sym kept_there) (moved-moves set' (account_at s.accounts k) m.lot m.contract i m.quantity))
         ∙ ap (λ (x : AccountState). nets_by record { account = k; unit = x.unit; change = taken } u (nets_in (row_of set' first u))) kept_there
-        ∙ ap (nets_by (in_unit_of s k taken) u) (nets-put set' s.accounts g u a m.contract given there stands (moved-moves set' (account_at s.accounts g) m.lot m.contract i (neg_ℤ m.quantity))))
+        ∙ ap (nets_by (in_unit_of s k taken) u) (nets-put set' s.accounts g u a m.contract given there stands (moved-moves set' (account_at s.accounts g) m.lot m.contract i (neg_ℤ m.quantity)))
 
     same : (o : Bool) → (account_at s.accounts g).unit == (account_at s.accounts k).unit ≡ o → (if o then Nothing else Two (in_unit_of s g given) (in_unit_of s k taken)) ≡ Nothing
         → (t : Tables) (u : ℕ) → unit_nets t (with_move s g k m).accounts u ≡ unit_nets t s.accounts u

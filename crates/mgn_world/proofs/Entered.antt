@@ -6,16 +6,16 @@ use Rattle.std.proofs.lemmas.List.{ext_get_or, get_or-map, length-map}
 use Rattle.std.proofs.lemmas.List.FromFn.{get_or-map-range_with_len, length-map-range_with_len}
 use Rattle.mgn_params.specs.Shelves.{set_at}
 use Rattle.mgn_params.specs.Tables.{Tables}
-use Rattle.mgn_desk.specs.Portfolios.{AreFourNets, FourNets}
+use Rattle.mgn_nets.specs.Portfolios.{AreUnitNets}
 use Rattle.mgn_machine.specs.declared.entry.Entry.{Entry}
 use Rattle.mgn_machine.specs.declared.reply.Reply.{Reply}
 use Rattle.mgn_machine.specs.declared.request.Request.TheVariants.{Switch}
 use Rattle.mgn_machine.specs.History.{calls, entry, recorded}
 use Rattle.mgn_machine.specs.State.{State}
 use Rattle.mgn_machine.specs.Step.{step}
-use Rattle.mgn_unit.specs.declared.row.Row.{Row}
-use Rattle.mgn_unit.specs.Prepared.{copied}
-use Rattle.mgn_unit.specs.Rows.{no_row}
+use Rattle.mgn_unit.specs.Rows.{nets_in, no_row}
+use Rattle.mgn_unit.proofs.RowNets.{row-nets}
+use Rattle.mgn_unit.specs.NewSets.{is_unit_covered}
 use Rattle.mgn_register.specs.BookStates.{BookState, IsKept}
 use Rattle.mgn_book.specs.BookViews.{BookView, Committed, Stands, sets_after}
 use Rattle.mgn_book.specs.declared.book.Outcome.TheVariants.{Done as Settled}
@@ -25,11 +25,10 @@ use Rattle.mgn_world.specs.declared.stages.Stage.TheVariants.{Idle, Held, Looked
 use Rattle.mgn_world.specs.declared.kept.Kept.{Kept}
 use Rattle.mgn_world.specs.Decisions.{IsApplied}
 use Rattle.mgn_world.specs.DeskMoves.{desk_shown}
-use Rattle.mgn_world.specs.Stages.{Gathering, View, shown_nets}
-use Rattle.mgn_world.specs.World.{World, are_covered, are_stale, commits, entered, gathers, is_full, lengthened, no_nets, prepared_more, prepares, stage_at, stepped, unit_nets, with_stage}
+use Rattle.mgn_world.specs.Stages.{Gathering, View}
+use Rattle.mgn_world.specs.World.{World, are_stale, commits, entered, gathers, is_full, lengthened, no_nets, prepared_more, prepares, stage_at, stepped, unit_nets, with_stage}
 use Rattle.mgn_world.specs.Worlds.{IsGathered, IsSeen, IsSound, IsStage, shown}
 use Rattle.mgn_world.proofs.Decided.{not_full}
-use Rattle.mgn_world.proofs.Looking.{four_are}
 
 -- Applied calls
 
@@ -50,23 +49,17 @@ stale_is w p k l stages is room stale put =
 
 -- Gather
 
-rows_nets : (t : Tables) (b : BookState) → IsKept t b → map (λ (row : Row). shown_nets (copied row)) b.rows ≡ map (unit_nets t b.state.accounts) (range_with_len 0 b.state.units)
+rows_nets : (t : Tables) (b : BookState) → IsKept t b → map nets_in b.rows ≡ map (unit_nets t b.state.accounts) (range_with_len 0 b.state.units)
 rows_nets t b kept =
-    ext_get_or none (map copy b.rows) (map (unit_nets t b.state.accounts) (range_with_len 0 b.state.units))
-    (length-map b.rows copy ∙ sym kept.units ∙ sym (length-map-range_with_len (unit_nets t b.state.accounts) 0 b.state.units))
-    (λ i inside. let less : i < length b.rows = omega (arith, inside, length-map b.rows copy) in
-    get_or-map copy b.rows i (no_row t) none less
-    ∙ ap copy (kept.rows i (no_row t) less).is
-    ∙ sym (get_or-map-range_with_len (unit_nets t b.state.accounts) 0 b.state.units i i none (omega (arith, less, kept.units)) (omega arith)))
-  where
-    copy : Row → FourNets
-    copy row = shown_nets (copied row)
-
-    none : FourNets
-    none = record { lots = []; buys = []; sales = []; all = [] }
+    ext_get_or no_nets (map nets_in b.rows) (map (unit_nets t b.state.accounts) (range_with_len 0 b.state.units))
+    (length-map b.rows nets_in ∙ sym kept.units ∙ sym (length-map-range_with_len (unit_nets t b.state.accounts) 0 b.state.units))
+    (λ i inside. let less : i < length b.rows = omega (arith, inside, length-map b.rows nets_in) in
+    get_or-map nets_in b.rows i (no_row t) no_nets less
+    ∙ ap nets_in (kept.rows i (no_row t) less).is
+    ∙ sym (get_or-map-range_with_len (unit_nets t b.state.accounts) 0 b.state.units i i no_nets (omega (arith, less, kept.units)) (omega arith)))
 
 pub gathers_is : (w : Kept) (p : ℕ) (t : Tables) (version : ℕ) (g : Gathering) (stages : List Stage) → IsSound w → stage_at (shown w) p ≡ Idle → version ≡ w.book.book.state.version
-    → g ≡ record { set = t; version = version; nets = map (λ (row : Row). shown_nets (copied row)) w.book.book.rows; prepared = replicate (length w.book.book.rows) false } → stages ≡ slice_set w.stages.items p (Gathered g)
+    → g ≡ record { set = t; version = version; nets = map nets_in w.book.book.rows; prepared = replicate (length w.book.book.rows) false } → stages ≡ slice_set w.stages.items p (Gathered g)
     → record (shown w) { stages = stages } ≡ gathers (shown w) p t (stage_at (shown w) p)
 gathers_is w p t version g stages sound is now gathered put =
     (λ j. record (shown w) { stages = put j })
@@ -84,12 +77,12 @@ gathers_not w p t x (Failed k l again) is other = refl
 gathers_not w p t x (Ended k) is other = refl
 gathers_not w p t x (Gathered g) is other = refl
 
-pub gathered_sound : (w : Kept) (t : Tables) (version : ℕ) (g : Gathering) → IsSound w → version ≡ w.book.book.state.version → g ≡ record { set = t; version = version; nets = map (λ (row : Row). shown_nets (copied row)) w.book.book.rows; prepared = replicate (length w.book.book.rows) false } → IsGathered w.shelf g
-gathered_sound w t version g sound now gathered = subst (IsGathered w.shelf) (sym (gathered ∙ (λ j. record { set = t; version = now j; nets = map (λ (row : Row). shown_nets (copied row)) w.book.book.rows; prepared = replicate (length w.book.book.rows) false }))) record {
+pub gathered_sound : (w : Kept) (t : Tables) (version : ℕ) (g : Gathering) → IsSound w → version ≡ w.book.book.state.version → g ≡ record { set = t; version = version; nets = map nets_in w.book.book.rows; prepared = replicate (length w.book.book.rows) false } → IsGathered w.shelf g
+gathered_sound w t version g sound now gathered = subst (IsGathered w.shelf) (sym (gathered ∙ (λ j. record { set = t; version = now j; nets = map nets_in w.book.book.rows; prepared = replicate (length w.book.book.rows) false }))) record {
   inside = omega (arith, sound.book.shown);
-  nets = λ i d inside. let less : i < length w.book.book.rows = omega (arith, inside, length-map w.book.book.rows (λ (row : Row). shown_nets (copied row))) in
+  nets = λ i d inside. let less : i < length w.book.book.rows = omega (arith, inside, length-map w.book.book.rows nets_in) in
       let u = set_at w.shelf w.book.book.state.version in
-      subst (AreFourNets u) (sym (get_or-map (λ (row : Row). shown_nets (copied row)) w.book.book.rows i (no_row u) d less)) (four_are u _ (sound.book.kept.rows i (no_row u) less).limits);
+      subst (AreUnitNets u) (sym (get_or-map nets_in w.book.book.rows i (no_row u) d less)) (row-nets u _ (sound.book.kept.rows i (no_row u) less).limits);
 }
 
 -- Prepare
@@ -99,7 +92,7 @@ prepares_is w p u g now stages is more put =
     (λ j. record w { stages = put j }) ∙ (λ j. with_stage w p (Gathered (more j))) ∙ ap (prepares w p u) (sym is)
 
 pub prepared_sound : (sets : List Tables) (t : Tables) (u : ℕ) (g : Gathering) → IsGathered sets g → IsGathered sets (prepared_more t u g)
-prepared_sound sets t u g is = by (nat_lt u (length g.nets) && are_covered t g.set (slice_index_or g.nets u no_nets))
+prepared_sound sets t u g is = by (nat_lt u (length g.nets) && is_unit_covered t g.set (slice_index_or g.nets u no_nets))
   where
     by : (b : Bool) → IsGathered sets (if b then record g { prepared = slice_set g.prepared u true } else g)
     by true = record { inside = is.inside; nets = is.nets }

@@ -6,13 +6,11 @@ use Rattle.mgn_params.specs.Limits.{IsWithinLimits}
 use Rattle.mgn_params.specs.Shelves.{set_at}
 use Rattle.mgn_params.specs.Tables.{Tables}
 use Rattle.mgn_desk.specs.Desks.{MarkedNets}
-use Rattle.mgn_desk.specs.Portfolios.{FourNets}
 use Rattle.mgn_machine.specs.declared.command.Command.{Command}
 use Rattle.mgn_machine.specs.Refusals.{IsKnown}
 use Rattle.mgn_machine.specs.State.{AccountState, State}
 use Rattle.mgn_plan.specs.declared.plans.Plan.{Plan}
-use Rattle.mgn_plan.specs.Plans.{UnitNets, plan_of, planned_nets}
-use Rattle.mgn_pricing.specs.Desks.{four}
+use Rattle.mgn_plan.specs.Plans.{plan_of, planned_nets}
 use Rattle.mgn_world.specs.Claims.{HasPlan, IsAmong, IsReplayed, Rests, before_close}
 use Rattle.mgn_world.specs.declared.stages.Call.{Call}
 use Rattle.mgn_world.specs.declared.stages.Stage.{Stage}
@@ -46,12 +44,9 @@ holder (Some q) p = ⊎_elim (λ (e : q ≡ p). inl (ap (λ (n : ℕ). Some n) e
 
 -- Desks.
 
-abbrev nets_of_four : FourNets → UnitNets
-nets_of_four n = record { lots = n.lots; buys = n.buys; sales = n.sales; all = n.all }
-
 -- what a plan makes of the nets is told by the nets alone
 pub planned_same : (plan : Plan) (t t' : Tables) (xs ys : List AccountState) (u : ℕ) → unit_nets t' ys u ≡ unit_nets t xs u → planned plan t' ys u ≡ planned plan t xs u
-planned_same plan t t' xs ys u e = ap (λ (n : FourNets). four (planned_nets plan u (nets_of_four n))) e
+planned_same plan t t' xs ys u e = ap (planned_nets plan u) e
 
 pub rests_kept : (M : ℕ → Type 0) (sets now : List Tables) (xs ys : List AccountState) (u : ℕ) (d : Option MarkedNets) → length sets ≤ length now → ((i : ℕ) → i < length sets → set_at now i ≡ set_at sets i) → M u → Keeps M xs ys → Rests sets xs u d → Rests now ys u d
 rests_kept M sets now xs ys u None long same alone keeps rests = tt

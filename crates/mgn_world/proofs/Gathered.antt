@@ -3,18 +3,15 @@ use Rattle.std.proofs.Common.{◌≡◌, ◌≢◌, ◌<◌, ◌∙◌, arith, a
 use Rattle.std.specs.Prelude.{◌&&◌, if◌then◌else◌, is_some, nat_lt, slice_index_or, slice_set}
 use Rattle.std.proofs.lemmas.Bool.{cases_eq}
 use Rattle.std.proofs.lemmas.Bool.Decides.{nat_tests}
-use Rattle.std.proofs.lemmas.List.{get_or-map, get_or-set_same, get_or-set_other, length-map, length-replicate, length-set, map-set}
-use Rattle.std.proofs.lemmas.Simd.{map-map}
+use Rattle.std.proofs.lemmas.List.{get_or-set_same, get_or-set_other, get_or_default, length-map, length-replicate, length-set, map-set}
 use Rattle.std.proofs.Math.Seq.{take-length}
 use Rattle.mgn_params.specs.Tables.{Tables}
-use Rattle.mgn_desk.specs.Portfolios.{AreFourNets, FourNets}
-use Rattle.mgn_unit.specs.declared.prepared.CopiedNets.{CopiedNets}
-use Rattle.mgn_unit.specs.declared.row.PreparedUnit.{PreparedUnit}
+use Rattle.mgn_nets.specs.Portfolios.{AreUnitNets, UnitNets}
 use Rattle.mgn_unit.specs.declared.row.Row.{Row}
-use Rattle.mgn_unit.specs.NewSets.{IsPrepared}
-use Rattle.mgn_unit.specs.Prepared.{AreCopied, copied}
-use Rattle.mgn_world.specs.Stages.{Gathering, IsGathering, shown_nets}
-use Rattle.mgn_world.specs.World.{are_covered, no_nets, prepared_more}
+use Rattle.mgn_unit.specs.NewSets.{IsPrepared, PreparedUnit, is_unit_covered}
+use Rattle.mgn_unit.specs.Rows.{nets_in}
+use Rattle.mgn_world.specs.Stages.{Gathering, IsGathering}
+use Rattle.mgn_world.specs.World.{no_nets, prepared_more}
 
 -- Gather
 
@@ -29,20 +26,17 @@ nothing (suc n) (suc u) = nothing n u
 is_none : (n u : ℕ) (prepared : List (Option PreparedUnit)) (one : PreparedUnit) → prepared ≡ replicate n no_unit → slice_index_or prepared u None ≡ Some one → ⊥
 is_none n u prepared one none is = let e : slice_index_or prepared u None ≡ no_unit = ap (λ (xs : List (Option PreparedUnit)). slice_index_or xs u None) none ∙ nothing n u in cc
 
-abbrev IsAllCopied : List Row → ℕ → List CopiedNets → Type 0
-IsAllCopied rows i nets = nets ≡ map copied (take i rows)
+abbrev IsAllCopied : List Row → ℕ → List UnitNets → Type 0
+IsAllCopied rows i nets = nets ≡ map nets_in (take i rows)
 
-all_rows : (rows : List Row) (i : ℕ) (nets : List CopiedNets) → i ≡ length rows → IsAllCopied rows i nets → nets ≡ map copied rows
-all_rows rows i nets n copies = copies ∙ ap (λ (k : ℕ). map copied (take k rows)) n ∙ ap (map copied) (take-length rows)
+pub all_copied : (rows : List Row) (i : ℕ) (nets : List UnitNets) → i ≡ length rows → IsAllCopied rows i nets → nets ≡ map nets_in rows
+all_copied rows i nets n copies = copies ∙ ap (λ (k : ℕ). map nets_in (take k rows)) n ∙ ap (map nets_in) (take-length rows)
 
-pub none_prepared : (t : Tables) (rows : List Row) (i : ℕ) (nets : List CopiedNets) (prepared : List (Option PreparedUnit)) → i ≡ length rows → IsAllCopied rows i nets → prepared ≡ replicate i None → IsGathering t nets prepared
+pub none_prepared : (t : Tables) (rows : List Row) (i : ℕ) (nets : List UnitNets) (prepared : List (Option PreparedUnit)) → i ≡ length rows → IsAllCopied rows i nets → prepared ≡ replicate i None → IsGathering t nets prepared
 none_prepared t rows i nets prepared n copies none = record {
   prepared_are = λ u one is. absurd (is_none i u prepared one none is);
-  long = ap (λ (xs : List (Option PreparedUnit)). length xs) none ∙ length-replicate i no_unit ∙ n ∙ sym (ap (λ (xs : List CopiedNets). length xs) (all_rows rows i nets n copies) ∙ length-map rows copied);
+  long = ap (λ (xs : List (Option PreparedUnit)). length xs) none ∙ length-replicate i no_unit ∙ n ∙ sym (ap (λ (xs : List UnitNets). length xs) (all_copied rows i nets n copies) ∙ length-map rows nets_in);
 }
-
-pub all_copied : (rows : List Row) (i : ℕ) (nets : List CopiedNets) → i ≡ length rows → IsAllCopied rows i nets → map shown_nets nets ≡ map (λ (row : Row). shown_nets (copied row)) rows
-all_copied rows i nets n copies = ap (map shown_nets) (all_rows rows i nets n copies) ∙ map-map shown_nets copied rows
 
 flags : (n : ℕ) → map is_some (replicate n no_unit) ≡ replicate n false
 flags zero = refl
@@ -53,17 +47,7 @@ not_prepared m i prepared n none = ap (map is_some) (none ∙ ap (λ (k : ℕ). 
 
 -- Prepare
 
-pub copied_at : (old : Tables) (nets : List CopiedNets) (u : ℕ) (d : CopiedNets) → u < length nets → All (AreFourNets old) (map shown_nets nets) → AreCopied old (slice_index_or nets u d)
-copied_at old nets u d inside all =
-    let are = subst (AreFourNets old) (get_or-map shown_nets nets u d no_nets inside) (all u no_nets (omega (arith, inside, length-map nets shown_nets))) in
-    record {
-      lots = record { one_each = are.lots.one_each; small = are.lots.small };
-      buys = record { one_each = are.buys.one_each; small = are.buys.small };
-      sales = record { one_each = are.sales.one_each; small = are.sales.small };
-      all = record { one_each = are.all.one_each; small = are.all.small };
-    }
-
-pub one_more : (t : Tables) (nets : List CopiedNets) (prepared : List (Option PreparedUnit)) (u : ℕ) (one : PreparedUnit) → IsGathering t nets prepared → IsPrepared t one → u < length nets → IsGathering t nets (slice_set prepared u (Some one))
+pub one_more : (t : Tables) (nets : List UnitNets) (prepared : List (Option PreparedUnit)) (u : ℕ) (one : PreparedUnit) → IsGathering t nets prepared → IsPrepared t one → u < length nets → IsGathering t nets (slice_set prepared u (Some one))
 one_more t nets prepared u one is new inside = record {
   prepared_are = λ v other at. ⊎_elim
       (λ (e : v ≡ u). let x : Some other ≡ Some one = sym at ∙ ap (λ (i : ℕ). slice_index_or (slice_set prepared u (Some one)) i None) e ∙ get_or-set_same prepared u (Some one) None (omega (arith, inside, is.long)) in
@@ -73,23 +57,24 @@ one_more t nets prepared u one is new inside = record {
   long = length-set prepared u (Some one) ∙ is.long;
 }
 
-pub prepared_is : (old t : Tables) (version u : ℕ) (nets : List CopiedNets) (prepared : List (Option PreparedUnit)) (d : CopiedNets) (one : PreparedUnit) → true ≡ nat_lt u (length nets) → u < length nets → true ≡ are_covered old t (shown_nets (slice_index_or nets u d))
-    → record { set = t; version = version; nets = map shown_nets nets; prepared = map is_some (slice_set prepared u (Some one)) } ≡ prepared_more old u record { set = t; version = version; nets = map shown_nets nets; prepared = map is_some prepared }
+pub prepared_is : (old t : Tables) (version u : ℕ) (nets : List UnitNets) (prepared : List (Option PreparedUnit)) (d : UnitNets) (one : PreparedUnit) → true ≡ nat_lt u (length nets) → u < length nets → true ≡ is_unit_covered old t (slice_index_or nets u d)
+    → record { set = t; version = version; nets = nets; prepared = map is_some (slice_set prepared u (Some one)) } ≡ prepared_more old u record { set = t; version = version; nets = nets; prepared = map is_some prepared }
 prepared_is old t version u nets prepared d one there inside covered =
-    (λ j. record { set = t; version = version; nets = map shown_nets nets; prepared = map-set is_some prepared u (Some one) j })
+    (λ j. record { set = t; version = version; nets = nets; prepared = map-set is_some prepared u (Some one) j })
     ∙ sym (ap (λ (b : Bool). if b then more else same) both)
   where
     same : Gathering
-    same = record { set = t; version = version; nets = map shown_nets nets; prepared = map is_some prepared }
+    same = record { set = t; version = version; nets = nets; prepared = map is_some prepared }
 
     more : Gathering
-    more = record { set = t; version = version; nets = map shown_nets nets; prepared = slice_set (map is_some prepared) u true }
+    more = record { set = t; version = version; nets = nets; prepared = slice_set (map is_some prepared) u true }
 
-    both : (nat_lt u (length (map shown_nets nets)) && are_covered old t (slice_index_or (map shown_nets nets) u no_nets)) ≡ true
-    both = λ j. (ap (nat_lt u) (length-map nets shown_nets) ∙ sym there) j && (ap (are_covered old t) (get_or-map shown_nets nets u d no_nets inside) ∙ sym covered) j
+    both : (nat_lt u (length nets) && is_unit_covered old t (slice_index_or nets u no_nets)) ≡ true
+    both = λ j. sym there j && (ap (is_unit_covered old t) (get_or_default nets u no_nets d inside) ∙ sym covered) j
 
 -- the nets of a unit, as the code reads them
-pub copied_of : (old : Tables) (read nets : List CopiedNets) (u : ℕ) (x : CopiedNets) (shown : List FourNets) → true ≡ nat_lt u (length read) → x ≡ slice_index_or read u x → read ≡ nets → map shown_nets nets ≡ shown → All (AreFourNets old) shown → AreCopied old x
-copied_of old read nets u x shown there is same view all =
+pub copied_of : (old : Tables) (read shown : List UnitNets) (u : ℕ) (x : UnitNets) → true ≡ nat_lt u (length read) → x ≡ slice_index_or read u x → read ≡ shown → All (AreUnitNets old) shown → AreUnitNets old x
+copied_of old read shown u x there is same all =
     let inside : u < length read = grind (arith, nat_tests) in
-    subst (AreCopied old) (sym is) (copied_at old read u x inside (subst (All (AreFourNets old)) (sym view ∙ ap (λ (xs : List CopiedNets). map shown_nets xs) (sym same)) all))
+    let each : All (AreUnitNets old) read = subst (All (AreUnitNets old)) (sym same) all in
+    subst (AreUnitNets old) (sym is) (each u x inside)

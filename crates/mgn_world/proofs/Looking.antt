@@ -4,12 +4,12 @@ use Rattle.std.specs.Prelude.{if◌then◌else◌, nat_lt, slice_index_or, slice
 use Rattle.std.specs.List.{slice_get}
 use Rattle.mgn_params.specs.Shelves.{set_at}
 use Rattle.mgn_params.specs.Tables.{Tables}
-use Rattle.mgn_desk.specs.Portfolios.{AreFourNets}
+use Rattle.mgn_nets.specs.Portfolios.{AreUnitNets}
 use Rattle.mgn_machine.specs.declared.command.Command.{Command}
 use Rattle.mgn_machine.specs.State.{AccountState, State}
 use Rattle.mgn_unit.specs.declared.row.Row.{Row}
-use Rattle.mgn_unit.specs.Prepared.{copied}
-use Rattle.mgn_unit.specs.Rows.{IsRow, no_row}
+use Rattle.mgn_unit.specs.Rows.{nets_in, no_row}
+use Rattle.mgn_unit.proofs.RowNets.{row-nets}
 use Rattle.mgn_register.specs.BookStates.{BookState, IsKept}
 use Rattle.mgn_plan.specs.declared.plans.Plan.{Plan}
 use Rattle.mgn_plan.specs.declared.plans.Plan.TheVariants.{Nothing, One, Two}
@@ -20,7 +20,7 @@ use Rattle.mgn_world.specs.Claims.{IsAmong}
 use Rattle.mgn_world.specs.declared.stages.Call.{Call}
 use Rattle.mgn_world.specs.declared.stages.Stage.{Stage}
 use Rattle.mgn_world.specs.declared.stages.Stage.TheVariants.{Held, Looked}
-use Rattle.mgn_world.specs.Stages.{Seen, shown_nets}
+use Rattle.mgn_world.specs.declared.stages.Seen.{Seen}
 use Rattle.mgn_world.specs.World.{World, in_force, look_on, looks, plan_units, seen_at, stage_at, unit_nets, units_of}
 use Rattle.mgn_world.specs.Worlds.{CanFollow, CanFollowPlan, IsSeen, nets_seen, row_nets, seen_in}
 use Rattle.mgn_world.proofs.Desks.{in_two}
@@ -72,7 +72,7 @@ pub seen_row : (t : Tables) (b : BookState) (u : ℕ) → IsKept t b → u < len
 seen_row t b u kept inside =
     let row = slice_index_or b.rows u (no_row t) in
     (λ j. record { unit = u; nets = row_nets (slice_get_is b.rows u (no_row t) inside j) })
-    ∙ (λ j. record { unit = u; nets = shown_nets (copied ((kept.rows u (no_row t) inside).is j)) })
+    ∙ (λ j. record { unit = u; nets = nets_in ((kept.rows u (no_row t) inside).is j) })
 
 all_rows : (t : Tables) (b : BookState) (us : List ℕ) → IsKept t b → ((u : ℕ) → IsAmong u us → u < length b.rows) → map (seen_in b.rows) us ≡ map (seen_at t b.state.accounts) us
 all_rows t b [] kept inside = refl
@@ -101,19 +101,11 @@ seen_all t b plan kept can = all_rows t b (plan_units plan) kept (λ x h. plan_i
 
 -- What was looked at is within the limits.
 
-pub four_are : (t : Tables) (row : Row) → IsRow t row → AreFourNets t (shown_nets (copied row))
-four_are t row is = record {
-  lots = record { one_each = is.lots.one_each; small = is.lots.nets };
-  buys = record { one_each = is.buys.one_each; small = is.buys.nets };
-  sales = record { one_each = is.sales.one_each; small = is.sales.nets };
-  all = record { one_each = is.all.one_each; small = is.all.nets };
-}
-
 follow_of : (t : Tables) (b : BookState) (u : UnitChange) → IsKept t b → CanChange t b.rows u → CanFollow t u.change (unit_nets t b.state.accounts u.unit)
 follow_of t b u kept can =
     let row = row_at t b.rows u.unit in
     let is = can.row in
-    subst (λ (r : Row). CanFollow t u.change (shown_nets (copied r))) ((kept.rows u.unit (no_row t) can.inside).is) record {
+    subst (λ (r : Row). CanFollow t u.change (nets_in r)) ((kept.rows u.unit (no_row t) can.inside).is) record {
       contract = can.change.contract;
       moved = record {
         lots = net-moved row.lots.nets u.change.contract u.change.lots.quantity (omega (arith, is.lots.one_each, can.change.contract)) can.roomy.lots;
@@ -133,8 +125,8 @@ pub seen_sound : (sets : List Tables) (units : ℕ) (b : BookState) (plan : Plan
 seen_sound sets units b plan seen shown long kept can saw = record {
   inside = omega (arith, shown);
   there = subst (All (λ (x : Seen). x.unit < units)) (sym saw) (all_seen (λ (x : Seen). x.unit < units) t b.state.accounts (plan_units plan) (λ u h. let less = plan_inside t b.rows plan u can h in omega (arith, less, long)));
-  nets = subst (All (λ (x : Seen). AreFourNets t x.nets)) (sym saw) (all_seen (λ (x : Seen). AreFourNets t x.nets) t b.state.accounts (plan_units plan)
-      (λ u h. let kr = kept.rows u (no_row t) (plan_inside t b.rows plan u can h) in subst (λ (r : Row). AreFourNets t (shown_nets (copied r))) kr.is (four_are t _ kr.limits)));
+  nets = subst (All (λ (x : Seen). AreUnitNets t x.nets)) (sym saw) (all_seen (λ (x : Seen). AreUnitNets t x.nets) t b.state.accounts (plan_units plan)
+      (λ u h. let kr = kept.rows u (no_row t) (plan_inside t b.rows plan u can h) in subst (λ (r : Row). AreUnitNets t (nets_in r)) kr.is (row-nets t _ kr.limits)));
   plan = by plan can saw;
 }
   where

@@ -1,5 +1,5 @@
 -- The world after one step more.
-use Rattle.std.proofs.Common.{◌≡◌, ◌<◌, ◌∙◌, ◌++◌, ℕ, suc, Bool, true, List, [], ◌∷◌, length, sym, ap, refl, arith}
+use Rattle.std.proofs.Common.{◌≡◌, ◌<◌, ◌∙◌, ◌++◌, ℕ, suc, ◌≤◌, Bool, false, true, List, [], ◌∷◌, length, sym, ap, refl, arith}
 use Rattle.std.specs.Prelude.{if◌then◌else◌, nat_lt}
 use Rattle.std.proofs.lemmas.Bool.Decides.{nat_tests}
 use Rattle.mgn_world.specs.Claims.{AreLimited, IsLimited, IsReached}
@@ -29,6 +29,12 @@ pub stepped_as : (w v : World) (e : Step) (p : ℕ) (d : Deed) → e.session ≡
 stepped_as w v e p d session deed inside is =
     let there : nat_lt p (length w.stages) ≡ true = grind (arith, nat_tests) in
     is ∙ sym (ap (λ (b : Bool). if b then does w p d else w) there) ∙ sym (λ j. does_as w (session j) (deed j))
+
+-- a step of a session that is not there
+pub stays_out : (w : World) (e : Step) (p : ℕ) → e.session ≡ suc p → length w.stages ≤ p → w ≡ next w e
+stays_out w e p session outside =
+    let none : nat_lt p (length w.stages) ≡ false = grind (arith, nat_tests) in
+    sym (ap (λ (b : Bool). if b then does w p e.deed else w) none) ∙ sym (λ j. does_as w (session j) e.deed)
 
 pub none_left : (es : List Step) → length es ≡ 0 → es ≡ []
 none_left [] e = refl

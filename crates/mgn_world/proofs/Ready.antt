@@ -4,22 +4,24 @@ use Rattle.std.specs.Prelude.{if◌then◌else◌, nat_lt}
 use Rattle.std.proofs.lemmas.Bool.{cases_eq, eq-eqb}
 use Rattle.mgn_params.specs.Shelves.{set_at}
 use Rattle.mgn_params.specs.Tables.{Tables}
+use Rattle.mgn_nets.specs.Portfolios.{AreUnitNets, UnitNets}
 use Rattle.mgn_desk.specs.Desks.{MarkedNets}
-use Rattle.mgn_desk.specs.Portfolios.{AreFourNets, FourNets, moved_by, opposite}
+use Rattle.mgn_desk.specs.Portfolios.{moved_by, opposite}
 use Rattle.mgn_machine.specs.State.{AccountState}
 use Rattle.mgn_unit.specs.declared.change.Change.{Change}
-use Rattle.mgn_unit.specs.Rows.{row_of}
+use Rattle.mgn_unit.specs.Rows.{nets_in, row_of}
 use Rattle.mgn_plan.specs.declared.plans.Plan.{Plan}
 use Rattle.mgn_plan.specs.declared.plans.Plan.TheVariants.{Nothing, One, Two}
 use Rattle.mgn_plan.specs.declared.plans.UnitChange.{UnitChange}
-use Rattle.mgn_plan.specs.Plans.{UnitNets, moved_nets, nets_by, nets_in, planned_nets}
-use Rattle.mgn_pricing.specs.Desks.{four, moves_of}
+use Rattle.mgn_plan.specs.Plans.{moved_nets, nets_by, planned_nets}
+use Rattle.mgn_pricing.specs.Desks.{moves_of}
 use Rattle.mgn_pricing.proofs.Moved.{net-back}
 use Rattle.mgn_world.specs.Claims.{HasPlan, IsAmong}
 use Rattle.mgn_world.specs.declared.stages.Call.{Call}
 use Rattle.mgn_world.specs.declared.stages.Stage.TheVariants.{Looked, Failed}
 use Rattle.mgn_world.specs.DeskMoves.{AreReadyFor, CanGiveBack, IsReadyFor}
-use Rattle.mgn_world.specs.Stages.{Seen, View}
+use Rattle.mgn_world.specs.Stages.{View}
+use Rattle.mgn_world.specs.declared.stages.Seen.{Seen}
 use Rattle.mgn_world.specs.Standing.{Good}
 use Rattle.mgn_world.specs.World.{World, are_of, desk_at, plan_units, planned, seen_at, stage_at, unit_nets}
 use Rattle.mgn_world.specs.Worlds.{CanFollow, CanFollowPlan, IsSeen, nets_seen}
@@ -54,7 +56,7 @@ ready_at w p k l u good is of among =
     (seen_of l.version w.desks t w.state.accounts (plan_units l.plan) u (sym (ap (are_of l.version w.desks) ok.1.seen) ∙ of) among)
     (held_desk w p u (Looked k l) good is (plan_held w p u k l ok.0 ok.1 among))
 
-can_take : (t : Tables) (version : ℕ) (change : Change) (nets : FourNets) (d : Option MarkedNets) → d ≡ Some record { version = version; nets = nets } → CanFollow t change nets → IsReadyFor t version (moves_of change) d
+can_take : (t : Tables) (version : ℕ) (change : Change) (nets : UnitNets) (d : Option MarkedNets) → d ≡ Some record { version = version; nets = nets } → CanFollow t change nets → IsReadyFor t version (moves_of change) d
 can_take t version change nets d e follow = subst (IsReadyFor t version (moves_of change)) (sym e) record { under = refl; contract = follow.contract; moved = follow.moved }
 
 pub apply_ready : (w : World) (p units : ℕ) (k : Call) (l : View) → Good w → stage_at w p ≡ Looked k l → IsSeen w.sets units l → are_of l.version w.desks l.seen ≡ true → AreReadyFor (set_at w.sets l.version) l.version l.plan w.desks
@@ -81,7 +83,7 @@ apply_ready w p units k l good is seen of = by l.plan refl seen.plan
 
 -- Back
 
-can_give : (t : Tables) (version : ℕ) (change : Change) (nets : FourNets) (d : Option MarkedNets) → d ≡ Some record { version = version; nets = moved_by (moves_of change) nets } → AreFourNets t nets → change.contract < length t.contracts → IsReadyFor t version (opposite (moves_of change)) d
+can_give : (t : Tables) (version : ℕ) (change : Change) (nets : UnitNets) (d : Option MarkedNets) → d ≡ Some record { version = version; nets = moved_by (moves_of change) nets } → AreUnitNets t nets → change.contract < length t.contracts → IsReadyFor t version (opposite (moves_of change)) d
 can_give t version change nets d e are inside = subst (IsReadyFor t version (opposite (moves_of change))) (sym e) record {
   under = refl;
   contract = inside;
@@ -99,7 +101,7 @@ own_nets u nets = ap (λ (b : Bool). if b then moved_nets u.change nets else net
 pub other_nets : (u : UnitChange) (x : ℕ) (nets : UnitNets) → u.unit ≢ x → nets_by u x nets ≡ nets
 other_nets u x nets n = ap (λ (b : Bool). if b then moved_nets u.change nets else nets) (ne_eqb u.unit x n)
 
-pub has_nets : (sets : List Tables) (accounts : List AccountState) (l : View) (u : ℕ) (d : Option MarkedNets) (nets : FourNets) → HasPlan sets accounts l u d → planned l.plan (set_at sets l.version) accounts u ≡ nets → d ≡ Some record { version = l.version; nets = nets }
+pub has_nets : (sets : List Tables) (accounts : List AccountState) (l : View) (u : ℕ) (d : Option MarkedNets) (nets : UnitNets) → HasPlan sets accounts l u d → planned l.plan (set_at sets l.version) accounts u ≡ nets → d ≡ Some record { version = l.version; nets = nets }
 has_nets sets accounts l u None nets h e = absurd h
 has_nets sets accounts l u (Some m) nets h e = λ j. Some record { version = h.0 j; nets = (h.1 ∙ e) j }
 
@@ -112,15 +114,15 @@ back_ready w p units k l again good is seen = by l.plan refl seen.plan
     row_nets : ℕ → UnitNets
     row_nets u = nets_in (row_of t w.state.accounts u)
 
-    are : (u : ℕ) → IsAmong u (plan_units l.plan) → AreFourNets t (unit_nets t w.state.accounts u)
+    are : (u : ℕ) → IsAmong u (plan_units l.plan) → AreUnitNets t (unit_nets t w.state.accounts u)
     are u among =
         let ok = session w p (Failed k l again) good is in
-        all_of_seen (λ (x : Seen). AreFourNets t x.nets) t w.state.accounts (plan_units l.plan) u among (subst (All (λ (x : Seen). AreFourNets t x.nets)) ok.1.seen seen.nets)
+        all_of_seen (λ (x : Seen). AreUnitNets t x.nets) t w.state.accounts (plan_units l.plan) u among (subst (All (λ (x : Seen). AreUnitNets t x.nets)) ok.1.seen seen.nets)
 
     one : (u : UnitChange) → IsAmong u.unit (plan_units l.plan) → planned_nets l.plan u.unit (row_nets u.unit) ≡ moved_nets u.change (row_nets u.unit) → CanFollow t u.change (nets_seen l.seen u.unit) → IsReadyFor t l.version (opposite (moves_of u.change)) (desk_at w u.unit)
     one u among nets follow =
         can_give t l.version u.change (unit_nets t w.state.accounts u.unit) (desk_at w u.unit)
-        (has_nets w.sets w.state.accounts l u.unit (desk_at w u.unit) (moved_by (moves_of u.change) (unit_nets t w.state.accounts u.unit)) (failed_plan w p u.unit k l again good is among) (ap four nets))
+        (has_nets w.sets w.state.accounts l u.unit (desk_at w u.unit) (moved_by (moves_of u.change) (unit_nets t w.state.accounts u.unit)) (failed_plan w p u.unit k l again good is among) nets)
         (are u.unit among) follow.contract
 
     by : (plan : Plan) → l.plan ≡ plan → CanFollowPlan t l.seen plan → CanGiveBack t l.version plan w.desks

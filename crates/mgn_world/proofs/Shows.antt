@@ -6,7 +6,7 @@ use Rattle.mgn_params.specs.Tables.{Tables}
 use Rattle.mgn_desk.specs.declared.moves.Moves.{Moves}
 use Rattle.mgn_params.specs.Shelves.{set_at}
 use Rattle.mgn_desk.specs.declared.desk.Marked.{Marked}
-use Rattle.mgn_desk.specs.declared.moves.Requirements.{Requirements}
+use Rattle.mgn_unit.specs.Rows.{Priced}
 use Rattle.mgn_desk.specs.Desks.{DeskRows, IsMarkedBy, MarkedNets, Requires, marked_nets, version_of}
 use Rattle.std.specs.Prelude.{All, replicate}
 use Rattle.std.proofs.lemmas.List.Elements.{All-replicate}
@@ -42,11 +42,11 @@ pub sixteen_idle : (sets : List Tables) (units n : ℕ) → All (IsStage sets un
 sixteen_idle sets units n = All-replicate (IsStage sets units) n Idle tt
 
 -- what is kept of a desk that is right requires what its nets do
-marked_required : (sets : List Tables) (m : Option Marked) (r : Requirements) (version : ℕ) → IsRightIn sets m → ((set : Tables) → IsMarkedBy set m → Requires set m r) → version_of m ≡ Some version → Some r ≡ required sets (marked_nets m)
+marked_required : (sets : List Tables) (m : Option Marked) (r : Priced) (version : ℕ) → IsRightIn sets m → ((set : Tables) → IsMarkedBy set m → Requires set m r) → version_of m ≡ Some version → Some r ≡ required sets (marked_nets m)
 marked_required sets None r version right requires e = cc
-marked_required sets (Some m) r version right requires e = ap (λ (x : Requirements). Some x) (requires (set_at sets m.version) right.1)
+marked_required sets (Some m) r version right requires e = ap (λ (x : Priced). Some x) (requires (set_at sets m.version) right.1)
 
-pub required_is : (sets : List Tables) (desks : List DeskRows) (u : ℕ) (d : DeskRows) (r : Requirements) (version : ℕ) → u < length desks → d ≡ slice_index_or desks u d → All (λ (x : DeskRows). IsRightIn sets x.marked) desks → ((set : Tables) → IsMarkedBy set d.marked → Requires set d.marked r) → version_of d.marked ≡ Some version
+pub required_is : (sets : List Tables) (desks : List DeskRows) (u : ℕ) (d : DeskRows) (r : Priced) (version : ℕ) → u < length desks → d ≡ slice_index_or desks u d → All (λ (x : DeskRows). IsRightIn sets x.marked) desks → ((set : Tables) → IsMarkedBy set d.marked → Requires set d.marked r) → version_of d.marked ≡ Some version
     → Some r ≡ required sets (slice_index_or (map desk_shown desks) u None)
 required_is sets desks u d r version inside is right requires e =
     marked_required sets d.marked r version (subst (λ (x : DeskRows). IsRightIn sets x.marked) (sym is) (right u d inside)) requires e

@@ -6,8 +6,9 @@ use Rattle.std.proofs.lemmas.List.{append-nil, length-set, append_assoc, get_or_
 use Rattle.std.proofs.lemmas.List.Elements.{All-append, All-set}
 use Rattle.mgn_params.specs.Shelves.{set_at}
 use Rattle.mgn_params.specs.Tables.{Tables, no_tables}
+use Rattle.mgn_nets.specs.Portfolios.{AreUnitNets}
 use Rattle.mgn_desk.specs.declared.desk.Marked.{Marked}
-use Rattle.mgn_desk.specs.Portfolios.{AreFourNets, ArePortfolios}
+use Rattle.mgn_desk.specs.Portfolios.{ArePortfolios}
 use Rattle.mgn_machine.specs.declared.reply.Reply.{Reply}
 use Rattle.mgn_machine.specs.declared.reply.Reply.TheVariants.{Done as Settled, Figures, NewSet, Refused, Statement, Totals}
 use Rattle.mgn_machine.specs.declared.request.Request.TheVariants.{Switch}
@@ -19,7 +20,8 @@ use Rattle.mgn_world.specs.declared.stages.Call.{Call}
 use Rattle.mgn_world.specs.declared.stages.Stage.{Stage}
 use Rattle.mgn_world.specs.declared.stages.Stage.TheVariants.{Idle, Held, Looked, Applied, Failed, Ended, Gathered}
 use Rattle.mgn_world.specs.DeskMoves.{AreDesks, IsRightIn}
-use Rattle.mgn_world.specs.Stages.{Seen, View}
+use Rattle.mgn_world.specs.Stages.{View}
+use Rattle.mgn_world.specs.declared.stages.Seen.{Seen}
 use Rattle.mgn_world.specs.World.{World, applies, are_of, planned_desks, stage_at}
 use Rattle.mgn_world.specs.Worlds.{CanFollowPlan, IsSeen, IsSound, IsStage}
 
@@ -148,7 +150,7 @@ seen_later sets more n l is =
     record {
       inside = within_more sets more l.version is.inside;
       there = is.there;
-      nets = subst (λ (t : Tables). All (λ (x : Seen). AreFourNets t x.nets) l.seen) same is.nets;
+      nets = subst (λ (t : Tables). All (λ (x : Seen). AreUnitNets t x.nets) l.seen) same is.nets;
       plan = subst (λ (t : Tables). CanFollowPlan t l.seen l.plan) same is.plan;
     }
 
@@ -161,7 +163,7 @@ stage_later sets more n (Failed k l again) is = seen_later sets more n l is
 stage_later sets more n (Ended k) is = tt
 stage_later sets more n (Gathered g) is = record {
   inside = within_more sets more g.version is.inside;
-  nets = subst (λ (t : Tables). All (AreFourNets t) g.nets) (sym (set_before sets more g.version is.inside)) is.nets;
+  nets = subst (λ (t : Tables). All (AreUnitNets t) g.nets) (sym (set_before sets more g.version is.inside)) is.nets;
 }
 
 after_more : (sets : List Tables) (t : Tables) (reply : Reply) → (more : List Tables) × (sets_after sets (Switch t) reply ≡ sets ++ more)

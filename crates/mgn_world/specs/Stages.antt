@@ -1,16 +1,10 @@
 -- What a session knows of its call (own profile).
 use Rattle.std.specs.Prelude.{ℕ, ◌≡◌, Bool, List, Option, length}
 use Rattle.mgn_params.specs.Tables.{Tables}
-use Rattle.mgn_desk.specs.Portfolios.{FourNets}
-use Rattle.mgn_unit.specs.declared.prepared.CopiedNets.{CopiedNets}
-use Rattle.mgn_unit.specs.declared.row.PreparedUnit.{PreparedUnit}
-use Rattle.mgn_unit.specs.NewSets.{ArePrepared}
+use Rattle.mgn_nets.specs.Portfolios.{UnitNets}
+use Rattle.mgn_unit.specs.NewSets.{ArePrepared, PreparedUnit}
 use Rattle.mgn_plan.specs.declared.plans.Plan.{Plan}
-
--- a unit, and the nets of its portfolios as they were looked at
-pub record Seen : Type 0 where
-  pub unit : ℕ
-  pub nets : FourNets
+use Rattle.mgn_world.specs.declared.stages.Seen.{Seen}
 
 -- what a Look took: the version in force, what the command then changes, and the units of this plan, in order of
 -- their numbers
@@ -24,16 +18,12 @@ pub record View : Type 0 where
 pub record Gathering : Type 0 where
   pub set : Tables
   pub version : ℕ
-  pub nets : List FourNets
+  pub nets : List UnitNets
   pub prepared : List Bool
 
 -- Inside.
 
--- copied nets as desks show them
-abbrev pub shown_nets : CopiedNets → FourNets
-shown_nets nets = record { lots = nets.lots; buys = nets.buys; sales = nets.sales; all = nets.all }
-
 -- what was worked out is what the nets require under the set, and it stands in a list as long as that of the nets
-pub record IsGathering (set : Tables) (nets : List CopiedNets) (prepared : List (Option PreparedUnit)) : Type 0 where
+pub record IsGathering (set : Tables) (nets : List UnitNets) (prepared : List (Option PreparedUnit)) : Type 0 where
   pub prepared_are : ArePrepared set prepared
   pub long : length prepared ≡ length nets

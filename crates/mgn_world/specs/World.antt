@@ -6,8 +6,9 @@ use Rattle.std.specs.Prelude.{ℕ, zero, suc, ◌+◌, ◌-◌, ◌==◌, ◌&&�
 use Rattle.std.specs.List.{range_with_len}
 use Rattle.mgn_params.specs.Shelves.{set_at}
 use Rattle.mgn_params.specs.Tables.{Tables}
+use Rattle.mgn_nets.specs.Portfolios.{UnitNets}
 use Rattle.mgn_desk.specs.Desks.{MarkedNets, moved_marked}
-use Rattle.mgn_desk.specs.Portfolios.{FourNets, opposite}
+use Rattle.mgn_desk.specs.Portfolios.{opposite}
 use Rattle.mgn_machine.specs.declared.command.Command.{Command}
 use Rattle.mgn_machine.specs.declared.command.Command.TheVariants as asked
 use Rattle.mgn_machine.specs.declared.entry.Entry.{Entry}
@@ -20,13 +21,13 @@ use Rattle.mgn_machine.specs.History.{calls, entry, recorded}
 use Rattle.mgn_machine.specs.Refusals.{place_of}
 use Rattle.mgn_machine.specs.State.{AccountState, State, account_at, start}
 use Rattle.mgn_machine.specs.Step.{step}
-use Rattle.mgn_unit.specs.NewSets.{is_covered}
-use Rattle.mgn_unit.specs.Rows.{row_of}
+use Rattle.mgn_unit.specs.NewSets.{is_unit_covered}
+use Rattle.mgn_unit.specs.Rows.{nets_in, row_of}
 use Rattle.mgn_plan.specs.declared.plans.Plan.{Plan}
 use Rattle.mgn_plan.specs.declared.plans.Plan.TheVariants.{Nothing, One, Two}
 use Rattle.mgn_plan.specs.declared.plans.UnitChange.{UnitChange}
-use Rattle.mgn_plan.specs.Plans.{nets_in, plan_of, planned_nets}
-use Rattle.mgn_pricing.specs.Desks.{four, moves_of}
+use Rattle.mgn_plan.specs.Plans.{plan_of, planned_nets}
+use Rattle.mgn_pricing.specs.Desks.{moves_of}
 use Rattle.mgn_book.specs.BookViews.{sets_after}
 use Rattle.mgn_world.specs.declared.stages.Call.{Call}
 use Rattle.mgn_world.specs.declared.stages.Deed.{Deed}
@@ -34,7 +35,8 @@ use Rattle.mgn_world.specs.declared.stages.Deed.TheVariants.{Begin, Look, Mark, 
 use Rattle.mgn_world.specs.declared.stages.Stage.{Stage}
 use Rattle.mgn_world.specs.declared.stages.Stage.TheVariants.{Idle, Held, Looked, Applied, Failed, Ended, Gathered}
 use Rattle.mgn_world.specs.declared.stages.Step.{Step}
-use Rattle.mgn_world.specs.Stages.{Gathering, Seen, View}
+use Rattle.mgn_world.specs.Stages.{Gathering, View}
+use Rattle.mgn_world.specs.declared.stages.Seen.{Seen}
 
 -- The sets by version, the machine's state and history; by unit a desk, which is empty or has nets under the set of a
 -- version, and the place of the session that holds it; and the stages of the 16 sessions. A unit has one holder at
@@ -75,8 +77,8 @@ abbrev pub in_force : World → Tables
 in_force w = set_at w.sets w.state.version
 
 -- the nets of a unit's portfolios under a set, worked out from lots and holds alone
-abbrev pub unit_nets : Tables → List AccountState → ℕ → FourNets
-unit_nets set accounts u = four (nets_in (row_of set accounts u))
+abbrev pub unit_nets : Tables → List AccountState → ℕ → UnitNets
+unit_nets set accounts u = nets_in (row_of set accounts u)
 
 -- The units of a command.
 
@@ -243,10 +245,10 @@ are_stale version desks [] = false
 are_stale version desks (x ∷ xs) = is_stale version (slice_index_or desks x.unit None) || are_stale version desks xs
 
 -- the nets of a unit after a plan
-abbrev pub planned : Plan → Tables → List AccountState → ℕ → FourNets
-planned plan set accounts u = four (planned_nets plan u (nets_in (row_of set accounts u)))
+abbrev pub planned : Plan → Tables → List AccountState → ℕ → UnitNets
+planned plan set accounts u = planned_nets plan u (nets_in (row_of set accounts u))
 
-abbrev pub same_nets : FourNets → FourNets → Bool
+abbrev pub same_nets : UnitNets → UnitNets → Bool
 same_nets a b =
     pointwise int_eq a.lots b.lots && pointwise int_eq a.buys b.buys && pointwise int_eq a.sales b.sales
     && pointwise int_eq a.all b.all
@@ -314,18 +316,13 @@ gathers w p set Idle = with_stage w p (Gathered record {
 })
 gathers w p set _ = w
 
-abbrev pub are_covered : Tables → Tables → FourNets → Bool
-are_covered old new nets =
-    is_covered old new nets.lots && is_covered old new nets.buys && is_covered old new nets.sales
-    && is_covered old new nets.all
-
-abbrev pub no_nets : FourNets
+abbrev pub no_nets : UnitNets
 no_nets = record { lots = []; buys = []; sales = []; all = [] }
 
 -- what is gathered, once a unit is worked out
 abbrev pub prepared_more : Tables → ℕ → Gathering → Gathering
 prepared_more old u g =
-    if nat_lt u (length g.nets) && are_covered old g.set (slice_index_or g.nets u no_nets) then
+    if nat_lt u (length g.nets) && is_unit_covered old g.set (slice_index_or g.nets u no_nets) then
     record g { prepared = slice_set g.prepared u true }
     else g
 

@@ -2,13 +2,12 @@
 use Rattle.std.specs.Prelude.{ℕ, ◌≡◌, ◌≢◌, ◌<◌, ◌==◌, All, if◌then◌else◌, Option, None, Some, List, [], ◌∷◌, length, map, slice_get, slice_index_or}
 use Rattle.mgn_params.specs.Shelves.{set_at}
 use Rattle.mgn_params.specs.Tables.{Tables}
-use Rattle.mgn_desk.specs.declared.moves.Requirements.{Requirements}
+use Rattle.mgn_nets.specs.Portfolios.{AreUnitNets, UnitNets}
 use Rattle.mgn_desk.specs.Desks.{MarkedNets}
-use Rattle.mgn_desk.specs.Portfolios.{AreFourNets, CanMove, FourNets, requirements_of}
+use Rattle.mgn_desk.specs.Portfolios.{CanMove, requirements_of}
 use Rattle.mgn_unit.specs.declared.change.Change.{Change}
 use Rattle.mgn_unit.specs.declared.row.Row.{Row}
-use Rattle.mgn_unit.specs.Prepared.{copied}
-use Rattle.mgn_unit.specs.Rows.{row_of}
+use Rattle.mgn_unit.specs.Rows.{Priced, nets_in, row_of}
 use Rattle.mgn_plan.specs.declared.plans.Plan.{Plan}
 use Rattle.mgn_plan.specs.declared.plans.Plan.TheVariants.{Nothing, One, Two}
 use Rattle.mgn_pricing.specs.Desks.{moves_of}
@@ -17,7 +16,8 @@ use Rattle.mgn_world.specs.declared.stages.Stage.{Stage}
 use Rattle.mgn_world.specs.declared.stages.Stage.TheVariants.{Idle, Held, Looked, Applied, Failed, Ended, Gathered}
 use Rattle.mgn_world.specs.declared.kept.Kept.{Kept}
 use Rattle.mgn_world.specs.DeskMoves.{AreDesks, desk_shown}
-use Rattle.mgn_world.specs.Stages.{Gathering, Seen, View, shown_nets}
+use Rattle.mgn_world.specs.Stages.{Gathering, View}
+use Rattle.mgn_world.specs.declared.stages.Seen.{Seen}
 use Rattle.mgn_world.specs.World.{World, in_force, no_nets}
 
 -- the world that is kept, as the definition has it
@@ -37,25 +37,25 @@ pub record AreRows (w : World) (rows : List Row) : Type 0 where
   pub each : (u : ℕ) (row : Row) → u < length rows → slice_index_or rows u row ≡ row_of (in_force w) w.state.accounts u
 
 -- what a desk requires: what its own nets do, under the set of its version
-abbrev pub required : List Tables → Option MarkedNets → Option Requirements
+abbrev pub required : List Tables → Option MarkedNets → Option Priced
 required sets None = None
 required sets (Some m) = Some (requirements_of (set_at sets m.version) m.nets)
 
-abbrev pub row_nets : Option Row → FourNets
+abbrev pub row_nets : Option Row → UnitNets
 row_nets None = no_nets
-row_nets (Some row) = shown_nets (copied row)
+row_nets (Some row) = nets_in row
 
 -- a unit with the nets of its row
 abbrev pub seen_in : List Row → ℕ → Seen
 seen_in rows u = record { unit = u; nets = row_nets (slice_get rows u) }
 
 -- the nets of a unit as they were looked at
-abbrev pub nets_seen : List Seen → ℕ → FourNets
+abbrev pub nets_seen : List Seen → ℕ → UnitNets
 nets_seen [] u = no_nets
 nets_seen (x ∷ xs) u = if x.unit == u then x.nets else nets_seen xs u
 
 -- nets stay within their limits after a change
-pub record CanFollow (set : Tables) (change : Change) (nets : FourNets) : Type 0 where
+pub record CanFollow (set : Tables) (change : Change) (nets : UnitNets) : Type 0 where
   pub contract : change.contract < length set.contracts
   pub moved : CanMove (moves_of change) nets
 
@@ -71,13 +71,13 @@ CanFollowPlan set seen (Two u v) =
 pub record IsSeen (sets : List Tables) (units : ℕ) (l : View) : Type 0 where
   pub inside : l.version < length sets
   pub there : All (λ (x : Seen). x.unit < units) l.seen
-  pub nets : All (λ (x : Seen). AreFourNets (set_at sets l.version) x.nets) l.seen
+  pub nets : All (λ (x : Seen). AreUnitNets (set_at sets l.version) x.nets) l.seen
   pub plan : CanFollowPlan (set_at sets l.version) l.seen l.plan
 
 -- what was gathered: nets within their limits under the set of then
 pub record IsGathered (sets : List Tables) (g : Gathering) : Type 0 where
   pub inside : g.version < length sets
-  pub nets : All (AreFourNets (set_at sets g.version)) g.nets
+  pub nets : All (AreUnitNets (set_at sets g.version)) g.nets
 
 abbrev pub IsStage : List Tables → ℕ → Stage → Type 0
 IsStage sets units Idle = Unit {0}

@@ -1,15 +1,14 @@
 //! What is gathered and prepared for a switch.
 
 ghost use Rattle.std.specs.Prelude.{◌≡◌, false, length, map, replicate, All, IfOk, OnOk};
-ghost use Rattle.mgn_desk.specs.Portfolios.{AreFourNets};
+ghost use Rattle.mgn_nets.specs.Portfolios.{AreUnitNets};
 ghost use Rattle.mgn_unit.specs.NewSets.{ArePrepared};
-ghost use Rattle.mgn_unit.specs.Prepared.{copied};
-ghost use Rattle.mgn_world.specs.Stages.{shown_nets};
+ghost use Rattle.mgn_unit.specs.Rows.{nets_in};
 ghost use Rattle.mgn_world.specs.World.{prepared_more};
 
 use crate::stages::Gathering;
 use mgn_params::{ParamSet, Version, Work};
-use mgn_unit::{PreparedUnit, Row, Switch};
+use mgn_unit::{PreparedUnit, Row, Switch, is_unit_covered};
 use std::alloc::{AllocError, Global};
 
 impl Gathering {
@@ -23,7 +22,7 @@ impl Gathering {
         ensures { IfOk result (λ g. g ≡ record {
           set = set;
           version = version;
-          nets = map (λ row. shown_nets (copied row)) rows.now;
+          nets = map nets_in rows.now;
           prepared = replicate (length rows.now) false;
         }) }
     {
@@ -49,17 +48,17 @@ impl Gathering {
         old: &ParamSet,
         unit: usize,
     ) -> Result<(), AllocError>
-        requires nets { All (AreFourNets old.now) self.old.nets }
+        requires nets { All (AreUnitNets old.now) self.old.nets }
         ensures { OnOk result (self.new ≡ prepared_more old.now unit self.old) }
     {
         let Some(nets) = self.nets.get(unit) else {
             return Ok(());
         };
-        if !nets.are_covered_by(old, &self.set) {
+        if !is_unit_covered(nets, old, &self.set) {
             return Ok(());
         }
         let switch = Switch::new(alloc, old, &self.set)?;
-        let prepared = nets.prepare(alloc, &switch, &mut Work::new())?;
+        let prepared = switch.prepare(alloc, nets, &mut Work::new())?;
         self.prepared[unit] = Some(prepared);
         Ok(())
     }

@@ -10,8 +10,9 @@ ghost use Rattle.mgn_world.specs.Worlds.{AreRows, IsSound, required, shown};
 use crate::kept::Kept;
 use crate::stages::{Deed, Step};
 use mgn_book::Book;
-use mgn_desk::{Desk, Requirements};
+use mgn_desk::Desk;
 use mgn_params::ParamSet;
+use mgn_unit::Priced;
 use std::alloc::{AllocError, Global};
 use std::marker::Model;
 
@@ -118,7 +119,7 @@ impl World {
     }
 
     /// What the four portfolios of the desk of a unit require; none where it is empty, or there is no such unit.
-    pub fn requirements(&self, unit: usize) -> Option<Requirements>
+    pub fn requirements(&self, unit: usize) -> Option<Priced>
         ensures { result ≡ required self.now.sets (desk_at self.now unit) }
     {
         let desk = self.kept.desks.get(unit)?;

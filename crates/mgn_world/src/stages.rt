@@ -30,14 +30,6 @@ pub struct Seen {
     pub(crate) nets: CopiedNets,
 }
 
-impl Model for Seen {
-    ghost use Rattle.mgn_world.specs.Stages.{Seen, shown_nets};
-
-    ghost Value = { Seen };
-
-    ghost view = { λ s. record { unit = s.unit; nets = shown_nets s.nets } };
-}
-
 /// What a call looked at: the version in force, what its command then changes, and the units of this plan, in order of
 /// their numbers.
 #[derive(Drop)]
@@ -67,14 +59,14 @@ pub struct Gathering {
 
 impl Model for Gathering {
     ghost use Rattle.std.specs.Prelude.{is_some, map};
-    ghost use Rattle.mgn_world.specs.Stages.{Gathering, IsGathering, shown_nets};
+    ghost use Rattle.mgn_world.specs.Stages.{Gathering, IsGathering};
 
     ghost Value = { Gathering };
 
     ghost view = { λ g. record {
       set = g.set;
       version = g.version;
-      nets = map shown_nets g.nets.items;
+      nets = g.nets.items;
       prepared = map is_some g.prepared.items;
     } };
 

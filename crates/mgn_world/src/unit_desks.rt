@@ -2,10 +2,11 @@
 
 ghost use Rattle.std.specs.Prelude.{◌≡◌, ◌<◌, All, None, Some, length, map, slice_index_or, slice_set, OnOk};
 ghost use Rattle.mgn_params.specs.Shelves.{set_at};
-ghost use Rattle.mgn_desk.specs.Portfolios.{AreFourNets, opposite};
+ghost use Rattle.mgn_nets.specs.Portfolios.{AreUnitNets};
+ghost use Rattle.mgn_desk.specs.Portfolios.{opposite};
 ghost use Rattle.mgn_pricing.specs.Desks.{moves_of};
 ghost use Rattle.mgn_world.specs.DeskMoves.{AreDesks, AreReadyFor, CanGiveBack, IsReadyFor, desk_shown};
-ghost use Rattle.mgn_world.specs.Stages.{Seen as SeenNets};
+ghost use Rattle.mgn_world.specs.declared.stages.Seen.{Seen as SeenNets};
 ghost use Rattle.mgn_world.specs.World.{are_of, desks_with, desks_without, mark_first, planned_desks, unplanned_desks};
 
 use crate::stages::Seen;
@@ -39,7 +40,7 @@ fn mark(
     requires desks { AreDesks shelf.now desks.old }
     requires version { version < length shelf.now }
     requires unit { seen.now.unit < length desks.old }
-    requires nets { AreFourNets (set_at shelf.now version) seen.now.nets }
+    requires nets { AreUnitNets (set_at shelf.now version) seen.now.nets }
     ensures marked { OnOk result (map desk_shown desks.new ≡
         slice_set (map desk_shown desks.old) seen.now.unit (Some record { version = version; nets = seen.now.nets })) }
     ensures desks { OnOk result (AreDesks shelf.now desks.new) }
@@ -48,8 +49,8 @@ fn mark(
     let Some(set) = shelf.get(version) else {
         unreachable!();
     };
-    let nets = seen.nets.nets();
-    mgn_pricing::mark(&mut desks[seen.unit], alloc, version, set, &nets)
+    let nets = seen.nets.each_ref();
+    desks[seen.unit].mark(alloc, version, set, &nets)
 }
 
 /// Marks the first desk, of those of the units that were looked at, that is not of the version. An error says that memory
@@ -64,7 +65,7 @@ pub(crate) fn mark_first(
     requires desks { AreDesks shelf.now desks.old }
     requires version { version < length shelf.now }
     requires there { All (λ (x : SeenNets). x.unit < length desks.old) seen.now }
-    requires nets { All (λ (x : SeenNets). AreFourNets (set_at shelf.now version) x.nets) seen.now }
+    requires nets { All (λ (x : SeenNets). AreUnitNets (set_at shelf.now version) x.nets) seen.now }
     ensures marked { OnOk result (map desk_shown desks.new ≡ mark_first version seen.now (map desk_shown desks.old)) }
     ensures desks { OnOk result (AreDesks shelf.now desks.new) }
     ensures long { length desks.new ≡ length desks.old }

@@ -1,7 +1,7 @@
 //! Lists of lots, alone and two beside one another.
 ghost use Rattle.mgn_lots.specs.Lots.{IsLot};
 
-use mgn_ids::{ContractName, LotId};
+use mgn_ids::{ContractName, LotId, ShortId};
 use mgn_lots::{Lot, Lots, Mark, add_both};
 use mgn_num::Quantity;
 use std::alloc::Global;
@@ -13,7 +13,7 @@ fn bought(number: LotId, contract: ContractName) -> Lot
     ensures { IsLot result }
 {
     Lot {
-        number,
+        number: ShortId::of_lot(number),
         contract,
         quantity: Quantity::new(3),
         premium: 50,
@@ -26,7 +26,7 @@ fn sold(number: LotId, contract: ContractName) -> Lot
     ensures { IsLot result }
 {
     Lot {
-        number,
+        number: ShortId::of_lot(number),
         contract,
         quantity: Quantity::new(-1),
         premium: 50,
@@ -38,7 +38,7 @@ fn sold(number: LotId, contract: ContractName) -> Lot
 fn add(lots: &mut Lots, lot: &Lot) -> bool
     requires { IsLot lot.now }
 {
-    if lots.has(lot.number) || lots.is_full() {
+    if lots.has(lot.number.lot()) || lots.is_full() {
         return false;
     }
     lots.add(lot).is_ok()
@@ -68,9 +68,9 @@ fn check_bust(rt: &impl Abort, lots: &mut Lots, bought: &Lot, sold: &Lot)
 {
     assert!(rt; add(lots, bought) && add(lots, sold));
     assert_eq!(rt; figures(lots, &bought.contract), (2, 2, 4));
-    assert!(rt; bust(lots, bought.number));
+    assert!(rt; bust(lots, bought.number.lot()));
     assert_eq!(rt; figures(lots, &bought.contract), (2, -1, 1));
-    assert!(rt; !bust(lots, bought.number) && !add(lots, bought));
+    assert!(rt; !bust(lots, bought.number.lot()) && !add(lots, bought));
 }
 
 #[test]
@@ -87,10 +87,10 @@ fn a_busted_lot_counts_no_more(rt: HostRuntime) -> Result<(), Fail> {
 fn check_reserved(rt: &impl Abort, lots: &mut Lots, lot: &Lot)
     requires { IsLot lot.now }
 {
-    assert!(rt; !lots.has(lot.number) && !lots.is_full());
+    assert!(rt; !lots.has(lot.number.lot()) && !lots.is_full());
     assert!(rt; lots.reserve().is_ok());
     lots.add_reserved(lot);
-    assert_eq!(rt; lots.place(lot.number), Some(0));
+    assert_eq!(rt; lots.place(lot.number.lot()), Some(0));
     assert_eq!(rt; lots.as_slice().len(), 1);
 }
 
@@ -107,8 +107,8 @@ fn check_transfer(rt: &impl Abort, giver: &mut Lots, taker: &mut Lots, given: &L
     requires given { IsLot given.now }
     requires taken { IsLot taken.now }
 {
-    assert!(rt; !giver.has(given.number) && !giver.is_full());
-    assert!(rt; !taker.has(taken.number) && !taker.is_full());
+    assert!(rt; !giver.has(given.number.lot()) && !giver.is_full());
+    assert!(rt; !taker.has(taken.number.lot()) && !taker.is_full());
     assert!(rt; add_both(giver, taker, given, taken).is_ok());
     assert_eq!(rt; figures(giver, &given.contract), (1, -1, 1));
     assert_eq!(rt; figures(taker, &taken.contract), (1, 3, 3));

@@ -1,7 +1,7 @@
 ghost use Rattle.std.specs.Prelude.{◌≡◌, All, map};
 ghost use Rattle.std.specs.Result.{ForOk};
+ghost use Rattle.mgn_nets.specs.Portfolios.{AreUnitNets};
 ghost use Rattle.mgn_unit.specs.NewSets.{ArePrepared};
-ghost use Rattle.mgn_unit.specs.Prepared.{AreCopied};
 ghost use Rattle.mgn_prepare.specs.Marks.{mark_of};
 
 use mgn_ids::SessionNo;
@@ -24,7 +24,7 @@ pub fn mark<R: Threads + AllocGlobal + Sync>(
     new: &ParamSet,
     nets: Vec<CopiedNets>,
 ) -> Result<Vec<Option<PreparedUnit>>, AllocError>
-    requires { All (AreCopied old.now) nets.items }
+    requires { All (AreUnitNets old.now) nets.items }
     ensures marks { ForOk result (λ units. units.items ≡ map (mark_of old.now new.now) nets.items) }
     ensures prepared { ForOk result (λ units. ArePrepared new.now units.items) }
 {

@@ -355,6 +355,39 @@ fn a_late_lot_is_worked_out_at_the_switch(rt: HostRuntime) -> Result<(), Fail> {
     Ok(())
 }
 
+// A unit is opened after the nets were gathered for a switch, under whose set each contract keeps its place.
+const LATE_UNIT: Scene = Scene {
+    first: &[
+        Deed::Call("ORIGIN CUST GROSS"),
+        Deed::Call("OPEN A1 CUST"),
+        Deed::Call("TRADE A1 1 AAA1 2 0"),
+        Deed::Switch,
+        Deed::Call("ASK A1"),
+        Deed::Call("ASK A2"),
+    ],
+    second: &[
+        Deed::Await(1),
+        Deed::Call("OPEN A2 CUST"),
+        Deed::Call("POST A2 CASH 1000"),
+        Deed::Call("TRADE A2 1 AAA1 1 0"),
+        Deed::Come,
+    ],
+    point: Point::Prepared,
+    until: Until::Come(2),
+};
+
+#[test]
+fn a_late_unit_is_worked_out_beside_those_prepared(rt: HostRuntime) -> Result<(), Fail> {
+    let played = staged(&rt, rt.alloc(), &Alone, &LATE_UNIT)?;
+    assert!(&rt;
+        played.first.as_slice()
+            == "OK 1\nOK 2\nOK 3\nOK 7 1 1\nOK 8 1200 1200 0 0 -1200\nOK 9 600 600 1000 1000 400\n".as_bytes()
+    );
+    assert!(&rt; played.second.as_slice() == "OK 4\nOK 5\nOK 6\n".as_bytes());
+    assert!(&rt; played.plain == 0 && played.late == 1 && played.entries == 9);
+    Ok(())
+}
+
 // A lot comes and goes: the unit's nets are those again that were gathered.
 const LOT_COMES_AND_GOES: Scene = Scene {
     first: &[

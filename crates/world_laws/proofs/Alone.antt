@@ -17,7 +17,8 @@ use Rattle.mgn_world.specs.declared.stages.Deed.{Deed}
 use Rattle.mgn_world.specs.declared.stages.Deed.TheVariants.{Begin, Look, Mark, Apply, Commit, Back, End, Gather, Prepare}
 use Rattle.mgn_world.specs.declared.stages.Stage.{Stage}
 use Rattle.mgn_world.specs.declared.stages.Stage.TheVariants.{Idle, Held, Looked, Applied, Failed, Ended, Gathered}
-use Rattle.mgn_world.specs.Stages.{Seen, View}
+use Rattle.mgn_world.specs.Stages.{View}
+use Rattle.mgn_world.specs.declared.stages.Seen.{Seen}
 use Rattle.mgn_world.specs.Standing.{Good, Owns, Sees}
 use Rattle.mgn_world.specs.World.{World, applies, are_free, are_of, are_stale, backs, begin_on, begins, commits, desk_at, does, ends, finished, freed, gathers, in_force, is_apart, is_full, lengthened, lock_at, look_on, looks, mark_first, marks, next, plan_units, planned_desks, prepares, stage_at, stepped, taken, unit_nets, units_of, with_stage}
 use Rattle.mgn_world.proofs.Desks.{plan_held, planned_desk, planned_other, unplanned_desk, unplanned_other}

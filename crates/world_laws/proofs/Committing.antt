@@ -13,6 +13,7 @@ use Rattle.mgn_machine.specs.declared.request.Request.{Request}
 use Rattle.mgn_machine.specs.declared.request.Request.TheVariants.{Do, Switch}
 use Rattle.mgn_machine.specs.NewSet.{on_call, set_fits}
 use Rattle.mgn_machine.specs.Step.{step, switched}
+use Rattle.mgn_unit.specs.NewSets.{is_unit_covered}
 use Rattle.mgn_plan.specs.Plans.{plan_of}
 use Rattle.mgn_book.specs.BookViews.{sets_after}
 use Rattle.mgn_world.specs.Claims.{IsReached}
@@ -21,7 +22,7 @@ use Rattle.mgn_world.specs.declared.stages.Deed.TheVariants.{Begin, Commit, Gath
 use Rattle.mgn_world.specs.declared.stages.Stage.{Stage}
 use Rattle.mgn_world.specs.declared.stages.Stage.TheVariants.{Idle, Applied, Failed, Ended, Gathered}
 use Rattle.mgn_world.specs.Stages.{Gathering, View}
-use Rattle.mgn_world.specs.World.{World, are_covered, are_stale, begin_on, commits, entered, gathers, in_force, is_apart, is_done, is_full, next, no_nets, placed, prepared_more, prepares, stage_at, stepped, units_of, with_stage}
+use Rattle.mgn_world.specs.World.{World, are_stale, begin_on, commits, entered, gathers, in_force, is_apart, is_done, is_full, next, no_nets, placed, prepared_more, prepares, stage_at, stepped, units_of, with_stage}
 use Rattle.mgn_world.proofs.Commits.{now_in_force, stale_passed}
 use Rattle.mgn_world.proofs.Decided.{not_full}
 use Rattle.mgn_world.proofs.Locks.{lengthened_at}
@@ -186,7 +187,7 @@ pub prepare_comes : (w : World) (p u : ℕ) (g : Gathering) → stage_at w p ≡
 prepare_comes w p u g is =
     let there = gathered_there w p g is in
     let h : Gathering = prepared_more (set_at w.sets g.version) u g in
-    let same = prepared_when (nat_lt u (length g.nets) && are_covered (set_at w.sets g.version) g.set (slice_index_or g.nets u no_nets)) g (slice_set g.prepared u true) in (
+    let same = prepared_when (nat_lt u (length g.nets) && is_unit_covered (set_at w.sets g.version) g.set (slice_index_or g.nets u no_nets)) g (slice_set g.prepared u true) in (
       h,
       (by_does (ComesTo p (Gathered h) w) w (with_stage w p (Gathered h)) p (Prepare u) there (ap (prepares w p u) is) (comes w p (Gathered h) there), same.set, same.version, same.nets),
     )

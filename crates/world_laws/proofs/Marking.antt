@@ -13,7 +13,8 @@ use Rattle.mgn_world.specs.Claims.{IsAmong, IsReached}
 use Rattle.mgn_world.specs.declared.stages.Call.{Call}
 use Rattle.mgn_world.specs.declared.stages.Deed.TheVariants.{Mark}
 use Rattle.mgn_world.specs.declared.stages.Stage.TheVariants.{Looked}
-use Rattle.mgn_world.specs.Stages.{Seen, View}
+use Rattle.mgn_world.specs.Stages.{View}
+use Rattle.mgn_world.specs.declared.stages.Seen.{Seen}
 use Rattle.mgn_world.specs.Standing.{Good, Owns, Sees}
 use Rattle.mgn_world.specs.World.{World, are_of, desk_at, is_of, mark_first, marks, next, plan_units, seen_at, stage_at, unit_nets}
 use Rattle.mgn_world.proofs.Desks.{plan_held}

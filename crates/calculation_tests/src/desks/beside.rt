@@ -6,8 +6,8 @@ ghost use Rattle.mgn_span.specs.Scan.{value_at};
 ghost use Rattle.mgn_desk.specs.Desks.{CanMoveMarked, IsMarkedBy};
 
 use crate::sets::flat_nets;
-use mgn_desk::{Desk, Moves, Requirements, UnitNets};
-use mgn_nets::Nets;
+use mgn_desk::{Desk, Moves};
+use mgn_nets::{Nets, Portfolios};
 use mgn_num::{Cents, Quantity};
 use mgn_params::{ParamSet, Version, Work};
 use mgn_plain::requirement;
@@ -20,13 +20,7 @@ use std::test::Fail;
 pub(super) const LARGEST_NET: i64 = 10_000_000;
 
 /// The nets of one contract in the four portfolios of a unit.
-#[derive(Clone, Copy)]
-pub(super) struct FourNets {
-    pub lots: i64,
-    pub buys: i64,
-    pub sales: i64,
-    pub all: i64,
-}
+pub(super) type FourNets = Portfolios<i64>;
 
 // A net, which is within its limit.
 fn some_net(rt: &impl Abort, contracts: i64) -> Quantity
@@ -114,7 +108,7 @@ fn marked_desk(alloc: Global, set: &ParamSet, nets: &NetList) -> Result<Desk, Al
 {
     set.limits();
     let nets = nets.paged(alloc)?;
-    let nets = UnitNets {
+    let nets = Portfolios {
         lots: &nets,
         buys: &nets,
         sales: &nets,
@@ -226,7 +220,7 @@ impl<'a> Beside<'a> {
         let buys = self.buys.paged(alloc)?;
         let sales = self.sales.paged(alloc)?;
         let all = self.all.paged(alloc)?;
-        let nets = UnitNets {
+        let nets = Portfolios {
             lots: &lots,
             buys: &buys,
             sales: &sales,
@@ -309,8 +303,8 @@ impl<'a> Beside<'a> {
     }
 
     // The same of the four lists.
-    fn all_anew(&self, alloc: Global) -> Result<Requirements, AllocError> {
-        Ok(Requirements {
+    fn all_anew(&self, alloc: Global) -> Result<Portfolios<Cents>, AllocError> {
+        Ok(Portfolios {
             lots: self.anew(alloc, &self.lots)?,
             buys: self.anew(alloc, &self.buys)?,
             sales: self.anew(alloc, &self.sales)?,
@@ -328,12 +322,12 @@ impl<'a> Beside<'a> {
     }
 
     // Whether it requires so much.
-    fn expect_requirements(&self, rt: &impl Abort, anew: &Requirements) {
+    fn expect_requirements(&self, rt: &impl Abort, anew: &Portfolios<Cents>) {
         assert_eq!(rt; self.desk.requirements(), *anew);
     }
 
     /// Compares the desk's nets with the lists, and what it requires with what they do. Tells the latter.
-    pub(super) fn agree(&self, rt: &impl Abort, alloc: Global) -> Result<Requirements, Fail> {
+    pub(super) fn agree(&self, rt: &impl Abort, alloc: Global) -> Result<Portfolios<Cents>, Fail> {
         self.nets_agree(rt);
         let anew = self.all_anew(alloc)?;
         self.expect_requirements(rt, &anew);

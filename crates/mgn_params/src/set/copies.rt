@@ -119,6 +119,7 @@ impl ParamSet {
     {
         // (each way out drops all that it owns, so what is copied comes in parts)
         let commodity_rows = copies_of_rows(alloc, self.commodity_rows.as_slice())?;
+        let naming = Vec::from_slice(alloc, self.naming.as_slice())?;
         let (commodities, months, contracts) = self.copied_contracts(alloc)?;
         let (spreads, credits, classes, spots) = self.copied_charges(alloc)?;
         let (commodity_places, contract_places, class_places) = self.copied_places(alloc)?;
@@ -135,6 +136,7 @@ impl ParamSet {
             contract_places,
             class_places,
             commodity_rows,
+            naming,
         })
     }
 }

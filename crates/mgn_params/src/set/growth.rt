@@ -3,6 +3,7 @@ ghost use Rattle.mgn_params.specs.Limits.{IsNextClass, IsNextCommodity, IsNextCo
 ghost use Rattle.mgn_params.specs.Tables.{no_tables};
 
 use crate::commodity_rows::CommodityRows;
+use crate::naming::name_legs;
 use crate::set::ParamSet;
 use crate::tables::{Class, Commodity, Contract, CreditSpread, Month, SpotCharge, Spread};
 use mgn_ids::{Places, SetName};
@@ -26,6 +27,7 @@ impl ParamSet {
             contract_places: Places::new(alloc),
             class_places: Places::new(alloc),
             commodity_rows: Vec::new(alloc),
+            naming: Vec::new(alloc),
         }
     }
 
@@ -38,9 +40,11 @@ impl ParamSet {
         let alloc = *self.commodity_rows.allocator();
         self.commodities.reserve(1)?;
         self.commodity_rows.reserve(1)?;
+        self.naming.reserve(1)?;
         self.commodity_places.push(commodity.name)?;
         self.commodities.push_reserved(commodity);
         self.commodity_rows.push_reserved(CommodityRows::new(alloc));
+        self.naming.push_reserved(0);
         Ok(())
     }
 
@@ -84,7 +88,9 @@ impl ParamSet {
         ensures ok { OnOk result (self.new ≡ record self.old { credits = self.old.credits ++ spread ∷ [] }) }
         ensures err { OnErr result (self.new ≡ self.old) }
     {
+        let place = self.credits.len();
         self.credits.push(spread)?;
+        name_legs(&mut self.naming, &spread.legs[..spread.count], place);
         Ok(())
     }
 

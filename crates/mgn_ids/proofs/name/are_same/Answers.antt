@@ -1,23 +1,41 @@
-use Rattle.std.proofs.Common.{◌≡◌, ◌≢◌, ◌<◌, ℕ, Bool, List, ap, arith, false, get_or, length, sym, true, ⊎_elim}
+use Rattle.std.proofs.Common.{rules, ◌≡◌, ◌++◌, ◌<◌, ◌^◌, ℕ, List, length, take, drop, nat_eq, arith, ap, refl, subst, sym, ◌∙◌, length-drop}
+use Rattle.std.specs.Int.{from_le_bytes, to_le_bytes, w64}
 use Rattle.std.specs.Str.{bytes_eq}
-use Rattle.std.proofs.lemmas.Bool.{cases_Bool}
-use Rattle.std.proofs.lemmas.List.{ext_get_or}
+use Rattle.std.proofs.lemmas.Bool.Decides.{Decides-eqb, Decides-like, same_from_decides}
+use Rattle.std.proofs.lemmas.List.{take-append-drop}
+use Rattle.std.proofs.lemmas.Nat.{from_le_bytes-to_le_bytes_8}
 use Rattle.std.proofs.lemmas.Slice.Eq.{bytes_eq-Decides}
+use Rattle.std.proofs.Math.Seq.{take-length}
 use Rattle.mgn_ids.proofs.name.are_same.Goals as goal
 
--- an answer that tells whether two rows differ somewhere tells whether they are equal
-same_is : (b : Bool) (xs ys : List ℕ) → length xs ≡ length ys → (b ≡ true → (k : ℕ) → k < length xs → get_or xs k 0 ≡ get_or ys k 0) → (b ≡ false → (k : ℕ) × (get_or xs k 0 ≢ get_or ys k 0)) → b ≡ bytes_eq xs ys
-same_is true xs ys long same other =
-    sym ((bytes_eq-Decides xs ys).1 (ext_get_or 0 xs ys long (same (λ i. true))))
-same_is false xs ys long same other =
-    ⊎_elim
-    (λ (yes : bytes_eq xs ys ≡ true).
-    let differ = other (λ i. false) in
-    absurd (differ.1 (ap (λ (zs : List ℕ). get_or zs differ.0 0) ((bytes_eq-Decides xs ys).0 yes))))
-    (λ (no : bytes_eq xs ys ≡ false). sym no)
-    (cases_Bool (bytes_eq xs ys))
+-- the second half of sixteen bytes is all that is left behind the first
+rest_is : (xs : List ℕ) → length xs ≡ 16 → take 8 (drop 8 xs) ≡ drop 8 xs
+rest_is xs long =
+    let eight : length (drop 8 xs) ≡ 8 = omega (arith, long, length-drop 8 xs) in
+    subst (λ (n : ℕ). take n (drop 8 xs) ≡ drop 8 xs) eight (take-length (drop 8 xs))
 
-pub returns : goal.returns
-returns c =
-    let done = c.loop-i.invariant in
-    same_is c.loop-i.same c.args.row.now c.args.other.now (omega arith) (λ yes k low. done.same yes k (omega arith)) done.other
+halves : (xs ys : List ℕ) → length xs ≡ 16 → length ys ≡ 16 → take 8 xs ≡ take 8 ys → take 8 (drop 8 xs) ≡ take 8 (drop 8 ys) → xs ≡ ys
+halves xs ys long other first second =
+    let rest : drop 8 xs ≡ drop 8 ys = sym (rest_is xs long) ∙ second ∙ rest_is ys other in
+    let whole : take 8 xs ++ drop 8 xs ≡ take 8 ys ++ drop 8 ys = rw (first, rest) refl in
+    sym (take-append-drop 8 xs) ∙ whole ∙ take-append-drop 8 ys
+
+-- words of eight bytes are equal as these are
+word_tells : (m n : ℕ) → m < 2 ^ 64 → n < 2 ^ 64 → to_le_bytes w64 m ≡ to_le_bytes w64 n → m ≡ n
+word_tells m n small few same =
+    sym (from_le_bytes-to_le_bytes_8 m small) ∙ ap (from_le_bytes w64) same ∙ from_le_bytes-to_le_bytes_8 n few
+
+pub returns-then-word : goal.returns-then-word
+returns-then-word c =
+    let xs : List ℕ = c.args.row.now in
+    let ys : List ℕ = c.args.other.now in
+    let a : ℕ = c.word-then-word.result in
+    let b : ℕ = c.word-then-word-2.result in
+    let first : take 8 xs ≡ take 8 ys = sym c.word.ensures ∙ ap (to_le_bytes w64) c.if-word.true ∙ c.word-2.ensures in
+    let whole : a ≡ b → xs ≡ ys =
+    λ e. halves xs ys (search rules) (search rules) first (sym c.word-then-word.ensures ∙ ap (to_le_bytes w64) e ∙ c.word-then-word-2.ensures)
+    in
+    let parts : xs ≡ ys → a ≡ b =
+    λ e. word_tells a b (search rules) (search rules) (c.word-then-word.ensures ∙ ap (λ (zs : List ℕ). take 8 (drop 8 zs)) e ∙ sym c.word-then-word-2.ensures)
+    in
+    same_from_decides (nat_eq a b) (bytes_eq xs ys) (Decides-like (nat_eq a b) whole parts (Decides-eqb a b)) (bytes_eq-Decides xs ys)

@@ -17,3 +17,13 @@ returns-clause-passed c =
     let at : p + (1 + j) ≡ i = omega arith in
     let none = c.first_place.ensures.passed j (omega arith) in
     ap (λ (k : ℕ). bit_at n k) (sym at) ∙ sym (shifted n p (1 + j)) ∙ sym (shifted (n / 2 ^ p) 1 j) ∙ none
+
+pub returns-clause-here : goal.returns-clause-here
+returns-clause-here c =
+    λ low.
+    let n = c.args.places in
+    let p = c.args.place in
+    let j = c.first_place.result in
+    let at : p + (1 + j) ≡ p + 1 + j = omega arith in
+    let here = c.first_place.ensures.here (omega arith) in
+    ap (λ (k : ℕ). bit_at n k) (sym at) ∙ sym (shifted n p (1 + j)) ∙ sym (shifted (n / 2 ^ p) 1 j) ∙ here

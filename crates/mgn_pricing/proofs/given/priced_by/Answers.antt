@@ -17,8 +17,8 @@ returns-then-not-fits-clause-fit c =
     c.requires.possible.inside c.index-rows-change.is (sym c.place_of.ensures.place ∙ c.in_ok-desk.was) c.index-desks-branch.is in
     sym (whole ∙ sym c.fits.ensures ∙ c.if-not-fits.true)
 
-pub priced-requires : goal.priced-requires
-priced-requires c =
+pub requirements-requires : goal.requirements-requires
+requirements-requires c =
     let fit = sym c.fits.ensures ∙ c.if-not-fits.false in
     let right = subst (λ (d : Bor Desk). IsRight c.args.set.now c.args.version d.now.marked) (sym c.index-desks-branch.is) (c.requires.right c.in_ok-desk.field-0 c.index-desks-branch.result c.in_ok-desk.ensures.within) in
     (c.args.set.now, right_marked c.args.set.now c.args.version c.index-desks-branch.result.now.marked right (fits-of c.args.version _ c.index-desks-branch.result.now.marked fit))
@@ -32,8 +32,8 @@ returns-clause-priced c =
     let right = subst (λ (d : Bor Desk). IsRight set' c.args.version d.now.marked) (sym c.index-desks-branch.is) (c.requires.right c.in_ok-desk.field-0 c.index-desks-branch.result c.in_ok-desk.ensures.within) in
     let marked = right_marked set' c.args.version desk.marked right (fits-of c.args.version _ desk.marked fit) in
     let same = default-is c.args.rows.now c.args.change.now.unit _ row c.requires.possible.inside ∙ sym c.index-rows-change.is in
-    subst (λ (r : Row). Prices set' c.args.change.now.change r c.priced.result) (sym same)
-    (priced-fit set' c.args.version row c.args.change.now.change desk.marked c.priced.result fit (c.priced.ensures.requirements set' marked) c.priced.ensures.small)
+    subst (λ (r : Row). Prices set' c.args.change.now.change r c.requirements.result) (sym same)
+    (priced-fit set' c.args.version row c.args.change.now.change desk.marked c.requirements.result fit (c.requirements.ensures.requirements set' marked) c.requirements.ensures.small)
 
 pub returns-clause-fit : goal.returns-clause-fit
 returns-clause-fit c =

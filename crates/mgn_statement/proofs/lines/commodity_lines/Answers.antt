@@ -1,4 +1,4 @@
-use Rattle.std.proofs.Common.{◌≡◌, ◌<◌, ◌∙◌, ◌++◌, ◌∷◌, [], Bool, List, ap, arith, false, filter, length, map, sym, true}
+use Rattle.std.proofs.Common.{◌≡◌, ◌<◌, ◌∙◌, ◌++◌, ◌∷◌, [], Bool, List, ap, arith, false, filter, length, length-append, map, sym, true}
 use Rattle.std.specs.List.{range_with_len}
 use Rattle.std.proofs.lemmas.List.Sums.{count_by_more_no, count_by_more_yes}
 use Rattle.mgn_machine.specs.declared.statement.CommodityLine.{CommodityLine}
@@ -7,15 +7,9 @@ use Rattle.mgn_plain.specs.declared.commodity.CommodityFigures.{CommodityFigures
 use Rattle.mgn_plain.specs.Figures.{commodity_figures}
 use Rattle.mgn_span.specs.Positions.{positions}
 use Rattle.mgn_statement.specs.Statement.{line_by}
-use Rattle.mgn_statement.proofs.Lists.{count_room, kept_number, left_number}
+use Rattle.mgn_statement.proofs.Lists.{kept_number, left_number}
 use Rattle.mgn_statement.proofs.lines.commodity_lines.Goals as goal
-use Rattle.mgn_statement.proofs.lines.commodity_lines.Goals.{then-held-commodity, else-held-commodity}
-
-pub push_reserved-requires : goal.push_reserved-requires
-push_reserved-requires c =
-    let inside : c.loop-commodity.commodity < length c.held_commodities-held.result = omega (arith, c.held_commodities-held.ensures.long, c.commodity_count-commodity-end.ensures.few) in
-    let room = count_room (λ (mark : Bool). mark) c.held_commodities-held.result c.loop-commodity.commodity _ inside c.if-held-commodity.true in
-    omega (arith, room, c.loop-commodity.invariant.len, c.loop-commodity.invariant.room)
+use Rattle.mgn_statement.proofs.lines.commodity_lines.Goals.{then-held-commodity+in_ok-push, else-held-commodity}
 
 pub loop-commodity-preserved : goal.loop-commodity-preserved
 unfolding commodity_figures
@@ -28,24 +22,22 @@ loop-commodity-preserved c =
     let line = commodity_line c.args.set.now held in
     let inside : c.loop-commodity.commodity < length c.held_commodities-held.result = omega (arith, c.held_commodities-held.ensures.long, c.commodity_count-commodity-end.ensures.few) in
     elim c.if-held-commodity.branch [
-      | then-held-commodity w ↦
+      | then-held-commodity+in_ok-push w ↦
           let marked : is_held held g ≡ true = sym (c.held_commodities-held.ensures.held g) ∙ w.if-held-commodity.true in
           let figures : w.commodity.result ≡ commodity_figures set' held g = rw c.requires.figures at w.commodity.ensures.figures in
           let told : w.line_of.result ≡ line g = w.line_of.ensures ∙ ap (λ (f : CommodityFigures). line_by set' g f) figures in
           rw w.lines-is (record {
             so_far =
-                w.push_reserved.ensures.items
+                w.in_ok-push.ensures.ok
                 ∙ ap (λ (xs : List CommodityLine). xs ++ w.line_of.result ∷ []) was.so_far
                 ∙ ap (λ (x : CommodityLine). map line (filter (is_held held) (range_with_len 0 g)) ++ x ∷ []) told
                 ∙ sym (kept_number line (is_held held) g marked);
-            len = omega (arith, w.push_reserved.ensures.len, was.len, count_by_more_yes (λ (mark : Bool). mark) marks g _ inside w.if-held-commodity.true);
-            room = w.push_reserved.ensures.capacity ∙ was.room;
+            len = omega (arith, ap length w.in_ok-push.ensures.ok, length-append c.loop-commodity.lines (w.line_of.result ∷ []), was.len, count_by_more_yes (λ (mark : Bool). mark) marks g _ inside w.if-held-commodity.true);
           })
       | else-held-commodity w ↦
           let unmarked : is_held held g ≡ false = sym (c.held_commodities-held.ensures.held g) ∙ w.if-held-commodity.false in
           rw w.lines-is (record {
             so_far = was.so_far ∙ sym (left_number line (is_held held) g unmarked);
             len = was.len ∙ sym (count_by_more_no (λ (mark : Bool). mark) marks g _ inside w.if-held-commodity.false);
-            room = was.room;
           })
     ]

@@ -3,5 +3,5 @@ use Rattle.std.specs.List.{flat_map}
 use Rattle.mgn_wire.specs.StatementText.{commodity_text}
 use Rattle.mgn_wire.proofs.statement.print_commodities.Given as goal
 
-abbrev pub invariant-loop-line : goal.invariant-loop-line
-invariant-loop-line l = l.out.items ≡ l.fn.out.items ++ flat_map commodity_text (take l.line-index l.lines)
+abbrev pub invariant-loop-place : goal.invariant-loop-place
+invariant-loop-place l = l.out.items ≡ l.fn.out.items ++ flat_map commodity_text (take l.place l.lines)

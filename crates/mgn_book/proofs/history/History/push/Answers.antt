@@ -1,4 +1,4 @@
-use Rattle.std.proofs.Common.{◌≡◌, List, [], ◌∷◌, ◌++◌, ap, ◌∙◌, map, sym, subst, arith, length}
+use Rattle.std.proofs.Common.{ℕ, ◌≡◌, List, [], ◌∷◌, ◌++◌, ap, ◌∙◌, map, sym, subst, arith, length}
 use Rattle.std.proofs.lemmas.List.{append-nil}
 use Rattle.mgn_params.specs.Tables.{Tables}
 use Rattle.mgn_machine.specs.declared.entry.Entry.{Entry}
@@ -13,7 +13,7 @@ use Rattle.mgn_book.proofs.history.History.push.Goals as goal
 pub invariant_of-self : goal.invariant_of-self
 invariant_of-self c =
     let stored : List StoredEntry = c.self.inside.entries.items in
-    let next : StoredEntry = record { session = c.args.session; number = c.args.number; request = c.store_command-request.result; reply = c.store-reply.result } in
+    let next : StoredEntry = record { session = c.args.session; number = c.new.result; request = c.store_command-request.result; reply = c.store-reply.result } in
     let replies = c.store-reply.new.self in
     let names = c.store_command-request.new.names in
     subst (λ (es : List StoredEntry). AreShown replies names (length c.self.inside.refused.items) es) (sym c.push_reserved.ensures.items)
@@ -22,7 +22,7 @@ invariant_of-self c =
     (omega arith)
     record { reply = c.store-reply.ensures.stored; names = c.store_command-request.ensures.named; request = omega (arith, c.store_command-request.ensures.no_set) }
     (omega (arith, c.self.invariant.replies_few.0, c.store-reply.ensures.few.0), omega (arith, c.self.invariant.replies_few.1, c.store-reply.ensures.few.1))
-    (omega (arith, c.store_command-request.ensures.few.0, c.self.invariant.names.0), omega (arith, c.store_command-request.ensures.few.1, c.self.invariant.names.1))
+    (omega (arith, c.store_command-request.ensures.few.0, c.self.invariant.names.0), (omega (arith, c.store_command-request.ensures.few.1.0, c.self.invariant.names.1.0), omega (arith, c.store_command-request.ensures.few.1.1, c.self.invariant.names.1.1)))
     )
 
 pub returns : goal.returns
@@ -32,9 +32,10 @@ returns c =
     let sets : List Tables = c.self.inside.refused.items in
     let stored : List StoredEntry = c.self.inside.entries.items in
     let names : NameLists = c.store_command-request.new.names in
-    let next : StoredEntry = record { session = c.args.session; number = c.args.number; request = c.store_command-request.result; reply = c.store-reply.result } in
+    let next : StoredEntry = record { session = c.args.session; number = c.new.result; request = c.store_command-request.result; reply = c.store-reply.result } in
     let asked : recorded_of names (sets ++ []) next.request ≡ Asked c.args.command.now = c.store_command-request.ensures.request (sets ++ []) in
     ap (λ (xs : List StoredEntry). map (entry_of after names sets) xs) c.push_reserved.ensures.items
     ∙ ap (λ (ts : List Tables). map (entry_of after names ts) (stored ++ next ∷ [])) (sym (append-nil sets))
     ∙ entries-pushed before after c.self.inside.names names sets [] stored next (Asked c.args.command.now) c.args.reply c.store-reply.ensures.kept c.store_command-request.ensures.kept c.self.invariant.each asked c.store-reply.ensures.reply
-    ∙ ap (λ (es : List Entry). es ++ entry c.args.session c.args.number (Asked c.args.command.now) c.args.reply ∷ []) (ap (λ v. v.entries) c.self.view_is)
+    ∙ ap (λ (es : List Entry). es ++ entry c.args.session c.new.result (Asked c.args.command.now) c.args.reply ∷ []) (ap (λ v. v.entries) c.self.view_is)
+    ∙ ap (λ (n : ℕ). c.args.self.now.entries ++ entry c.args.session n (Asked c.args.command.now) c.args.reply ∷ []) c.new.ensures

@@ -1,28 +1,19 @@
-use Rattle.std.proofs.Common.{◌≡◌, ◌∙◌, ◌<◌, ◌≤◌, ◌+◌, ◌-◌, ℕ, List, ap, arith, false, length, refl, slice_index, subst}
+use Rattle.std.proofs.Common.{◌≡◌, ◌∙◌, ◌<◌, ◌≤◌, ◌+◌, ◌-◌, ℕ, List, ap, arith, false, length, refl, subst}
 use Rattle.std.specs.Int.{bit_at}
-use Rattle.std.proofs.lemmas.List.{get_or_read}
 use Rattle.std.proofs.lemmas.List.Elements.{All-nil}
 use Rattle.mgn_params.specs.declared.tables.CreditSpread.{CreditSpread}
 use Rattle.mgn_params.specs.Tables.{credit_spread_at, legs_of}
 use Rattle.mgn_inter.specs.Credited.{IsAtTurn}
-use Rattle.mgn_inter.specs.Rows.{Credited, Misses, names}
+use Rattle.mgn_inter.specs.Rows.{Misses, names}
 use Rattle.mgn_inter.specs.Told.{told_of}
 use Rattle.mgn_inter.proofs.ToldLemmas.{told_next, told_none}
-use Rattle.mgn_inter.proofs.TurnLemmas.{turn_jumped, turn_last, turn_skipped, waiting_first}
+use Rattle.mgn_inter.proofs.TurnLemmas.{misses_of, turn_jumped, turn_last, turn_skipped, waiting_first}
 use Rattle.mgn_inter.proofs.ReworkedLemmas.{few_next, others_next, places_next}
 use Rattle.mgn_inter.proofs.inter.InterCredits.rework_reached.Goals as goal
 use Rattle.mgn_inter.proofs.inter.InterCredits.rework_reached.Goals.{After-min-i}
 
--- the places of the spreads that name the commodity
-naming_is : (c : After-min-i) → c.index.result.now ≡ slice_index c.args.self.now.naming c.args.g
-naming_is c =
-    let at = c.requires.turn.1 in
-    let long : length c.self.inside.naming.items ≡ length c.args.self.now.naming = ap (λ (r : Credited). length r.naming) c.self.view_is in
-    let inside : c.args.g < length c.self.inside.naming.items = omega (arith, long, at.one_naming_each, at.one_each, c.requires.commodity) in
-    get_or_read c.self.inside.naming.items c.args.g c.index.result.now inside c.index.ensures 0 ∙ ap (λ (r : Credited). slice_index r.naming c.args.g) c.self.view_is
-
-misses : (c : After-min-i) → Misses c.args.set.now.credits c.index.result.now c.args.g
-misses c = rw (naming_is c) (c.requires.turn.1.naming c.args.g)
+misses : (c : After-min-i) → Misses c.args.set.now.credits c.args.naming c.args.g
+misses c = misses_of c.args.set.now.credits c.args.g c.args.naming c.requires.naming
 
 count_is : (c : After-min-i) → length c.credits-count.result.now ≡ length c.args.set.now.credits
 count_is c = ap (λ (ss : List CreditSpread). length ss) c.credits-count.ensures
@@ -34,7 +25,7 @@ loop-i-init c =
     let passed : (i : ℕ) → i < c.min-i.result → names c.args.g (legs_of (credit_spread_at set'.credits i)) ≡ false = λ i low. misses c i (omega arith) (c.first_place.ensures.passed i (omega (arith, c.min-i.ensures))) in
     record {
       turn = (c.requires.turn.0, turn_skipped set' c.args.g c.requires.turn.0 c.args.self.now c.min-i.result first passed c.requires.turn.1);
-      waiting = λ j from there none. waiting_first set'.credits c.args.g c.index.result.now (misses c) j (omega arith) there none;
+      waiting = λ j from there none. waiting_first set'.credits c.args.g c.args.naming (misses c) j (omega arith) there none;
       numbers = (refl, refl);
       inside = first;
       few = rw c.none-reworked.ensures (omega arith);

@@ -3,12 +3,11 @@ use Rattle.std.specs.Prelude.{Option, vec_capacity}
 use Rattle.mgn_params.specs.Shelves.{set_at}
 use Rattle.mgn_params.specs.Tables.{Tables}
 use Rattle.mgn_machine.specs.declared.request.Request.TheVariants.{Switch}
-use Rattle.mgn_unit.specs.NewSets.{ArePrepared}
+use Rattle.mgn_unit.specs.NewSets.{ArePrepared, PreparedUnit}
 use Rattle.mgn_unit.specs.Prepared.{AreCurrent}
-use Rattle.mgn_unit.specs.declared.row.PreparedUnit.{PreparedUnit}
 use Rattle.mgn_book.specs.BookViews.{sets_after}
-use Rattle.mgn_ledger.specs.Changes.{AreSwitched}
-use Rattle.mgn_ledger.specs.Days.{Day}
+use Rattle.mgn_day.specs.Changes.{AreSwitched}
+use Rattle.mgn_day.specs.Days.{Day}
 use Rattle.mgn_ledger.specs.Ledgers.{IsLedger}
 use Rattle.mgn_ledger.proofs.Entries.{goes_on, ledger-switched}
 use Rattle.mgn_ledger.proofs.Seen.{called, is_pass}
@@ -45,10 +44,10 @@ invariant_of-self-in-Ok g c =
     let filled : AreSwitched reply (length l.stamps + 1) l.places.items c.switch.new.places.items =
     subst (λ (k : ℕ). AreSwitched reply (k + 1) l.places.items c.switch.new.places.items) c.len-place.ensures c.switch.ensures.switched in
     let still = c.closed.ensures.sound (search rules) ∙ sym (c.closed.ensures.still (search rules)) in
-    let ledger = subst (λ (b : Bool). IsLedger g.T.Image.shown l.stamps l.places.items (vec_capacity l.places) b old) still c.self.invariant.2 in (
+    let ledger = subst (λ (b : Bool). IsLedger g.T.Shows.shown l.stamps l.places.items (vec_capacity l.places) b old) still c.self.invariant.2 in (
       c.self.invariant.0,
       c.self.invariant.1,
-      ledger-switched g.T.Image.shown l.stamps c.set_next.new.self c.of.result l.places.items c.switch.new.places.items (vec_capacity l.places) (vec_capacity c.switch.new.places) c.closed.new.broken old new session number c.args.set place reply
+      ledger-switched g.T.Shows.shown l.stamps c.set_next.new.self c.of.result l.places.items c.switch.new.places.items (vec_capacity l.places) (vec_capacity c.switch.new.places) c.closed.new.broken old new session number c.args.set place reply
           ledger on c.in-Ok.ensures.pushed c.of.ensures c.switch.ensures.room filled c.in-Done.ensures.committed c.in-Done.ensures.rows put,
     )
 
@@ -65,8 +64,8 @@ invariant_of-pass g c =
     let new : Day = record { sets = now; book = book } in
     let put : now ≡ sets_after l.tokens (Switch c.args.set) reply = c.in-Done.ensures.sets ∙ ap (λ (x : List Tables). sets_after x (Switch c.args.set) reply) c.new-shelf.ensures.sets in
     let on = goes_on l.tokens now l.book book session number (Switch c.args.set) place reply c.self.invariant.2.stands c.in-Done.ensures.committed put c.in-Done.ensures.stands in
-    is_pass g.T.Image.shown c.in-Ok.stamp old new session number (Switch c.args.set) place reply on
-    (ap (λ p. g.T.Image.shown p.1) c.in-Ok.ensures.stamped ∙ c.of.ensures)
+    is_pass g.T.Shows.shown c.in-Ok.stamp old new session number (Switch c.args.set) place reply on
+    (ap (λ p. g.T.Shows.shown p.1) c.in-Ok.ensures.stamped ∙ c.of.ensures)
     (ap (λ (n : ℕ). n + 1) c.calls-number.ensures.count)
 
 pub invariant_of-self-in-Err : goal.invariant_of-self-in-Err
@@ -108,8 +107,8 @@ returns-in-Ok g c =
     let new : Day = record { sets = now; book = book } in
     let put : now ≡ sets_after l.tokens (Switch c.args.set) reply = c.in-Done.ensures.sets ∙ ap (λ (x : List Tables). sets_after x (Switch c.args.set) reply) c.new-shelf.ensures.sets in
     let on = goes_on l.tokens now l.book book session number (Switch c.args.set) place reply c.self.invariant.2.stands c.in-Done.ensures.committed put c.in-Done.ensures.stands in
-    called c.args.pass.now old new (g.T.Image.shown c.in-Ok.stamp.1) session number (Switch c.args.set) place reply
+    called c.args.pass.now old new (g.T.Shows.shown c.in-Ok.stamp.1) session number (Switch c.args.set) place reply
     (rw c.self.view_is (c.matches-fits.ensures (search rules)))
     (ap (λ p. p.session) c.pass.view_is)
     on
-    (ap (λ p. g.T.Image.shown p.1) c.in-Ok.ensures.stamped ∙ c.of.ensures)
+    (ap (λ p. g.T.Shows.shown p.1) c.in-Ok.ensures.stamped ∙ c.of.ensures)

@@ -1,6 +1,6 @@
 use Rattle.std.proofs.Common.{◌≡◌, ℕ, length, rules}
-use Rattle.mgn_ledger.specs.Changes.{SameUnit}
-use Rattle.mgn_ledger.proofs.Gathers.{each-pushed}
+use Rattle.mgn_day.specs.Changes.{SameUnit}
+use Rattle.mgn_day.proofs.Gathers.{each-pushed}
 use Rattle.mgn_ledger.proofs.ledger.Ledger.stamps_of_units.Goals as goal
 
 pub loop-unit-preserved : goal.loop-unit-preserved
@@ -11,5 +11,5 @@ loop-unit-preserved g c =
     record {
       len = search rules;
       room = search rules;
-      so_far = λ u s less. rw c.push_reserved.ensures.items (each-pushed (λ (k : ℕ) (x : _). SameUnit (g.T.Image.shown x.1) day k) c.loop-unit.since.items c.in-Some.stamp n long c.loop-unit.invariant.so_far c.in-Some.ensures u s less);
+      so_far = λ u s less. rw c.push_reserved.ensures.items (each-pushed (λ (k : ℕ) (x : _). SameUnit (g.T.Shows.shown x.1) day k) c.loop-unit.since.items c.in-Some.stamp n long c.loop-unit.invariant.so_far c.in-Some.ensures u s less);
     }

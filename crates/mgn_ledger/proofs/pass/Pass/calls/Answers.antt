@@ -6,5 +6,5 @@ use Rattle.mgn_ledger.proofs.pass.Pass.calls.Goals as goal
 pub returns : goal.returns
 returns g c =
     c.self.invariant.counted
-    ∙ sym (length-items_from c.self.inside.session 1 (history_seen g.T.Image.shown c.self.inside.last))
+    ∙ sym (length-items_from c.self.inside.session 1 (history_seen g.T.Shows.shown c.self.inside.last))
     ∙ ap (λ (p : PassView). length (transcript p)) c.self.view_is

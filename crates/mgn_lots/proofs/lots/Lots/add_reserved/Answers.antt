@@ -36,7 +36,7 @@ invariant_of-self c =
       | then-self-len+then-is_above w ↦
           let full : rising ≡ length lots = search rules in
           let above : All (λ n. n < lot.number) (numbers_of lots) =
-          subst (λ (xs : List Lot). All (λ n. n < lot.number) (numbers_of xs)) w.deref.ensures.value (w.is_above.ensures.0 (search rules))
+          subst (λ (xs : List Lot). All (λ n. n < lot.number) (numbers_of xs)) w.deref.ensures.value (rw w.lot.ensures at (w.is_above.ensures.0 (search rules)))
           in
           rw w.self-inside-is (more-rises lots rising behind c.self.invariant.numbers lot full above)
       | else-self-len w ↦

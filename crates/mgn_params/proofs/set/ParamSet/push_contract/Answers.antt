@@ -13,4 +13,5 @@ invariant_of-self-2 c =
       contract_places = rw (grown, map-append, ← c.self.invariant.contract_places) c.in_ok-push.ensures.ok;
       class_places = c.self.invariant.class_places;
       rows = c.self.invariant.rows;
+      naming = c.self.invariant.naming;
     }

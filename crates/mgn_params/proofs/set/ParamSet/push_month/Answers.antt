@@ -12,4 +12,5 @@ invariant_of-self-2 c =
       contract_places = c.self.invariant.contract_places;
       class_places = c.self.invariant.class_places;
       rows = c.self.invariant.rows;
+      naming = c.self.invariant.naming;
     }

@@ -21,4 +21,5 @@ invariant_of-self-2 c =
       contract_places = c.self.invariant.contract_places;
       class_places = c.self.invariant.class_places;
       rows = rw grown (rows_spread _ _ _ _ c.args.spread _ place rows own);
+      naming = c.self.invariant.naming;
     }

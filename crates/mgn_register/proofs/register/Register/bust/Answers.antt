@@ -3,9 +3,8 @@ use Rattle.std.specs.Prelude.{Ok}
 use Rattle.std.proofs.lemmas.List.{get_or_default}
 use Rattle.mgn_lots.specs.Lots.{is_live, lot_at}
 use Rattle.mgn_unit.specs.declared.change.Change.{Change}
-use Rattle.mgn_unit.specs.declared.row.Priced.{Priced}
 use Rattle.mgn_machine.specs.Refusals.{contract_of, bust_places}
-use Rattle.mgn_unit.specs.Rows.{IsRoomy, Prices, row_with}
+use Rattle.mgn_unit.specs.Rows.{IsRoomy, Priced, Prices, row_with}
 use Rattle.mgn_unit.specs.Changes.{bust_change}
 use Rattle.mgn_machine.specs.State.{AccountState, no_account, account_at, with_bust}
 use Rattle.mgn_register.specs.BookStates.{BookState, IsKept, book_state}

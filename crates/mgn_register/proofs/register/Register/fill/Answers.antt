@@ -6,8 +6,7 @@ use Rattle.mgn_holds.specs.Holds.{hold_at, covers}
 use Rattle.mgn_lots.specs.declared.lot.Lot.{Lot}
 use Rattle.mgn_lots.specs.Lots.{IsLot, is_full}
 use Rattle.mgn_unit.specs.declared.change.Change.{Change}
-use Rattle.mgn_unit.specs.declared.row.Priced.{Priced}
-use Rattle.mgn_unit.specs.Rows.{IsRoomy, Prices, row_with}
+use Rattle.mgn_unit.specs.Rows.{IsRoomy, Priced, Prices, row_with}
 use Rattle.mgn_machine.specs.Refusals.{contract_of}
 use Rattle.mgn_machine.specs.Holding.{with_fill, fill_places}
 use Rattle.mgn_unit.specs.Changes.{fill_change}

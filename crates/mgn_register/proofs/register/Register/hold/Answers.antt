@@ -3,8 +3,7 @@ use Rattle.std.specs.Prelude.{Result, Ok, Err}
 use Rattle.mgn_holds.specs.declared.held.Held.{Held}
 use Rattle.mgn_holds.specs.Holds.{IsHeld, is_full as holds_full}
 use Rattle.mgn_unit.specs.declared.change.Change.{Change}
-use Rattle.mgn_unit.specs.declared.row.Priced.{Priced}
-use Rattle.mgn_unit.specs.Rows.{IsRoomy, Prices, row_with}
+use Rattle.mgn_unit.specs.Rows.{IsRoomy, Priced, Prices, row_with}
 use Rattle.mgn_machine.specs.Refusals.{is_over}
 use Rattle.mgn_machine.specs.Holding.{entered, hold_places, new_hold, with_hold}
 use Rattle.mgn_unit.specs.Changes.{hold_change}

@@ -4,8 +4,7 @@ use Rattle.std.proofs.lemmas.List.{get_or_default}
 use Rattle.mgn_holds.specs.declared.held.Held.{Held}
 use Rattle.mgn_holds.specs.Holds.{hold_at}
 use Rattle.mgn_unit.specs.declared.change.Change.{Change}
-use Rattle.mgn_unit.specs.declared.row.Priced.{Priced}
-use Rattle.mgn_unit.specs.Rows.{IsRoomy, Prices, row_with}
+use Rattle.mgn_unit.specs.Rows.{IsRoomy, Priced, Prices, row_with}
 use Rattle.mgn_machine.specs.Refusals.{contract_of}
 use Rattle.mgn_machine.specs.Holding.{without_hold, release_places}
 use Rattle.mgn_unit.specs.Changes.{release_change}

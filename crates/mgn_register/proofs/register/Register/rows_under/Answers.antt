@@ -1,8 +1,7 @@
 use Rattle.std.proofs.Common.{Bool, List, subst, sym}
 use Rattle.std.specs.Prelude.{Option}
-use Rattle.mgn_unit.specs.NewSets.{ArePrepared}
+use Rattle.mgn_unit.specs.NewSets.{ArePrepared, PreparedUnit}
 use Rattle.mgn_unit.specs.Prepared.{AreCurrent}
-use Rattle.mgn_unit.specs.declared.row.PreparedUnit.{PreparedUnit}
 use Rattle.mgn_register.proofs.register.Register.rows_under.Goals as goal
 
 pub rows_of-requires-clause-prepared : goal.rows_of-requires-clause-prepared

@@ -2,8 +2,7 @@ use Rattle.std.proofs.Common.{◌≡◌, ap, ◌∙◌, sym, subst, rules, get_o
 use Rattle.std.proofs.lemmas.List.{get_or_default}
 use Rattle.mgn_lots.specs.Lots.{IsLot, is_full}
 use Rattle.mgn_unit.specs.declared.change.Change.{Change}
-use Rattle.mgn_unit.specs.declared.row.Priced.{Priced}
-use Rattle.mgn_unit.specs.Rows.{IsRoomy, Prices, row_with}
+use Rattle.mgn_unit.specs.Rows.{IsRoomy, Priced, Prices, row_with}
 use Rattle.mgn_unit.specs.Changes.{lot_change}
 use Rattle.mgn_machine.specs.State.{AccountState, no_account, account_at, traded_lot, with_lot}
 use Rattle.mgn_register.specs.BookStates.{BookState, IsKept, book_state}

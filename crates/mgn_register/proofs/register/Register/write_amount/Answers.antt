@@ -1,13 +1,13 @@
 use Rattle.std.proofs.Common.{◌≡◌, ◌<◌, ap, ◌∙◌, sym, subst, length, rules, get_or, set}
 use Rattle.mgn_coll.specs.Posted.{IsPosted}
-use Rattle.mgn_unit.specs.Rows.{row_with_worth}
+use Rattle.mgn_unit.specs.Rows.{nets_in, row_with_worth}
 use Rattle.mgn_machine.specs.State.{AccountState, with_amount}
 use Rattle.mgn_register.specs.BookStates.{IsKept, book_state, BookState}
 use Rattle.mgn_register.proofs.Kept.{names-kept}
 use Rattle.mgn_register.proofs.Postings.{gained, post-kept}
 use Rattle.mgn_plan.specs.declared.plans.Plan.TheVariants.{Nothing}
 use Rattle.mgn_register.proofs.Following.{follows-none}
-use Rattle.mgn_plan.specs.Plans.{FollowsPlan, nets_in}
+use Rattle.mgn_plan.specs.Plans.{FollowsPlan}
 use Rattle.mgn_register.proofs.register.Register.write_amount.Goals as goal
 
 pub invariant_of-self-2 : goal.invariant_of-self-2

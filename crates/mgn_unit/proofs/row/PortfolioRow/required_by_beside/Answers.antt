@@ -1,10 +1,10 @@
 use Rattle.std.proofs.Common.{subst, sym}
 use Rattle.mgn_params.specs.Tables.{Tables}
-use Rattle.mgn_unit.specs.Prepared.{IsCopied}
-use Rattle.mgn_unit.proofs.KeptPlaces.{kept-copied}
+use Rattle.mgn_nets.specs.Portfolios.{AreNets}
+use Rattle.mgn_unit.proofs.KeptPlaces.{kept-nets}
 use Rattle.mgn_unit.proofs.row.PortfolioRow.required_by_beside.Goals as goal
 
 pub required_beside-requires-clause-nets : goal.required_beside-requires-clause-nets
 required_beside-requires-clause-nets c =
-    subst (λ (set : Tables). IsCopied set c.args.self.now.nets) (sym c.new_set.ensures)
-    (kept-copied c.args.switch.now.old c.args.switch.now.new c.args.self.now.nets c.requires.keeps c.requires.nets)
+    subst (λ (set : Tables). AreNets set c.args.self.now.nets) (sym c.new_set.ensures)
+    (kept-nets c.args.switch.now.old c.args.switch.now.new c.args.self.now.nets c.requires.keeps c.requires.nets)

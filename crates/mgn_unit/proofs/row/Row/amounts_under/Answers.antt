@@ -1,6 +1,5 @@
 use Rattle.std.proofs.Common.{◌∙◌, ap, subst, sym}
-use Rattle.mgn_unit.specs.declared.amounts.UnitAmounts.{UnitAmounts}
-use Rattle.mgn_unit.specs.Amounts.{row_with_amounts}
+use Rattle.mgn_unit.specs.Amounts.{UnitAmounts, row_with_amounts}
 use Rattle.mgn_unit.specs.Rows.{IsRow}
 use Rattle.mgn_unit.proofs.KeptPlaces.{row-under_kept, row-within_kept}
 use Rattle.mgn_unit.proofs.row.Row.amounts_under.Goals as goal

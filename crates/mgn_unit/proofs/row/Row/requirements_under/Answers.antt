@@ -1,33 +1,33 @@
 use Rattle.std.proofs.Common.{subst, sym}
 use Rattle.mgn_params.specs.Tables.{Tables}
+use Rattle.mgn_nets.specs.Portfolios.{AreNets}
 use Rattle.mgn_unit.specs.NewSets.{IsRequired}
-use Rattle.mgn_unit.specs.Prepared.{IsCopied}
-use Rattle.mgn_unit.proofs.KeptPlaces.{kept-copied}
+use Rattle.mgn_unit.proofs.KeptPlaces.{kept-nets}
 use Rattle.mgn_unit.proofs.row.Row.requirements_under.Goals as goal
 
 pub required-requires : goal.required-requires
 required-requires c =
     let side = c.args.self.now.lots in
-    subst (λ (set : Tables). IsCopied set side.nets) (sym c.new_set-set.ensures)
-    (kept-copied c.args.switch.now.old c.args.switch.now.new side.nets c.requires.keeps record { one_each = c.requires.row.lots.one_each; small = c.requires.row.lots.nets })
+    subst (λ (set : Tables). AreNets set side.nets) (sym c.new_set-set.ensures)
+    (kept-nets c.args.switch.now.old c.args.switch.now.new side.nets c.requires.keeps record { one_each = c.requires.row.lots.one_each; small = c.requires.row.lots.nets })
 
 pub required_beside-requires-clause-nets : goal.required_beside-requires-clause-nets
 required_beside-requires-clause-nets c =
     let side = c.args.self.now.buys in
-    subst (λ (set : Tables). IsCopied set side.nets) (sym c.new_set-set.ensures)
-    (kept-copied c.args.switch.now.old c.args.switch.now.new side.nets c.requires.keeps record { one_each = c.requires.row.buys.one_each; small = c.requires.row.buys.nets })
+    subst (λ (set : Tables). AreNets set side.nets) (sym c.new_set-set.ensures)
+    (kept-nets c.args.switch.now.old c.args.switch.now.new side.nets c.requires.keeps record { one_each = c.requires.row.buys.one_each; small = c.requires.row.buys.nets })
 
 pub required_beside-requires-2-clause-nets : goal.required_beside-requires-2-clause-nets
 required_beside-requires-2-clause-nets c =
     let side = c.args.self.now.sales in
-    subst (λ (set : Tables). IsCopied set side.nets) (sym c.new_set-set.ensures)
-    (kept-copied c.args.switch.now.old c.args.switch.now.new side.nets c.requires.keeps record { one_each = c.requires.row.sales.one_each; small = c.requires.row.sales.nets })
+    subst (λ (set : Tables). AreNets set side.nets) (sym c.new_set-set.ensures)
+    (kept-nets c.args.switch.now.old c.args.switch.now.new side.nets c.requires.keeps record { one_each = c.requires.row.sales.one_each; small = c.requires.row.sales.nets })
 
 pub required_beside-requires-3-clause-nets : goal.required_beside-requires-3-clause-nets
 required_beside-requires-3-clause-nets c =
     let side = c.args.self.now.all in
-    subst (λ (set : Tables). IsCopied set side.nets) (sym c.new_set-set.ensures)
-    (kept-copied c.args.switch.now.old c.args.switch.now.new side.nets c.requires.keeps record { one_each = c.requires.row.all.one_each; small = c.requires.row.all.nets })
+    subst (λ (set : Tables). AreNets set side.nets) (sym c.new_set-set.ensures)
+    (kept-nets c.args.switch.now.old c.args.switch.now.new side.nets c.requires.keeps record { one_each = c.requires.row.all.one_each; small = c.requires.row.all.nets })
 
 pub returns : goal.returns
 returns c = record {

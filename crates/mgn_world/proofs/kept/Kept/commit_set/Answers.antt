@@ -1,7 +1,6 @@
 use Rattle.std.proofs.Common.{Global, Vec, ◌≡◌, ◌+◌, ◌∙◌, ap, List, ℕ, Option, subst, sym, refl}
 use Rattle.mgn_params.specs.Shelves.{set_at}
-use Rattle.mgn_unit.specs.declared.row.PreparedUnit.{PreparedUnit}
-use Rattle.mgn_unit.specs.NewSets.{ArePrepared}
+use Rattle.mgn_unit.specs.NewSets.{ArePrepared, PreparedUnit}
 use Rattle.mgn_world.specs.declared.stages.Stage.{Stage}
 use Rattle.mgn_world.specs.declared.stages.Stage.TheVariants.{Idle}
 use Rattle.mgn_world.specs.declared.kept.Kept.{Kept}
