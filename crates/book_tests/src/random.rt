@@ -1,5 +1,5 @@
-//! Long random sessions, whose scripts go by desks, beside a book that works out anew what its units require. Each run draws
-//! the same lines.
+//! Long random sessions, whose scripts go by desks, beside a book that works out anew what its units require. Each run
+//! draws the same lines.
 
 mod lines;
 

@@ -20,6 +20,7 @@ use Rattle.mgn_unit.specs.declared.row.PortfolioRow.{PortfolioRow}
 use Rattle.mgn_unit.proofs.AtLimit.{fill_at_limit-keeps}
 use Rattle.mgn_book.specs.FilledAtLimit.{FillsAtLimit}
 use Rattle.mgn_register.proofs.Found.{first_done, place-inside, test_passed}
+use Rattle.std.proofs.lemmas.Bool.{not-false}
 
 -- Chains of refusals that came to an end.
 
@@ -32,10 +33,6 @@ same_done : {A : Type 0} (r : Result A Refusal) (x y : A) → r ≡ Ok x → r �
 same_done (Ok z) x y e f = cc
 same_done (Err why) x y e f = cc
 
-not_false : (b : Bool) → not b ≡ false → b ≡ true
-not_false true e = refl
-not_false false e = cc
-
 -- where the fill takes place, and that the hold covers it
 fill_places-done : (set' : Tables) (s : State) (f : Fill) (k j : ℕ) (at : ℕ × ℕ) → place_of s f.account ≡ Ok k → place_of_order (account_at s.accounts k).holds f.order ≡ Some j → fill_places set' s f ≡ Ok at → (covers (hold_at (account_at s.accounts k).holds j) f.quantity ≡ true) × ((k, j) ≡ at)
 unfolding fill_places
@@ -46,7 +43,7 @@ fill_places-done set' s f k j at place hold done =
     let fits = test_passed _ _ _ at met.1 in
     let covered = test_passed _ _ _ at fits.1 in
     let few = test_passed _ _ _ at covered.1 in
-    (not_false _ covered.0, same_done _ (k, j) at refl few.1)
+    (not-false _ covered.0, same_done _ (k, j) at refl few.1)
 
 -- a quantity that a hold covers is on its side
 covered-side : (x : Held) (q : ℤ) → covers x q ≡ true → is_buy q ≡ is_buy x.quantity

@@ -63,16 +63,6 @@ switched-in_force sets t f rows shown kept fits covered long are =
     told : {m n : ℕ} → length rows ≡ f.state.units → m ≡ n → ((book_state f.state.origins f.state.accounts rows f.state.closed (f.state.version + 1)).state, NewSet record { version = f.state.version + 1; on_call = m }) ≡ switched f.state n (Ok tt)
     told units same = λ i. (record { origins = f.state.origins; accounts = f.state.accounts; units = units i; closed = f.state.closed; version = f.state.version + 1 }, NewSet record { version = f.state.version + 1; on_call = same i })
 
-pub switched-refused : (sets : List Tables) (t : Tables) (f : BookState) (why : Refusal) → length sets ≡ f.state.version + 1 → IsKept (set_at sets f.state.version) f → set_fits t f.state ≡ Err why → IsSwitched sets sets f f t (Not why)
-switched-refused sets t f why shown kept fits = record {
-  stepped = sym (ap (λ (r : Result (Unit {0}) Refusal). switched f.state (on_call t f.state.accounts f.state.units) r) fits);
-  put = refl;
-  asked = refl;
-  shown = shown;
-  kept = kept;
-  rows = refl;
-}
-
 -- where the set was put and the rows became those under it
 pub switched-entered : (sets now : List Tables) (t : Tables) (f new : BookState) (rows : NewRows) (result : Result Reply Fault) → length sets ≡ f.state.version + 1 → IsKept (set_at sets f.state.version) f → set_fits t f.state ≡ Ok tt
     → covers t f.state.accounts ≡ true → AreNewRows t f rows → OnOk result (AreAfter rows f.rows new.rows) → OnOk result (now ≡ sets ++ t ∷ [])

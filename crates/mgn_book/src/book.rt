@@ -24,7 +24,7 @@ use std::alloc::{AllocError, Global};
 use std::marker::Model;
 
 /// How many entries the history has at most.
-pub(crate) const MOST_ENTRIES: usize = 1_000_000;
+pub const MOST_ENTRIES: usize = 1_000_000;
 
 /// What a commit did.
 #[derive(Drop)]
@@ -152,8 +152,8 @@ impl Book {
         let _ = &self.history;
     }
 
-    /// What a command changes in the rows of margin units under the set in force, where nothing but want of room refuses
-    /// it. It takes no memory.
+    /// What a command changes in the rows of margin units under the set in force, where nothing but want of room
+    /// refuses it. It takes no memory.
     pub fn plan<S: Shelf>(&self, shelf: &S, command: &Command) -> Plan
         requires { Stands (S.sets shelf.now) self.now }
         ensures plan { let state = self.now.book.state in

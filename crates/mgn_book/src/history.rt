@@ -104,8 +104,8 @@ impl History {
         self.replies.reserve()
     }
 
-    /// Writes the entry of a command for which memory is reserved. Where its names are likely to stand among those that the
-    /// history has is looked at first.
+    /// Writes the entry of a command for which memory is reserved. Where its names are likely to stand among those that
+    /// the history has is looked at first.
     pub fn push(
         &mut self,
         session: SessionNo,
@@ -146,8 +146,8 @@ impl History {
         });
     }
 
-    /// Writes the entry of a switch whose set was refused, for which memory is reserved. The set is kept, and where there
-    /// is no memory for that nothing has changed.
+    /// Writes the entry of a switch whose set was refused, for which memory is reserved. The set is kept, and where
+    /// there is no memory for that nothing has changed.
     pub fn push_refused(
         &mut self,
         session: SessionNo,
@@ -186,8 +186,8 @@ fn place_of(sets: &[ParamSet], set: &ParamSet) -> Option<usize>
     None
 }
 
-// Puts a set that was refused at the end of a list, unless the list has it, and returns its place. Without memory for that
-// the list is as it was. A set that the list has takes none.
+// Puts a set that was refused at the end of a list, unless the list has it, and returns its place. Without memory for
+// that the list is as it was. A set that the list has takes none.
 fn store_set(refused: &mut Vec<ParamSet>, set: ParamSet) -> Result<usize, AllocError>
     ensures grown { OnOk result (Grows refused.old.items refused.new.items) }
     ensures within { IfOk result (λ place. place < length refused.new.items) }

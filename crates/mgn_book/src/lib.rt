@@ -11,5 +11,5 @@ mod numbers;
 mod replies;
 mod stored;
 
-pub use book::{Book, Outcome};
+pub use book::{Book, MOST_ENTRIES, Outcome};
 pub use by_desks::Decision;

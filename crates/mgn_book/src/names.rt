@@ -27,8 +27,8 @@ impl Likely {
     };
 }
 
-/// The names of accounts, contracts and collateral classes that entries have, each once and found by its place. Contracts see
-/// the lists, and for how many more names there is room.
+/// The names of accounts, contracts and collateral classes that entries have, each once and found by its place.
+/// Contracts see the lists, and for how many more names there is room.
 #[derive(Drop)]
 pub(crate) struct Names {
     accounts: IndexSet<AccountName>,

@@ -87,8 +87,8 @@ pub(crate) enum StoredReply {
     Refused(Refusal),
 }
 
-/// The replies of entries that are neither a refusal nor a plain `OK`. Contracts see the lists, and whether there is room
-/// for one more in each.
+/// The replies of entries that are neither a refusal nor a plain `OK`. Contracts see the lists, and whether there is
+/// room for one more in each.
 #[derive(Drop)]
 pub(crate) struct Replies {
     figures: Vec<NarrowFigures>,
@@ -130,8 +130,8 @@ impl Replies {
         self.others.reserve(1)
     }
 
-    /// Stores a reply, in the memory that is reserved: figures that fit in 64 bits in half the room, an `OK` alone and a
-    /// refusal in none.
+    /// Stores a reply, in the memory that is reserved: figures that fit in 64 bits in half the room, an `OK` alone and
+    /// a refusal in none.
     pub fn store(&mut self, reply: Reply) -> StoredReply
         requires room { self.old.has_room ≡ true }
         requires few_figures { length self.old.figures ≤ 1000000 }

@@ -13,8 +13,8 @@ use mgn_ids::{LotId, LotQuantity, OrderId, OriginName, Premium, SessionNo, Short
 use mgn_machine::{Command, Fill, Hold, Mode, Trade, Transfer};
 use mgn_params::Version;
 
-// A request, with the places of its names, and of a refused set, in lists of these. Fields lie as they are listed here, so
-// that none takes more than 24 bytes.
+// A request, with the places of its names, and of a refused set, in lists of these. Fields lie as they are listed here,
+// so that none takes more than 24 bytes.
 #[derive(Clone, Copy)]
 pub(crate) enum StoredRequest {
     NewOrigin(OriginName, Mode),

@@ -66,27 +66,6 @@ settled-there t rows plan (Refused f) n can same = tt
 
 -- Places that are noted.
 
-set-noted : (l : List ℕ) (v place u : ℕ) → v < length l → (get_or (set l v place) u 0 ≡ place) ⊎ ((get_or (set l v place) u 0 ≡ get_or l u 0) × ((v == u) ≡ false))
-set-noted l v place u inside = ⊎_elim
-    (λ (same : u ≡ v). inl (subst (λ (k : ℕ). get_or (set l v place) k 0 ≡ place) (sym same) (get_or-set_same l v place 0 inside)))
-    (λ (other : u ≢ v). inr (get_or-set_other l v u place 0 other, ne_eqb v u (λ e. other (sym e))))
-    (cases_eq u v)
-
-pub noted-nothing : (place : ℕ) (l : List ℕ) → AreNoted Nothing place l l
-noted-nothing place l = record { long = refl; each = λ u small. inr (refl, refl) }
-
-pub noted-one : (v : UnitChange) (place : ℕ) (l : List ℕ) → v.unit < length l → AreNoted (One v) place l (set l v.unit place)
-noted-one v place l inside = record { long = length-set l v.unit place; each = λ u small. set-noted l v.unit place u inside }
-
-pub noted-two : (v w : UnitChange) (place : ℕ) (l : List ℕ) → v.unit < length l → w.unit < length l → AreNoted (Two v w) place l (set (set l v.unit place) w.unit place)
-noted-two v w place l inside beside = record {
-  long = length-set (set l v.unit place) w.unit place ∙ length-set l v.unit place;
-  each = λ u small. ⊎_elim
-      (λ here. inl here)
-      (λ there. ⊎_elim (λ first. inl (there.0 ∙ first)) (λ none. inr (there.0 ∙ none.0, rw (none.1, there.1) refl)) (set-noted l v.unit place u inside))
-      (set-noted (set l v.unit place) w.unit place u (omega (arith, beside, length-set l v.unit place)));
-}
-
 pub renewed-by : (plan : Plan) (units place : ℕ) (old mid new : List ℕ) → AreNoted plan place old mid → length new ≡ units → ((u : ℕ) → u < length mid → slice_index_or new u 0 ≡ slice_index_or mid u 0) → ((u : ℕ) → length mid ≤ u → u < units → slice_index_or new u 0 ≡ place) → AreRenewed plan units place old new
 renewed-by plan units place old mid new noted long kept fresh = record {
   long = long;
@@ -156,9 +135,3 @@ unchanged-push shown stamps now places renewed t old new plan reply are renew pu
         ∙ (keeps-others (set_of old) plan reply old.book.book.rows new.book.book.rows rows).others u inside all.2
         in
         subst (λ (p : ℕ). IsUnchangedSince shown now p u new) (sym all.0) (unchanged-still shown stamps now (slice_index_or places u 0) t u old new (are.each u all.1) pushed version set_is nets)
-
--- a unit whose last change is at the place of a stamp
-pub same-unit : {T : Type 0} (shown : T → Day) (stamps : List T) (places : List ℕ) (day : Day) (unit place : ℕ) (t : T) → AreUnchangedSince shown stamps places day → unit < length places → slice_index_or places unit 0 ≡ place
-    → t ≡ slice_index_or stamps (place - 1) t → SameUnit (shown t) day unit
-same-unit shown stamps places day unit place t are inside here shows =
-    subst (λ u. SameUnit (shown u) day unit) (sym shows) (subst (λ (k : ℕ). SameUnit (shown (slice_index_or stamps (k - 1) t)) day unit) here ((are.each unit inside).same t))

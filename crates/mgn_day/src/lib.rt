@@ -1,5 +1,5 @@
-//! What a stamp shows of a day, and since which entry of its history each margin unit has the same nets under the same set. It
-//! knows no book: what a day has is seen as a book is, whoever keeps it.
+//! What a stamp shows of a day, and since which entry of its history each margin unit has the same nets under the same
+//! set. It knows no book: what a day has is seen as a book is, whoever keeps it.
 #![tactic(auto)]
 
 mod gathered;

@@ -18,8 +18,8 @@ use mgn_unit::PreparedUnits;
 use std::alloc::{AllocError, Global};
 
 impl<'a, T: Image, J: TableName + SlotNames> Ledger<'a, T, J> {
-    /// The set in force, and a copy of the nets of all units, with what shows since when each has them. An error says that
-    /// memory was refused.
+    /// The set in force, and a copy of the nets of all units, with what shows since when each has them. An error says
+    /// that memory was refused.
     pub fn gather(&self, alloc: Global) -> Result<Gathered<'a, T, J>, AllocError>
         ensures set { IfOk result (λ gathered. gathered.set.now ≡ set_of self.now) }
         ensures nets { IfOk result (λ gathered. gathered.nets.items ≡ map nets_in self.now.book.book.rows) }
@@ -34,7 +34,8 @@ impl<'a, T: Image, J: TableName + SlotNames> Ledger<'a, T, J> {
         })
     }
 
-    // What shows since when each unit has its nets; none where the ledger is broken. An error says that memory was refused.
+    // What shows since when each unit has its nets; none where the ledger is broken. An error says that memory was
+    // refused.
     fn stamps_of_units(&self, alloc: Global) -> Result<Vec<Stamp<'a, T, J>>, AllocError>
         ensures few { IfOk result (λ since. length since.items ≤ length self.now.book.book.rows) }
         ensures since { IfOk result (λ since. (u : ℕ) (s : _) → u < length since.items →
@@ -51,8 +52,9 @@ impl<'a, T: Image, J: TableName + SlotNames> Ledger<'a, T, J> {
         Ok(since)
     }
 
-    // Notes of which units it is known that they have the nets that they were prepared for: those whose nets, and the set in force,
-    // have not changed since. Two numbers are compared for each. Tells how many units a switch then has to work out itself.
+    // Notes of which units it is known that they have the nets that they were prepared for: those whose nets, and the
+    // set in force, have not changed since. Two numbers are compared for each. Tells how many units a switch then has
+    // to work out itself.
     pub(crate) fn note_current(
         &self,
         set: &ParamSet,

@@ -8,8 +8,8 @@ use mgn_machine::Hold;
 // How many are kept at most.
 const PLACES: usize = 64;
 
-/// Orders as they were held, each at a place that its number gives, until another one takes that place. Nothing rests on them
-/// but time: whether an order is held still, and how much of it, each call asks the book.
+/// Orders as they were held, each at a place that its number gives, until another one takes that place. Nothing rests
+/// on them but time: whether an order is held still, and how much of it, each call asks the book.
 #[derive(Clone, Copy)]
 pub(crate) struct KnownOrders {
     places: [Option<Hold>; PLACES],

@@ -7,8 +7,8 @@ use mgn_ids::AccountName;
 // How many are kept at most.
 const PLACES: usize = 64;
 
-/// Units of accounts, each at a place that the account's name gives, until another account takes that place. Nothing rests on
-/// them but time: each call looks at the book anew.
+/// Units of accounts, each at a place that the account's name gives, until another account takes that place. Nothing
+/// rests on them but time: each call looks at the book anew.
 #[derive(Clone, Copy)]
 pub(crate) struct KnownUnits {
     places: [Option<(AccountName, usize)>; PLACES],

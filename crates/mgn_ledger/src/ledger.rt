@@ -35,12 +35,12 @@ const MOST_ROWS: usize = 1024;
 /// How many sessions a service has at most.
 const MOST_SESSIONS: u8 = 16;
 
-/// What lies under the lock: the book, the tokens of its sets, and for each entry what shows the day up to it. Contracts see
-/// the sets and the book.
+/// What lies under the lock: the book, the tokens of its sets, and for each entry what shows the day up to it.
+/// Contracts see the sets and the book.
 ///
-/// The type says that the history is legal and each row right under the set in force. Unless the ledger is broken it says too
-/// that each entry is what its slot shows, so that no later holding can have rewritten one that a session was told of. It is
-/// broken, for good, once a slot or a pass is found not to fit; then nothing is done any more.
+/// The type says that the history is legal and each row right under the set in force. Unless the ledger is broken it
+/// says too that each entry is what its slot shows, so that no later holding can have rewritten one that a session was
+/// told of. It is broken, for good, once a slot or a pass is found not to fit; then nothing is done any more.
 #[derive(Drop)]
 pub struct Ledger<'a, T: Image, J: TableName + SlotNames> {
     alloc: Global,
@@ -71,8 +71,8 @@ impl<'a, T: Image, J: TableName + SlotNames> Model for Ledger<'a, T, J> {
 }
 
 impl<'a, T: Image, J: TableName + SlotNames> Ledger<'a, T, J> {
-    /// A ledger before its first command, under its first set. All memory that its calls need beside the book's own is taken
-    /// here; an error says that it was refused.
+    /// A ledger before its first command, under its first set. All memory that its calls need beside the book's own is
+    /// taken here; an error says that it was refused.
     pub fn new<R: Wait>(
         rt: &R,
         alloc: Global,
@@ -146,14 +146,14 @@ impl<'a, T: Image, J: TableName + SlotNames> Ledger<'a, T, J> {
         self.book.unit_of(account)
     }
 
-    /// How many units had a requirement worked out in the book for a command that was answered with a place. It stays at its
-    /// greatest value.
+    /// How many units had a requirement worked out in the book for a command that was answered with a place. It stays
+    /// at its greatest value.
     pub fn plain_count(&self) -> u64 {
         self.plain
     }
 
-    /// How many units had a requirement worked out in the book for a set that came into force: those of which nothing was
-    /// prepared, or for other nets than they had then. It stays at its greatest value.
+    /// How many units had a requirement worked out in the book for a set that came into force: those of which nothing
+    /// was prepared, or for other nets than they had then. It stays at its greatest value.
     pub fn late_count(&self) -> u64 {
         self.late
     }
@@ -181,8 +181,8 @@ impl<'a, T: Image, J: TableName + SlotNames> Ledger<'a, T, J> {
         set
     }
 
-    /// What shows since when a unit has its nets under the set in force: the stamp of the last entry that changed one of these;
-    /// none where the ledger is broken. It takes no memory.
+    /// What shows since when a unit has its nets under the set in force: the stamp of the last entry that changed one
+    /// of these; none where the ledger is broken. It takes no memory.
     pub fn since(&self, unit: usize) -> Option<Stamp<'a, T, J>>
         requires { unit < length self.now.book.book.rows }
         ensures { IfSome result (λ stamp. SameUnit (T.shown stamp.1) self.now unit) }
@@ -223,9 +223,11 @@ impl<'a, T: Image, J: TableName + SlotNames> Ledger<'a, T, J> {
         answer
     }
 
-    /// One command of a pass by its plan, where what its units require may be known: then nothing is worked out for them.
+    /// One command of a pass by its plan, where what its units require may be known: then nothing is worked out for
+    /// them.
     /// `Broken` where the history does not begin with what the pass has seen, or has other calls of it, or where the slot of
-    /// the next place has been given a value; from then on each call is. Else `Full` where the history is, else `Memory`.
+    /// the next place has been given a value; from then on each call is. Else `Full` where the history is, else
+    /// `Memory`.
     pub fn enter<R: Wait>(
         &mut self,
         rt: &R,
@@ -278,9 +280,10 @@ impl<'a, T: Image, J: TableName + SlotNames> Ledger<'a, T, J> {
         }
     }
 
-    /// One switch of a pass to a set, as `enter` has it for a command. What units require under the set may have been prepared,
-    /// by their numbers, for the nets that their stamps show. It is used where a unit's nets are still the same, which a stamp
-    /// shows where they have not changed since; any other unit is worked out here. The rows before are handed out.
+    /// One switch of a pass to a set, as `enter` has it for a command. What units require under the set may have been
+    /// prepared, by their numbers, for the nets that their stamps show. It is used where a unit's nets are still the
+    /// same, which a stamp shows where they have not changed since; any other unit is worked out here. The rows before
+    /// are handed out.
     #[inline(never)]
     pub fn enter_switch<R: Wait>(
         &mut self,
@@ -336,7 +339,8 @@ impl<'a, T: Image, J: TableName + SlotNames> Ledger<'a, T, J> {
         }
     }
 
-    /// How many entries the history has, where the passes are those that were made, each once, and it has just their calls.
+    /// How many entries the history has, where the passes are those that were made, each once, and it has just their
+    /// calls.
     pub fn audit(&self, passes: &Vec<Pass<'a, T, J>>) -> Result<u64, AuditFault>
         ensures { IfOk result (λ entries.
             AreAudited self.now.sets self.now.book.history passes.now.items entries) }
@@ -383,8 +387,8 @@ impl<'a, T: Image, J: TableName + SlotNames> Ledger<'a, T, J> {
     }
 }
 
-// Why a pass's next call gets no place, if so: the ledger is broken, or is from now on since the pass does not fit it or the next
-// slot has a value already; or the history is full.
+// Why a pass's next call gets no place, if so: the ledger is broken, or is from now on since the pass does not fit it
+// or the next slot has a value already; or the history is full.
 fn closed<'a, T: Image, J: SlotNames>(
     broken: &mut bool,
     stamps: &Stamps<'a, T, J>,

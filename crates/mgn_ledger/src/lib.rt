@@ -1,5 +1,5 @@
-//! The book that the sessions of a service share, as it lies under its lock: with the sets that its versions show, a stamp
-//! for each entry of its history, and passes that know their own calls.
+//! The book that the sessions of a service share, as it lies under its lock: with the sets that its versions show, a
+//! stamp for each entry of its history, and passes that know their own calls.
 #![tactic(auto)]
 
 mod entered;

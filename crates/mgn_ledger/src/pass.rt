@@ -9,9 +9,9 @@ use mgn_machine::Hold;
 use mgn_slots::{SlotNames, Stamp};
 use std::marker::Model;
 
-/// A session of a service: its number, how many of its calls have a place, and what shows the day up to the last of them. It
-/// takes no memory for its calls. Contracts see the number, and the sets and the history up to that call, so its calls with
-/// their places.
+/// A session of a service: its number, how many of its calls have a place, and what shows the day up to the last of
+/// them. It takes no memory for its calls. Contracts see the number, and the sets and the history up to that call, so
+/// its calls with their places.
 #[derive(Drop)]
 pub struct Pass<'a, T: Image, J: SlotNames> {
     pub(crate) session: SessionNo,
@@ -76,7 +76,8 @@ impl<'a, T: Image, J: SlotNames> Pass<'a, T, J> {
         self.orders.get(account, order)
     }
 
-    /// Keeps an order for later calls of the session, which can then tell before they look what its release or fill changes.
+    /// Keeps an order for later calls of the session, which can then tell before they look what its release or fill
+    /// changes.
     pub fn keep_order(&mut self, hold: &Hold)
         ensures { self.new ≡ self.old }
     {

@@ -9,8 +9,8 @@ use mgn_params::ParamSet;
 use mgn_unit::{CopiedNets, PreparedUnit};
 use std::alloc::{AllocError, Global};
 
-/// What `mark_all` gives, worked out by the caller alone, who passes the gate before each unit. An error says that memory was
-/// refused.
+/// What `mark_all` gives, worked out by the caller alone, who passes the gate before each unit. An error says that
+/// memory was refused.
 pub fn mark_alone<G: UnitGate>(
     alloc: Global,
     old: &ParamSet,

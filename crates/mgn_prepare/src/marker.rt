@@ -9,7 +9,8 @@ use mgn_params::{ParamSet, Work};
 use mgn_unit::{CopiedNets, PreparedUnit, Switch, is_unit_covered};
 use std::alloc::{AllocError, Global};
 
-/// What all workers share: the set in force, the one that is to come, and where the contracts of each stand in the other.
+/// What all workers share: the set in force, the one that is to come, and where the contracts of each stand in the
+/// other.
 #[derive(Drop)]
 pub(crate) struct Marker<'a> {
     alloc: Global,

@@ -94,10 +94,11 @@ fn marks_of(alloc: Global, jobs: Vec<Job>) -> Result<Vec<Option<PreparedUnit>>, 
     Ok(marks)
 }
 
-/// What units with these nets under the old set require under the new one, by the contracts' names, one answer for each unit
-/// and in their order; none for a unit with a net that is not 0 in a contract that the new set lacks. Up to so many workers, 1
-/// to 64, share the units; the answer is the same for every number of them. A worker that cannot be started has its share done
-/// by the caller. It returns once all workers have come to their end. An error says that memory was refused.
+/// What units with these nets under the old set require under the new one, by the contracts' names, one answer for each
+/// unit and in their order; none for a unit with a net that is not 0 in a contract that the new set lacks. Up to so
+/// many workers, 1 to 64, share the units; the answer is the same for every number of them. A worker that cannot be
+/// started has its share done by the caller. It returns once all workers have come to their end. An error says that
+/// memory was refused.
 pub fn mark_all<R: Threads + Sync, G: UnitGate + Sync>(
     rt: &R,
     alloc: Global,

@@ -52,9 +52,6 @@ decided xs ys = slice_eq-Decides Decides-int_eq xs ys (same_nets xs ys) refl
 pub not-same : (xs ys : List ℤ) → (xs ≡ ys → ⊥) → false ≡ same_nets xs ys
 not-same xs ys differ = same-bool false (same_nets xs ys) (λ e. cc, λ e. absurd (differ e)) (decided xs ys)
 
-pub not-long : (xs ys : List ℤ) (i : ℕ) (v : ℤ) → (length xs ≡ length ys → ⊥) → false ≡ same_nets xs (set ys i v)
-not-long xs ys i v differ = not-same xs (set ys i v) (λ e. differ (ap (λ (zs : List ℤ). length zs) e ∙ length-set ys i v))
-
 pub not-here : (xs ys : List ℤ) (i : ℕ) (d : ℤ) → (get_or xs i d ≡ get_or ys i d → ⊥) → false ≡ same_nets xs ys
 not-here xs ys i d differ = not-same xs ys (λ e. differ (ap (λ (zs : List ℤ). get_or zs i d) e))
 
@@ -95,15 +92,8 @@ not-true : (b : Bool) → true ≡ not b → b ≡ true → ⊥
 not-true true e f = cc
 not-true false e f = cc
 
-not-not : (b : Bool) → false ≡ not b → b ≡ true
-not-not true e = refl
-not-not false e = cc
-
 pub differ-here : (a b : ℤ) → true ≡ not (int_eq a b) → a ≡ b → ⊥
 differ-here a b test e = not-true (int_eq a b) test ((Decides-int_eq a b).1 e)
-
-pub alike-here : (a b : ℤ) → false ≡ not (int_eq a b) → a ≡ b
-alike-here a b test = (Decides-int_eq a b).0 (not-not (int_eq a b) test)
 
 -- The first that passes.
 

@@ -13,21 +13,16 @@ use Rattle.mgn_plan.specs.declared.plans.Plan.TheVariants.{Nothing, One, Two}
 use Rattle.mgn_plan.specs.declared.plans.UnitChange.{UnitChange}
 use Rattle.mgn_plan.specs.Plans.{moved_nets, nets_by, planned_nets, row_at}
 use Rattle.mgn_pricing.specs.Desks.{AreDesks, IsMovedBy, IsReady, KeepsMarked, KeepsOthers, KeepsUnplanned, Rests, is_of, marked_at}
+use Rattle.mgn_plan.proofs.Nets.{nets_by-same, nets_by-other}
 
 -- a desk that is ready rests
 pub rests : (set' : Tables) (version : ℕ) (nets : UnitNets) (now : Option Marked) → IsReady set' version nets now → Rests set' version nets now
 rests set' version nets None ready = tt
 rests set' version nets (Some m) ready = (omega (arith, ready.under), λ same. ready)
 
-by-same : (u : UnitChange) (k : ℕ) (nets : UnitNets) → u.unit ≡ k → nets_by u k nets ≡ moved_nets u.change nets
-by-same u k nets same = rw (eq-eqb u.unit k same) refl
-
-by-other : (u : UnitChange) (k : ℕ) (nets : UnitNets) → u.unit ≢ k → nets_by u k nets ≡ nets
-by-other u k nets apart = rw (ne_eqb u.unit k apart) refl
-
 -- the nets of a plan of two, of the second unit
 second-nets : (u v : UnitChange) (nets : UnitNets) → v.unit ≢ u.unit → planned_nets (Two u v) v.unit nets ≡ moved_nets v.change nets
-second-nets u v nets apart = by-same v v.unit (nets_by u v.unit nets) refl ∙ ap (moved_nets v.change) (by-other u v.unit nets (λ e. apart (sym e)))
+second-nets u v nets apart = nets_by-same v v.unit (nets_by u v.unit nets) refl ∙ ap (moved_nets v.change) (nets_by-other u v.unit nets (λ e. apart (sym e)))
 
 -- Moved.
 
@@ -36,8 +31,8 @@ one-moved set' version rows u old new at_rest moved others few = record {
   few = few;
   each = λ k. ⊎_elim
       (λ (same : u.unit ≡ k). subst (λ (j : ℕ). Rests set' version (nets_by u j (nets_in (row_at set' rows j))) (marked_at new j)) same
-      (subst (λ (nets : UnitNets). Rests set' version nets (marked_at new u.unit)) (sym (by-same u u.unit (nets_in (row_at set' rows u.unit)) refl)) (rests set' version _ (marked_at new u.unit) moved)))
-      (λ (apart : u.unit ≢ k). subst (λ (nets : UnitNets). Rests set' version nets (marked_at new k)) (sym (by-other u k (nets_in (row_at set' rows k)) apart))
+      (subst (λ (nets : UnitNets). Rests set' version nets (marked_at new u.unit)) (sym (nets_by-same u u.unit (nets_in (row_at set' rows u.unit)) refl)) (rests set' version _ (marked_at new u.unit) moved)))
+      (λ (apart : u.unit ≢ k). subst (λ (nets : UnitNets). Rests set' version nets (marked_at new k)) (sym (nets_by-other u k (nets_in (row_at set' rows k)) apart))
       (subst (λ (m : Option Marked). Rests set' version (nets_in (row_at set' rows k)) m) (sym (others k (λ e. apart (sym e)))) (at_rest.each k)))
       (cases_eq u.unit k);
 }
@@ -48,7 +43,7 @@ two-moved set' version rows u v old new units at_one moved others few = record {
   each = λ k. ⊎_elim
       (λ (same : v.unit ≡ k). subst (λ (j : ℕ). Rests set' version (planned_nets (Two u v) j (nets_in (row_at set' rows j))) (marked_at new j)) same
       (subst (λ (nets : UnitNets). Rests set' version nets (marked_at new v.unit)) (sym (second-nets u v (nets_in (row_at set' rows v.unit)) units)) (rests set' version _ (marked_at new v.unit) moved)))
-      (λ (apart : v.unit ≢ k). subst (λ (nets : UnitNets). Rests set' version nets (marked_at new k)) (sym (by-other v k (nets_by u k (nets_in (row_at set' rows k))) apart))
+      (λ (apart : v.unit ≢ k). subst (λ (nets : UnitNets). Rests set' version nets (marked_at new k)) (sym (nets_by-other v k (nets_by u k (nets_in (row_at set' rows k))) apart))
       (subst (λ (m : Option Marked). Rests set' version (nets_by u k (nets_in (row_at set' rows k))) m) (sym (others k (λ e. apart (sym e)))) (at_one.each k)))
       (cases_eq v.unit k);
 }
@@ -75,7 +70,7 @@ one-back set' version rows u old new at_one rest others long = record {
   each = λ k. ⊎_elim
       (λ (same : u.unit ≡ k). subst (λ (j : ℕ). Rests set' version (nets_in (row_at set' rows j)) (marked_at new j)) same rest)
       (λ (apart : u.unit ≢ k). subst (λ (m : Option Marked). Rests set' version (nets_in (row_at set' rows k)) m) (sym (others k (λ e. apart (sym e))))
-      (subst (λ (nets : UnitNets). Rests set' version nets (marked_at old k)) (by-other u k (nets_in (row_at set' rows k)) apart) (at_one.each k)))
+      (subst (λ (nets : UnitNets). Rests set' version nets (marked_at old k)) (nets_by-other u k (nets_in (row_at set' rows k)) apart) (at_one.each k)))
       (cases_eq u.unit k);
 }
 
@@ -84,9 +79,9 @@ second-back set' version rows u v old new units at_two rest others long = record
   few = omega (arith, long, at_two.few);
   each = λ k. ⊎_elim
       (λ (same : v.unit ≡ k). subst (λ (j : ℕ). Rests set' version (nets_by u j (nets_in (row_at set' rows j))) (marked_at new j)) same
-      (subst (λ (nets : UnitNets). Rests set' version nets (marked_at new v.unit)) (sym (by-other u v.unit (nets_in (row_at set' rows v.unit)) (λ e. units (sym e)))) rest))
+      (subst (λ (nets : UnitNets). Rests set' version nets (marked_at new v.unit)) (sym (nets_by-other u v.unit (nets_in (row_at set' rows v.unit)) (λ e. units (sym e)))) rest))
       (λ (apart : v.unit ≢ k). subst (λ (m : Option Marked). Rests set' version (nets_by u k (nets_in (row_at set' rows k))) m) (sym (others k (λ e. apart (sym e))))
-      (subst (λ (nets : UnitNets). Rests set' version nets (marked_at old k)) (by-other v k (nets_by u k (nets_in (row_at set' rows k))) apart) (at_two.each k)))
+      (subst (λ (nets : UnitNets). Rests set' version nets (marked_at old k)) (nets_by-other v k (nets_by u k (nets_in (row_at set' rows k))) apart) (at_two.each k)))
       (cases_eq v.unit k);
 }
 

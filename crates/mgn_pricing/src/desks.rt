@@ -13,8 +13,8 @@ use std::alloc::{AllocError, Global};
 use std::marker::Model;
 use std::mem;
 
-/// The desks of the margin units of a book, by the units' numbers, which they have. A unit whose desk is not there, or is
-/// empty, or of an older version, is marked when it is next asked for.
+/// The desks of the margin units of a book, by the units' numbers, which they have. A unit whose desk is not there, or
+/// is empty, or of an older version, is marked when it is next asked for.
 #[derive(Drop)]
 pub struct Desks {
     desks: Vec<Desk>,
@@ -55,8 +55,8 @@ pub fn is_of(desk: &Desk, version: Version) -> bool
     }
 }
 
-// Marks a desk with the nets of a row, unless it is marked under the version already. Where memory is refused nothing has
-// changed.
+// Marks a desk with the nets of a row, unless it is marked under the version already. Where memory is refused nothing
+// has changed.
 fn ready(
     desk: &mut Desk,
     alloc: Global,
@@ -131,7 +131,8 @@ impl Desks {
         }
     }
 
-    // A desk for each of so many units, empty where there was none. Where memory is refused there may be some empty ones more.
+    // A desk for each of so many units, empty where there was none. Where memory is refused there may be some empty
+    // ones more.
     fn grow(&mut self, units: usize) -> Result<(), AllocError>
         ensures there { OnOk result (units ≤ length self.new) }
         ensures same { (k : ℕ) → marked_at self.new k ≡ marked_at self.old k }
@@ -201,8 +202,8 @@ impl Desks {
         }
     }
 
-    // Moves the desks of a plan's units as the plan says, and tells what they then require. Where memory is refused some
-    // of these may have moved.
+    // Moves the desks of a plan's units as the plan says, and tells what they then require. Where memory is refused
+    // some of these may have moved.
     fn follow(
         &mut self,
         alloc: Global,

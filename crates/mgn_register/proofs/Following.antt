@@ -18,12 +18,7 @@ use Rattle.mgn_register.specs.declared.transfers.Party.{Party}
 use Rattle.mgn_register.specs.BookStates.{BookState, Steps, answer_of}
 use Rattle.mgn_plan.specs.Plans.{FollowsPlan, LeavesNets, both_plan, in_unit_of, moved_nets, nets_by, row_at}
 use Rattle.mgn_register.proofs.Moving.{EnteredAcross, EnteredWithin}
-
-nets_by-same : (u : UnitChange) (k : ℕ) (nets : UnitNets) → u.unit ≡ k → nets_by u k nets ≡ moved_nets u.change nets
-nets_by-same u k nets same = rw (eq-eqb u.unit k same) refl
-
-nets_by-other : (u : UnitChange) (k : ℕ) (nets : UnitNets) → u.unit ≢ k → nets_by u k nets ≡ nets
-nets_by-other u k nets apart = rw (ne_eqb u.unit k apart) refl
+use Rattle.mgn_plan.proofs.Nets.{nets_by-same, nets_by-other}
 
 -- one row replaced by one with the nets of a change
 row-nets : (set' : Tables) (rows : List Row) (u : UnitChange) (row : Row) (k : ℕ) → u.unit < length rows → nets_in row ≡ moved_nets u.change (nets_in (row_at set' rows u.unit)) → nets_in (row_at set' (set rows u.unit row) k) ≡ nets_by u k (nets_in (row_at set' rows k))

@@ -71,7 +71,7 @@ row-small set' f k i a r contract reads =
 size-some : (s : State) (u : ℕ) (contract : List ℕ) → pos 0 ≤ℤ unit_size s u contract
 size-some s u contract = omega (arith, ints, unit-within u (λ a. pos 0) (account_size contract) s.accounts (λ a. omega (arith, ints)))
 
-not_over : (size : ℤ) (more : ℕ) → IsNet size → int_lt (pos (10 ^ 7)) (size +ℤ pos more) ≡ false → IsNet (size +ℤ pos more)
+pub not_over : (size : ℤ) (more : ℕ) → IsNet size → int_lt (pos (10 ^ 7)) (size +ℤ pos more) ≡ false → IsNet (size +ℤ pos more)
 not_over size more small room = grind (arith, ints, room)
 
 not_under : (size : ℤ) (less : ℕ) → IsNet size → pos 0 ≤ℤ size → less ≤ 10 ^ 6 → IsNet (size +ℤ neg_ℤ (pos less))

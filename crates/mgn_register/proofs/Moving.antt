@@ -112,27 +112,27 @@ pub record Moving (set' : Tables) (f : BookState) (g t i : ℕ) (m : Transfer) :
   pub taker_room : is_over f.state t m.contract (quantity_in_unit f.state g t m.quantity) ≡ false
   pub quantity : IsLotQuantity m.quantity
 
-pub reads : (set' : Tables) (f : BookState) (k i : ℕ) (contract : List ℕ) → IsWithinLimits set' → IsKept set' f → k < length f.state.accounts → contract_of set' contract ≡ Ok i → Reads set' f k i (account_at f.state.accounts k) (row_at set' f.rows (account_at f.state.accounts k).unit) contract
-reads set' f k i contract within kept inside stands = record {
-  within = within;
-  kept = kept;
-  account = inside;
-  was = was;
-  row = sym (get_or_default f.rows a.unit (row_at set' f.rows a.unit) (no_row set') (unit-inside set' f k a kept inside was));
-  stands = stands;
-}
-  where
-    a : AccountState
-    a = account_at f.state.accounts k
-
-    was : a ≡ get_or f.state.accounts k a
-    was = sym (get_or_default f.state.accounts k a no_account inside)
+-- the account at a place and the row of its unit, as they stand
+pub reads-there : (set' : Tables) (f : BookState) (k i : ℕ) (contract : List ℕ) → IsWithinLimits set' → IsKept set' f → k < length f.state.accounts → contract_of set' contract ≡ Ok i
+    → Reads set' f k i (account_at f.state.accounts k) (row_at set' f.rows (account_at f.state.accounts k).unit) contract
+reads-there set' f k i contract within kept there stands =
+    let a = account_at f.state.accounts k in
+    let was : a ≡ get_or f.state.accounts k a = get_or_default f.state.accounts k no_account a there in
+    let r = row_at set' f.rows a.unit in
+    record {
+      within = within;
+      kept = kept;
+      account = there;
+      was = was;
+      row = get_or_default f.rows a.unit (no_row set') r (unit-inside set' f k a kept there was);
+      stands = stands;
+    }
 
 giver-reads : (set' : Tables) (f : BookState) (g t i : ℕ) (m : Transfer) → Moving set' f g t i m → Reads set' f g i (account_at f.state.accounts g) (row_at set' f.rows (account_at f.state.accounts g).unit) m.contract
-giver-reads set' f g t i m moving = reads set' f g i m.contract moving.within moving.kept moving.giver moving.stands
+giver-reads set' f g t i m moving = reads-there set' f g i m.contract moving.within moving.kept moving.giver moving.stands
 
 taker-reads : (set' : Tables) (f : BookState) (g t i : ℕ) (m : Transfer) → Moving set' f g t i m → Reads set' f t i (account_at f.state.accounts t) (row_at set' f.rows (account_at f.state.accounts t).unit) m.contract
-taker-reads set' f g t i m moving = reads set' f t i m.contract moving.within moving.kept moving.taker moving.stands
+taker-reads set' f g t i m moving = reads-there set' f t i m.contract moving.within moving.kept moving.taker moving.stands
 
 -- The sizes.
 

@@ -22,22 +22,7 @@ use Rattle.mgn_register.proofs.Busts.{Busting, bust-roomy}
 use Rattle.mgn_register.proofs.Holding.{Reads, fill-roomy, hold-roomy, old-row, release-roomy}
 use Rattle.mgn_register.proofs.Kept.{unit-inside}
 use Rattle.mgn_register.proofs.Trades.{Trading, trade-roomy}
-
--- the account at a place and the row of its unit, as they stand
-pub reads-there : (set' : Tables) (f : BookState) (k i : ℕ) (contract : List ℕ) → IsWithinLimits set' → IsKept set' f → k < length f.state.accounts → contract_of set' contract ≡ Ok i
-    → Reads set' f k i (account_at f.state.accounts k) (row_at set' f.rows (account_at f.state.accounts k).unit) contract
-reads-there set' f k i contract within kept there stands =
-    let a = account_at f.state.accounts k in
-    let was : a ≡ get_or f.state.accounts k a = get_or_default f.state.accounts k no_account a there in
-    let r = row_at set' f.rows a.unit in
-    record {
-      within = within;
-      kept = kept;
-      account = there;
-      was = was;
-      row = get_or_default f.rows a.unit (no_row set') r (unit-inside set' f k a kept there was);
-      stands = stands;
-    }
+use Rattle.mgn_register.proofs.Moving.{reads-there}
 
 possible-by : (set' : Tables) (f : BookState) (k i : ℕ) (contract : List ℕ) (change : Change) → Reads set' f k i (account_at f.state.accounts k) (row_at set' f.rows (account_at f.state.accounts k).unit) contract
     → IsChange set' change → IsRoomy change (row_at set' f.rows (account_at f.state.accounts k).unit) → CanChange set' f.rows (in_unit_of f.state k change)

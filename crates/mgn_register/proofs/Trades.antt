@@ -24,6 +24,7 @@ use Rattle.mgn_unit.proofs.Moved.{Stands}
 use Rattle.mgn_unit.proofs.Sums.{row_by-at}
 use Rattle.mgn_register.specs.BookStates.{BookState, book_state, IsKept, IsUnitRow}
 use Rattle.mgn_register.proofs.Kept.{contract-stands, stands-inside, row-there, room-by, sizes-more, own-moved, kept-changed, account-limits, account-known, stands-known}
+use Rattle.mgn_register.proofs.Holding.{not_over}
 
 -- what is known where a lot is about to be entered: the account and its row as they were read
 pub record Trading (set' : Tables) (f : BookState) (k i : ℕ) (a : AccountState) (r : Row) (t : Trade) : Type 0 where
@@ -34,9 +35,6 @@ pub record Trading (set' : Tables) (f : BookState) (k i : ℕ) (a : AccountState
   pub row : r ≡ get_or f.rows a.unit r
   pub stands : contract_of set' t.contract ≡ Ok i
   pub room : is_over f.state k t.contract t.quantity ≡ false
-
-not_over : (size : ℤ) (more : ℕ) → IsNet size → int_lt (pos (10 ^ 7)) (size +ℤ pos more) ≡ false → IsNet (size +ℤ pos more)
-not_over size more small room = grind (arith, ints, room)
 
 pub trade-roomy : (set' : Tables) (f : BookState) (k i : ℕ) (a : AccountState) (r : Row) (t : Trade) → Trading set' f k i a r t → IsRoomy (lot_change i t.quantity t.premium) r
 trade-roomy set' f k i a r t trading =

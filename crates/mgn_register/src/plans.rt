@@ -173,8 +173,8 @@ impl Register {
         )
     }
 
-    /// What a command changes in the rows of margin units, where nothing but want of room refuses it. The rows can change so.
-    /// It takes no memory.
+    /// What a command changes in the rows of margin units, where nothing but want of room refuses it. The rows can
+    /// change so. It takes no memory.
     pub fn plan(&self, set: &ParamSet, command: &Command) -> Plan
         requires { IsKept set.now self.now }
         ensures plan { result ≡ plan_of set.now self.now.state command.now }

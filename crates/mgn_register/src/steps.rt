@@ -53,9 +53,9 @@ fn answer_of(done: Result<(), Fault>) -> Result<Reply, Fault>
     }
 }
 
-/// One step of the machine under a set; where memory is refused, or a statement told, nothing has changed. What the units
-/// of its plan require may be known before: where all of it is, nothing is worked out here. What the plan found is not looked
-/// for again.
+/// One step of the machine under a set; where memory is refused, or a statement told, nothing has changed. What the
+/// units of its plan require may be known before: where all of it is, nothing is worked out here. What the plan found
+/// is not looked for again.
 #[tactic(auto, using(crate::proofs::Answered::answered_by, crate::proofs::Following::leaves_by))]
 pub fn step(
     register: &mut Register,

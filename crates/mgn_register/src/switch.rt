@@ -66,8 +66,8 @@ fn gain_of(gains: &[Cents], unit: usize) -> Cents
     gains[unit]
 }
 
-// The row of a unit under the new set of a switch, with what was prepared of it, if anything was. That is not compared where
-// it is known to be for the nets that the unit has.
+// The row of a unit under the new set of a switch, with what was prepared of it, if anything was. That is not compared
+// where it is known to be for the nets that the unit has.
 fn row_by(
     alloc: Global,
     row: &Row,
@@ -92,8 +92,8 @@ fn row_by(
     }
 }
 
-// The amounts of a unit under the new set of a switch in which each contract keeps its place, with what was prepared of it, if
-// anything was.
+// The amounts of a unit under the new set of a switch in which each contract keeps its place, with what was prepared of
+// it, if anything was.
 fn amounts_by(
     alloc: Global,
     row: &Row,
@@ -286,10 +286,10 @@ impl Register {
         Ok(NewRows::Moved(rows))
     }
 
-    /// What the rows of all units become under another set, or why it may not come into force. Nothing changes. Memory is asked for
-    /// only where it may. What was prepared of units under that set, by their numbers, is taken where a
-    /// unit's nets are still the same, which is looked at unless it is known; any other unit is worked out anew. Where it is so of
-    /// all units no risk array is read.
+    /// What the rows of all units become under another set, or why it may not come into force. Nothing changes. Memory
+    /// is asked for only where it may. What was prepared of units under that set, by their numbers, is taken where a
+    /// unit's nets are still the same, which is looked at unless it is known; any other unit is worked out anew. Where
+    /// it is so of all units no risk array is read.
     pub fn rows_under(
         &self,
         alloc: Global,
@@ -314,8 +314,8 @@ impl Register {
         Ok(self.rows_of(alloc, old, new, units, current, work)?)
     }
 
-    /// Another set is in force, under which the rows of all units become these; where they are made anew those before are
-    /// handed out. Gives how many units are on call.
+    /// Another set is in force, under which the rows of all units become these; where they are made anew those before
+    /// are handed out. Gives how many units are on call.
     pub fn put_in_force(&mut self, rows: NewRows, version: Version, spent: &mut Vec<Row>) -> u32
         requires fit { FitRows rows self.old.rows }
         requires few { (after : List UnitRow) → AreAfter rows self.old.rows after → length after ≤ 1024 }

@@ -14,9 +14,9 @@ use mgn_unit::PreparedUnits;
 use std::alloc::{AllocError, Global};
 use std::marker::Model;
 
-/// A book over a shelf of one thread, all of whose commands come from session 1. Contracts see the sets of the shelf, by
-/// version, and the book's day. The desks of its units stand beside it, so that what a command requires is not worked out
-/// anew.
+/// A book over a shelf of one thread, all of whose commands come from session 1. Contracts see the sets of the shelf,
+/// by version, and the book's day. The desks of its units stand beside it, so that what a command requires is not
+/// worked out anew.
 #[derive(Drop)]
 pub struct Plain {
     alloc: Global,
@@ -101,7 +101,8 @@ impl Plain {
         )
     }
 
-    // One switch in session 1. The desks stay as they are: one of an older version is marked anew when it is next asked for.
+    // One switch in session 1. The desks stay as they are: one of an older version is marked anew when it is next asked
+    // for.
     #[inline(never)]
     fn commit_switch(&mut self, number: u64, set: ParamSet) -> Outcome
         requires { number ≡ calls 1 self.old.day.history + 1 }

@@ -10,10 +10,10 @@ use mgn_session::{Conversation, SessionFault, SetSource, run_lines};
 use std::alloc::Global;
 use std::io::{Read, Write};
 
-/// Answers a script in a book before its first command, as `run_lines` does, and gives the number of lines. What goes out
-/// are the texts of the machine's replies to the lines, in order, where a `SWITCH` asks for the set of the file that the
-/// source gives. A reply without a place may stand in the place of one where memory could not be had or the history is
-/// full, and then that request is no step.
+/// Answers a script in a book before its first command, as `run_lines` does, and gives the number of lines. What goes
+/// out are the texts of the machine's replies to the lines, in order, where a `SWITCH` asks for the set of the file
+/// that the source gives. A reply without a place may stand in the place of one where memory could not be had or the
+/// history is full, and then that request is no step.
 pub fn run_script<R: Read, W: Write, S: SetSource>(
     alloc: Global,
     talk: &mut Conversation<R, W>,

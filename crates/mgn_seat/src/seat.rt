@@ -39,7 +39,8 @@ impl<'s, 'a, R: Wait, T: Image, J: TableName + SlotNames, G: Gate, W: Switches> 
     G,
     W,
 > {
-    /// The seat of a pass of this service, whose calls pass the gate, and whose switches are worked out by these workers.
+    /// The seat of a pass of this service, whose calls pass the gate, and whose switches are worked out by these
+    /// workers.
     pub fn new(
         rt: &'s R,
         service: &'s Service<'a, T, J>,
@@ -73,8 +74,8 @@ impl<'s, 'a, R: Wait, T: Image, J: TableName + SlotNames, G: Gate, W: Switches> 
     }
 }
 
-/// What is answered with a place stands last in the pass's transcript. Whether the history is full or the service closed only
-/// the service knows, since other sessions use it too; so either may be answered at any time.
+/// What is answered with a place stands last in the pass's transcript. Whether the history is full or the service
+/// closed only the service knows, since other sessions use it too; so either may be answered at any time.
 impl<'s, 'a, R: Wait, T: Image, J: TableName + SlotNames, G: Gate, W: Switches> Exec
     for Seat<'s, 'a, R, T, J, G, W> {
     ghost use Rattle.mgn_ledger.specs.Ledgers.{Answers};

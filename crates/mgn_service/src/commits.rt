@@ -39,8 +39,8 @@ pub(crate) fn is_as_seen<'a, T: Image, J: TableName + SlotNames>(
     ledger.is_since(now.unit, sight.stamp())
 }
 
-/// The commit of a command of one unit, whose desk has moved as it was looked at. No list of nets is compared, and nothing is
-/// worked out.
+/// The commit of a command of one unit, whose desk has moved as it was looked at. No list of nets is compared, and
+/// nothing is worked out.
 pub(crate) fn commit<'a, R: Wait, T: Image, J: TableName + SlotNames>(
     rt: &R,
     ledger: &mut Ledger<'a, T, J>,

@@ -1,5 +1,5 @@
-//! A book that sessions on threads of their own share: each command goes by desks under locks of their units, and holds the
-//! book's lock for its steps alone.
+//! A book that sessions on threads of their own share: each command goes by desks under locks of their units, and holds
+//! the book's lock for its steps alone.
 #![tactic(auto)]
 
 mod commits;

@@ -27,8 +27,8 @@ pub(crate) enum Looked<'a, T: Image, J: SlotNames> {
     Apart,
 }
 
-// What a call needs of one of its units: what its command changes there, the set in force, what shows the unit's nets, and a
-// copy of these unless this stamp shows them. `Memory`, or `Broken`.
+// What a call needs of one of its units: what its command changes there, the set in force, what shows the unit's nets,
+// and a copy of these unless this stamp shows them. `Memory`, or `Broken`.
 pub(crate) fn sight<'a, T: Image, J: TableName + SlotNames>(
     alloc: Global,
     ledger: &Ledger<'a, T, J>,
@@ -60,8 +60,8 @@ pub(crate) fn sight<'a, T: Image, J: TableName + SlotNames>(
     Ok(Sight::new(seen, version, set, stamp, Some(nets)))
 }
 
-/// Looks at a command of one unit, whose desk has this stamp. Where the command changes no portfolio it is committed in the
-/// same holding.
+/// Looks at a command of one unit, whose desk has this stamp. Where the command changes no portfolio it is committed in
+/// the same holding.
 #[tactic(auto, using(mgn_register::proofs::Foreseen::foresees_nothing))]
 pub(crate) fn look<'a, R: Wait, T: Image, J: TableName + SlotNames>(
     rt: &R,

@@ -1,4 +1,5 @@
-//! Transfers between two units: a look at both in one holding of the book's lock, and the commit once both desks have moved.
+//! Transfers between two units: a look at both in one holding of the book's lock, and the commit once both desks have
+//! moved.
 
 ghost use Rattle.std.specs.Prelude.{◌≡◌, IfErr, IfOk};
 ghost use Rattle.mgn_plan.specs.Plans.{CanChange};
@@ -58,7 +59,8 @@ fn both_sights<'a, T: Image, J: TableName + SlotNames>(
     })
 }
 
-/// Looks at a transfer between the units of two desks. Where it changes no portfolio it is committed in the same holding.
+/// Looks at a transfer between the units of two desks. Where it changes no portfolio it is committed in the same
+/// holding.
 #[tactic(auto, using(mgn_register::proofs::Foreseen::foresees_nothing))]
 pub(crate) fn look_at_both<'a, R: Wait, T: Image, J: TableName + SlotNames>(
     rt: &R,
@@ -92,8 +94,8 @@ pub(crate) fn look_at_both<'a, R: Wait, T: Image, J: TableName + SlotNames>(
     }
 }
 
-/// The commit of a transfer between two units, whose desks have moved as they were looked at. No list of nets is compared, and
-/// nothing is worked out.
+/// The commit of a transfer between two units, whose desks have moved as they were looked at. No list of nets is
+/// compared, and nothing is worked out.
 pub(crate) fn commit_both<'a, R: Wait, T: Image, J: TableName + SlotNames>(
     rt: &R,
     ledger: &mut Ledger<'a, T, J>,

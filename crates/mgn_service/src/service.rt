@@ -31,8 +31,9 @@ const MOST_DESKS: usize = 1024;
 /// How often a call looks at the book at most.
 pub(crate) const MOST_LOOKS: u8 = 65;
 
-/// A book that sessions on threads of their own share: the book under one lock, and the desk of each margin unit under a lock
-/// of its own. Locks of units are taken in rising number, then that of the book, and none while the book's is held.
+/// A book that sessions on threads of their own share: the book under one lock, and the desk of each margin unit under
+/// a lock of its own. Locks of units are taken in rising number, then that of the book, and none while the book's is
+/// held.
 #[derive(Drop)]
 pub struct Service<'a, T: Image, J: TableName + SlotNames> {
     pub(crate) alloc: Global,
@@ -89,8 +90,8 @@ fn empty_desks<'a, T: Image, J: SlotNames>(
 }
 
 impl<'a, T: Image, J: TableName + SlotNames> Service<'a, T, J> {
-    /// A service before its first command, under its first set. Up to so many workers, 1 to 64, share the units of a switch.
-    /// An error says that memory was refused.
+    /// A service before its first command, under its first set. Up to so many workers, 1 to 64, share the units of a
+    /// switch. An error says that memory was refused.
     pub fn new<R: Wait>(
         rt: &R,
         alloc: Global,
@@ -122,9 +123,10 @@ impl<'a, T: Image, J: TableName + SlotNames> Service<'a, T, J> {
         self.ledger.lock(rt).pass()
     }
 
-    /// One command of a pass. Where the answer has a place, the pass's calls are those before with this one last, and there is a
-    /// legal history, beginning with all that the pass had seen, whose entries of this session are just these, at their places.
-    /// Without a place the pass is as it was: memory was refused, the history is full, or the service is closed.
+    /// One command of a pass. Where the answer has a place, the pass's calls are those before with this one last, and
+    /// there is a legal history, beginning with all that the pass had seen, whose entries of this session are just
+    /// these, at their places. Without a place the pass is as it was: memory was refused, the history is full, or the
+    /// service is closed.
     pub fn exec<R: Wait, G: Gate>(
         &self,
         rt: &R,
@@ -148,9 +150,9 @@ impl<'a, T: Image, J: TableName + SlotNames> Service<'a, T, J> {
         }
     }
 
-    /// One switch of a pass to a set, as `exec` has it for a command. What units require under the set is worked out by the
-    /// service's workers on copies of their nets; the book's lock is held while the nets are copied, and for the commit, which
-    /// works out only units whose nets are others by then.
+    /// One switch of a pass to a set, as `exec` has it for a command. What units require under the set is worked out by
+    /// the service's workers on copies of their nets; the book's lock is held while the nets are copied, and for the
+    /// commit, which works out only units whose nets are others by then.
     #[inline(never)]
     pub fn switch<R: Threads + Wait + Sync, G: Gate + Sync>(
         &self,
@@ -333,8 +335,8 @@ impl<'a, T: Image, J: TableName + SlotNames> Service<'a, T, J> {
         self.ledger.lock(rt).plain_count()
     }
 
-    /// How many units had a requirement worked out in the book for a set that came into force, since their nets were others by
-    /// then than those that the workers had. It stays at its greatest value.
+    /// How many units had a requirement worked out in the book for a set that came into force, since their nets were
+    /// others by then than those that the workers had. It stays at its greatest value.
     pub fn late_count(&self, rt: &impl Wait) -> u64 {
         self.ledger.lock(rt).late_count()
     }
@@ -344,8 +346,8 @@ impl<'a, T: Image, J: TableName + SlotNames> Service<'a, T, J> {
         self.marks.load(Ordering::SeqCst)
     }
 
-    /// Ends the service, and gives how many entries its history has, where the passes are those that were made, each once, and
-    /// it has just their calls.
+    /// Ends the service, and gives how many entries its history has, where the passes are those that were made, each
+    /// once, and it has just their calls.
     pub fn close(self, passes: Vec<Pass<'a, T, J>>) -> Result<u64, AuditFault>
         ensures { IfOk result (λ entries. (sets : List Tables) × (history : List Entry)
             × AreAudited sets history passes.entry.items entries) }

@@ -148,7 +148,8 @@ impl<'a, T: Image, J: TableName + SlotNames> Service<'a, T, J> {
         tried
     }
 
-    // Marks each of two desks with the nets that were looked at, unless it has them. An error says that memory was refused.
+    // Marks each of two desks with the nets that were looked at, unless it has them. An error says that memory was
+    // refused.
     fn ready_both(
         &self,
         giver: &mut UnitDesk<'a, T, J>,

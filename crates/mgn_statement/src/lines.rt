@@ -49,8 +49,8 @@ fn line_of(set: &ParamSet, commodity: usize, figures: &CommodityFigures) -> Comm
     }
 }
 
-#[tactic(auto, using(mgn_span::proofs::ScanLemmas::active_small), unfolding(mgn_machine::specs::Statements::commodity_lines, mgn_plain::specs::Figures::commodity_figures))]
 /// The figures of the commodities in which a net is not 0, in file order.
+#[tactic(auto, using(mgn_span::proofs::ScanLemmas::active_small), unfolding(mgn_machine::specs::Statements::commodity_lines, mgn_plain::specs::Figures::commodity_figures))]
 pub(crate) fn commodity_lines(
     alloc: Global,
     set: &ParamSet,
@@ -73,8 +73,8 @@ pub(crate) fn commodity_lines(
     Ok(lines)
 }
 
-#[tactic(auto, using(std::proofs::lemmas::List::Elements::filter_more, crate::proofs::Lists::count_room))]
 /// The live lots, in order of entry.
+#[tactic(auto, using(std::proofs::lemmas::List::Elements::filter_more, crate::proofs::Lists::count_room))]
 pub(crate) fn live_lots(alloc: Global, lots: &[Lot]) -> Result<Vec<Lot>, AllocError>
     ensures { IfOk result (λ live. live.items ≡ filter (λ (x : LotValue). is_live x.mark) lots.now) }
 {
@@ -101,8 +101,8 @@ fn class_line(class: &Class, units: u64) -> ClassLine
     }
 }
 
-#[tactic(auto, using(crate::proofs::Lists::kept_more, crate::proofs::Lists::left_more, crate::proofs::Lists::count_room), unfolding(mgn_machine::specs::Statements::class_lines))]
 /// The classes of which units are posted, in file order.
+#[tactic(auto, using(crate::proofs::Lists::kept_more, crate::proofs::Lists::left_more, crate::proofs::Lists::count_room), unfolding(mgn_machine::specs::Statements::class_lines))]
 pub(crate) fn class_lines(
     alloc: Global,
     set: &ParamSet,

@@ -24,7 +24,7 @@ use Rattle.mgn_machine.specs.declared.command.Fill.{Fill}
 use Rattle.mgn_machine.specs.Holding.{fill_of}
 use Rattle.mgn_machine.specs.Portfolios.{Portfolio, OnlyLots, WithBuys, WithSales, WithAll, account_net, account_worth}
 use Rattle.mgn_unit.proofs.AccountMoves.{traded-moves}
-use Rattle.mgn_unit.proofs.HoldMoves.{HoldsMove, side_is, size_in, holds-moves, remove-moves, All-removed}
+use Rattle.mgn_unit.proofs.HoldMoves.{HoldsMove, side_is, size_in, holds-moves, remove-moves, All-removed, negated-if, negated-if_both}
 
 -- A part of a hold.
 
@@ -56,14 +56,6 @@ counted-part : (b : Bool) (whole part rest : ℕ) → whole ≡ part + rest → 
 counted-part true whole part rest e = omega (arith, ints, e)
 counted-part false whole part rest e = omega (arith, ints)
 
-negated : (b : Bool) (z : ℤ) → (if b then neg_ℤ z else pos 0) ≡ neg_ℤ (if b then z else pos 0)
-negated true z = refl
-negated false z = omega (arith, ints)
-
-negated-by : (b t : Bool) (z : ℤ) → (if b then (if t then neg_ℤ z else pos 0) else pos 0) ≡ neg_ℤ (if b then (if t then z else pos 0) else pos 0)
-negated-by true t z = negated t z
-negated-by false t z = omega (arith, ints)
-
 -- part of a hold less
 lessen-moves : (old : List Held) (j : ℕ) (x : Held) (q : ℤ) → j < length old → x ≡ get_or old j x → covers x q ≡ true → q ≢ x.quantity → HoldsMove x.contract (is_buy q) (neg_ℤ q) (q *ℤ pos x.limit) (neg_ℤ (pos (unsigned_abs q))) old (set old j (lessened x q))
 lessen-moves old j x q inside is c part = record {
@@ -74,7 +66,7 @@ lessen-moves old j x q inside is c part = record {
         signed_sum_by-set (held_share side d) old j (lessened x q) x inside,
         ap (held_share side d) is,
         share-part side d x q (same-side x q c part).0 (same-side x q c part).1,
-        negated-by (bytes_eq x.contract d) (side_is side (is_buy q)) q,
+        negated-if_both (bytes_eq x.contract d) (side_is side (is_buy q)) q,
       );
   premium_is = λ side. omega (arith, ints, premium-lessened side old j x q inside is c part, cost-by side q x.limit);
   size_is = λ d.
@@ -84,7 +76,7 @@ lessen-moves old j x q inside is c part = record {
         sum_by-set (size_in d) old j (lessened x q) x inside,
         ap (size_in d) is,
         counted-part (bytes_eq x.contract d) (unsigned_abs x.quantity) (unsigned_abs q) (unsigned_abs (x.quantity -ℤ q)) (size-part x q c),
-        negated (bytes_eq x.contract d) (pos (unsigned_abs q)),
+        negated-if (bytes_eq x.contract d) (pos (unsigned_abs q)),
       );
 }
 
@@ -109,7 +101,7 @@ filled-moves old j q inside c = by (int_eq q x.quantity) refl
 pub fill-moves : (set' : Tables) (a : AccountState) (i j : ℕ) (f : Fill) → j < length a.holds → covers (hold_at a.holds j) f.quantity ≡ true → Moves set' (hold_at a.holds j).contract (fill_change i f.quantity (hold_at a.holds j).limit f.premium) a (fill_of a j f)
 fill-moves set' a i j f inside c = record {
   unit = refl;
-  size = λ d. omega (arith, ints, off.size d, on.size d, negated (bytes_eq x.contract d) (pos (unsigned_abs f.quantity)), none (bytes_eq x.contract d));
+  size = λ d. omega (arith, ints, off.size d, on.size d, negated-if (bytes_eq x.contract d) (pos (unsigned_abs f.quantity)), none (bytes_eq x.contract d));
   net = λ p d. nets p d (is_buy f.quantity) (bytes_eq x.contract d) (off.net p d) (on.net p d);
   worth = λ p. worths p (is_buy f.quantity) (off.worth p) (on.worth p);
 }

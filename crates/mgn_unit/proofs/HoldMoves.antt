@@ -99,13 +99,13 @@ cost-is : (side : Side) (x : Held) → held_cost side x ≡ (if side_is side (is
 cost-is Buys x = refl
 cost-is Sales x = refl
 
-negated-cost : (b : Bool) (z : ℤ) → (if b then neg_ℤ z else pos 0) ≡ neg_ℤ (if b then z else pos 0)
-negated-cost true z = refl
-negated-cost false z = omega (arith, ints)
+pub negated-if : (b : Bool) (z : ℤ) → (if b then neg_ℤ z else pos 0) ≡ neg_ℤ (if b then z else pos 0)
+negated-if true z = refl
+negated-if false z = omega (arith, ints)
 
-negated-share : (b t : Bool) (z : ℤ) → (if b then (if t then neg_ℤ z else pos 0) else pos 0) ≡ neg_ℤ (if b then (if t then z else pos 0) else pos 0)
-negated-share true t z = negated-cost t z
-negated-share false t z = omega (arith, ints)
+pub negated-if_both : (b t : Bool) (z : ℤ) → (if b then (if t then neg_ℤ z else pos 0) else pos 0) ≡ neg_ℤ (if b then (if t then z else pos 0) else pos 0)
+negated-if_both true t z = negated-if t z
+negated-if_both false t z = omega (arith, ints)
 
 counted : (b : Bool) (z : ℤ) → pos (if b then unsigned_abs z else 0) ≡ (if b then pos (unsigned_abs z) else pos 0)
 counted true z = refl
@@ -115,7 +115,7 @@ counted false z = refl
 pub push-moves : (old : List Held) (x : Held) → HoldsMove x.contract (is_buy x.quantity) x.quantity (neg_ℤ (x.quantity *ℤ pos x.limit)) (pos (unsigned_abs x.quantity)) old (old ++ x ∷ [])
 push-moves old x = record {
   net = λ side c. signed_sum_by-push (held_share side c) old x ∙ ap (λ (z : ℤ). held_net side c old +ℤ z) (share-is side x c);
-  premium_is = λ side. omega (arith, ints, signed_sum_by-push (held_cost side) old x, cost-is side x, negated-cost (side_is side (is_buy x.quantity)) (x.quantity *ℤ pos x.limit));
+  premium_is = λ side. omega (arith, ints, signed_sum_by-push (held_cost side) old x, cost-is side x, negated-if (side_is side (is_buy x.quantity)) (x.quantity *ℤ pos x.limit));
   size_is = λ c. omega (arith, ints, sum_by_push (size_in c) old x, counted (bytes_eq x.contract c) x.quantity);
 }
 
@@ -123,10 +123,10 @@ push-moves old x = record {
 pub remove-moves : (old : List Held) (j : ℕ) (x : Held) → j < length old → x ≡ get_or old j x → HoldsMove x.contract (is_buy x.quantity) (neg_ℤ x.quantity) (x.quantity *ℤ pos x.limit) (neg_ℤ (pos (unsigned_abs x.quantity))) old (remove old j)
 remove-moves old j x inside is = record {
   net = λ side c.
-      omega (arith, ints, signed_sum_by-remove (held_share side c) old j x inside, ap (held_share side c) is, share-is side x c, negated-share (bytes_eq x.contract c) (side_is side (is_buy x.quantity)) x.quantity);
+      omega (arith, ints, signed_sum_by-remove (held_share side c) old j x inside, ap (held_share side c) is, share-is side x c, negated-if_both (bytes_eq x.contract c) (side_is side (is_buy x.quantity)) x.quantity);
   premium_is = λ side. omega (arith, ints, signed_sum_by-remove (held_cost side) old j x inside, ap (held_cost side) is, cost-is side x);
   size_is = λ c.
-      omega (arith, ints, sum_by-remove (size_in c) old j x inside, ap (size_in c) is, counted (bytes_eq x.contract c) x.quantity, negated-cost (bytes_eq x.contract c) (pos (unsigned_abs x.quantity)));
+      omega (arith, ints, sum_by-remove (size_in c) old j x inside, ap (size_in c) is, counted (bytes_eq x.contract c) x.quantity, negated-if (bytes_eq x.contract c) (pos (unsigned_abs x.quantity)));
 }
 
 -- The commands.

@@ -1,10 +1,19 @@
 -- What was prepared of margin units, beside the nets that it was worked out from.
-use Rattle.std.specs.Prelude.{ℕ, ◌≡◌, ◌<◌, Bool, IsSomeAnd, List, None, Option, Some, false, length, slice_index_or, true}
+use Rattle.std.specs.Prelude.{ℕ, ℤ, ◌≡◌, ◌<◌, All, Bool, IsSomeAnd, List, None, Option, Some, false, length, slice_index_or, true}
 use Rattle.mgn_params.specs.Tables.{Tables}
 use Rattle.mgn_nets.specs.Portfolios.{UnitNets}
+use Rattle.mgn_unit.specs.declared.row.PricedNets.{PricedNets}
 use Rattle.mgn_unit.specs.declared.row.Row.{Row}
-use Rattle.mgn_unit.specs.NewSets.{PreparedUnit, carried}
+use Rattle.mgn_unit.specs.NewSets.{IsRequired, PreparedUnit, carried}
 use Rattle.mgn_unit.specs.Rows.{nets_in}
+
+-- what each of these nets requires under a set was worked out
+abbrev pub ArePriced : Tables → List PricedNets → Type 0
+ArePriced set others = All (λ (it : PricedNets). IsRequired set it.nets.now it.requirement) others
+
+-- these nets are among others of which that is known
+abbrev pub IsBeside : List ℤ → List PricedNets → Type 0
+IsBeside nets others = (k : ℕ) × (d : PricedNets) × (k < length others) × ((slice_index_or others k d).nets.now ≡ nets)
 
 -- what was prepared of a unit stands beside the nets that it was worked out from, by the contracts' names
 pub record AreCarried (old new : Tables) (nets : UnitNets) (prepared : PreparedUnit) : Type 0 where

@@ -1,15 +1,16 @@
 //! What changes of a unit under another set where each contract keeps its place: worths and requirements alone.
 
 ghost use Rattle.std.specs.Prelude.{◌≡◌, ◌≤◌, ◌^◌, ◌+ℤ◌, ◌↔◌, IfOk, IfSome, IsSome, IsTrue, unsigned_abs};
+ghost use Rattle.mgn_params.specs.Tables.{Tables};
 ghost use Rattle.mgn_nets.specs.Portfolios.{AreNets};
 ghost use Rattle.mgn_unit.specs.Amounts.{AreRequired, KeepsPlaces, amounts_with, portfolio_with_amounts, row_with_amounts};
 ghost use Rattle.mgn_unit.specs.NewSets.{AreWorths, IsPrepared, IsPreparedPortfolio, IsRequired, carried, row_under};
-ghost use Rattle.mgn_unit.specs.Prepared.{AreCarried};
+ghost use Rattle.mgn_unit.specs.Prepared.{AreCarried, ArePriced, IsBeside};
 ghost use Rattle.mgn_unit.specs.Rows.{IsPortfolioRow, IsRow, nets_in, row_with_worth};
 
 use crate::new_set::Switch;
 use crate::prepared::{required, required_beside};
-use crate::row::{PortfolioRow, PreparedPortfolio, PreparedUnit, Priced, Row};
+use crate::row::{PortfolioRow, PreparedPortfolio, PreparedUnit, Priced, PricedNets, Row};
 use mgn_nets::{Nets, Portfolios};
 use mgn_num::Cents;
 use mgn_params::Work;
@@ -57,8 +58,8 @@ fn prepared_requirement(
 }
 
 impl PortfolioRow {
-    // What the portfolio requires under the new set of a switch in which each contract keeps its place. What was prepared is
-    // taken where it was for its nets.
+    // What the portfolio requires under the new set of a switch in which each contract keeps its place. What was
+    // prepared is taken where it was for its nets.
     fn required_by(
         &self,
         alloc: Global,
@@ -80,29 +81,28 @@ impl PortfolioRow {
         }
     }
 
-    // The same beside other nets, for which it was worked out already.
+    // The same beside other nets for which it was worked out already.
     fn required_by_beside(
         &self,
         alloc: Global,
         switch: &Switch,
         prepared: &PreparedPortfolio,
         is_current: bool,
-        other: &Nets,
-        known: Cents,
+        others: &[PricedNets],
         work: &mut Work,
     ) -> Result<Cents, AllocError>
         requires nets { AreNets switch.now.old self.now.nets }
         requires keeps { KeepsPlaces switch.now.old switch.now.new }
         requires prepared { IsPreparedPortfolio switch.now.new prepared.now }
         requires current { IsTrue is_current → prepared.now.nets ≡ carried switch.now.old switch.now.new self.now.nets }
-        requires other { IsRequired switch.now.new other.now known }
+        requires others { ArePriced switch.now.new others.now }
         ensures required { IfOk result (IsRequired switch.now.new self.now.nets) }
         ensures idle { prepared.now.nets ≡ carried switch.now.old switch.now.new self.now.nets → work.new ≡ work.old }
-        ensures alike { other.now ≡ self.now.nets → work.new ≡ work.old }
+        ensures alike { IsBeside self.now.nets others.now → work.new ≡ work.old }
     {
         match prepared_requirement(switch, &self.nets, prepared, is_current) {
             Some(requirement) => Ok(requirement),
-            None => required_beside(alloc, switch.new_set(), &self.nets, other, known, work),
+            None => required_beside(alloc, switch.new_set(), &self.nets, others, work),
         }
     }
 
@@ -139,6 +139,18 @@ impl Row {
         }
     }
 
+    // The nets beside which those with all holds are looked at: where one side alone is held, they are that side's.
+    fn priced_before_all(&self, lots: Cents, buys: Cents, sales: Cents) -> [PricedNets<'_>; 3]
+        ensures { (set : Tables) → IsRequired set self.now.lots.nets lots → IsRequired set self.now.buys.nets buys →
+            IsRequired set self.now.sales.nets sales → ArePriced set result }
+    {
+        [
+            self.buys.priced_at(buys),
+            self.sales.priced_at(sales),
+            self.lots.priced_at(lots),
+        ]
+    }
+
     // What the portfolios require under the new set of a switch in which each contract keeps its place.
     fn requirements_under(
         &self,
@@ -151,11 +163,12 @@ impl Row {
         ensures { IfOk result (AreRequired switch.now.new self.now) }
     {
         let set = switch.new_set();
-        let first = &self.lots.nets;
-        let lots = required(alloc, set, first, work)?;
-        let buys = required_beside(alloc, set, &self.buys.nets, first, lots, work)?;
-        let sales = required_beside(alloc, set, &self.sales.nets, first, lots, work)?;
-        let all = required_beside(alloc, set, &self.all.nets, first, lots, work)?;
+        let lots = required(alloc, set, &self.lots.nets, work)?;
+        let first = [self.lots.priced_at(lots)];
+        let buys = required_beside(alloc, set, &self.buys.nets, &first, work)?;
+        let sales = required_beside(alloc, set, &self.sales.nets, &first, work)?;
+        let others = self.priced_before_all(lots, buys, sales);
+        let all = required_beside(alloc, set, &self.all.nets, &others, work)?;
         Ok(Priced {
             lots,
             buys,
@@ -180,37 +193,20 @@ impl Row {
         ensures required { IfOk result (AreRequired switch.now.new self.now) }
         ensures idle { AreCarried switch.now.old switch.now.new (nets_in self.now) prepared.now → work.new ≡ work.old }
     {
-        let first = &self.lots.nets;
         let lots = self
             .lots
             .required_by(alloc, switch, &prepared.lots, is_current, work)?;
-        let buys = self.buys.required_by_beside(
-            alloc,
-            switch,
-            &prepared.buys,
-            is_current,
-            first,
-            lots,
-            work,
-        )?;
-        let sales = self.sales.required_by_beside(
-            alloc,
-            switch,
-            &prepared.sales,
-            is_current,
-            first,
-            lots,
-            work,
-        )?;
-        let all = self.all.required_by_beside(
-            alloc,
-            switch,
-            &prepared.all,
-            is_current,
-            first,
-            lots,
-            work,
-        )?;
+        let first = [self.lots.priced_at(lots)];
+        let buys = self
+            .buys
+            .required_by_beside(alloc, switch, &prepared.buys, is_current, &first, work)?;
+        let sales = self
+            .sales
+            .required_by_beside(alloc, switch, &prepared.sales, is_current, &first, work)?;
+        let others = self.priced_before_all(lots, buys, sales);
+        let all = self
+            .all
+            .required_by_beside(alloc, switch, &prepared.all, is_current, &others, work)?;
         Ok(Priced {
             lots,
             buys,
@@ -219,8 +215,8 @@ impl Row {
         })
     }
 
-    /// The amounts of the unit under the new set of a switch in which each contract keeps its place, `gain` being how much
-    /// more the unit's collateral is worth there. An error says that memory was refused.
+    /// The amounts of the unit under the new set of a switch in which each contract keeps its place, `gain` being how
+    /// much more the unit's collateral is worth there. An error says that memory was refused.
     pub fn amounts_under(
         &self,
         alloc: Global,
@@ -238,8 +234,8 @@ impl Row {
         Ok(self.amounts(gain, &priced))
     }
 
-    /// The same by what was prepared of the unit: requirements that were prepared are taken where its nets are still the
-    /// same, which is looked at unless it is known, and any other is worked out anew.
+    /// The same by what was prepared of the unit: requirements that were prepared are taken where its nets are still
+    /// the same, which is looked at unless it is known, and any other is worked out anew.
     pub fn amounts_by(
         &self,
         alloc: Global,

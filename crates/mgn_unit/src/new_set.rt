@@ -7,13 +7,13 @@ ghost use Rattle.mgn_span.specs.Scan.{value_at};
 ghost use Rattle.mgn_nets.specs.Portfolios.{AreNets};
 ghost use Rattle.mgn_machine.specs.State.{AccountState};
 ghost use Rattle.mgn_unit.specs.Rows.{IsRow, IsPortfolioRow, nets_in, row_with_worth};
-ghost use Rattle.mgn_unit.specs.Prepared.{AreCarried};
+ghost use Rattle.mgn_unit.specs.Prepared.{AreCarried, ArePriced, IsBeside};
 ghost use Rattle.mgn_unit.specs.Amounts.{KeepsPlaces};
 ghost use Rattle.mgn_unit.specs.NewSets.{AreWorths, IsPrepared, IsPreparedPortfolio, PreparedUnit, SetPair, carried, is_covered, is_covered_at, own_places, portfolio_under, row_on_call, row_under, unit_gain, value_gain};
 
 use crate::account::Account;
 use crate::prepared::{prepare, prepare_beside};
-use crate::row::{PortfolioRow, PreparedPortfolio, PreparedUnit, Row};
+use crate::row::{PortfolioRow, PreparedPortfolio, PreparedUnit, PricedNets, Row};
 use mgn_nets::{Nets, Portfolios};
 use mgn_num::{Cents, Quantity};
 use mgn_params::{ParamSet, Work};
@@ -105,8 +105,8 @@ impl<'a> Switch<'a> {
         self.new
     }
 
-    /// How much more the collateral of each unit's accounts is worth under the new set, in cents, by the units' numbers;
-    /// below 0 where it is worth less. Each account is looked at once. An error says that memory was refused.
+    /// How much more the collateral of each unit's accounts is worth under the new set, in cents, by the units'
+    /// numbers; below 0 where it is worth less. Each account is looked at once. An error says that memory was refused.
     pub fn gains(
         &self,
         alloc: Global,
@@ -289,39 +289,31 @@ impl PortfolioRow {
         }
     }
 
-    // The same beside another portfolio under the new set.
+    // The same beside nets under the new set for which it was worked out already.
     fn under_beside(
         &self,
         alloc: Global,
         switch: &Switch,
         gain: Cents,
         prepared: Option<PreparedPortfolio>,
-        other: &PortfolioRow,
+        others: &[PricedNets],
         work: &mut Work,
     ) -> Result<PortfolioRow, AllocError>
         requires side { IsPortfolioRow switch.now.old self.now }
         requires worth { unsigned_abs (self.now.worth +ℤ gain) ≤ 10 ^ 24 }
         requires prepared { IfSome prepared (IsPreparedPortfolio switch.now.new) }
-        requires other { IsPortfolioRow switch.now.new other.now }
-        requires priced { other.now.requirement ≡ requirement switch.now.new other.now.nets }
+        requires others { ArePriced switch.now.new others.now }
         ensures side { IfOk result (λ side. side ≡ portfolio_under switch.now.old switch.now.new gain self.now) }
         ensures limits { IfOk result (λ side. IsPortfolioRow switch.now.new side) }
         ensures idle { IsSomeAnd prepared (λ it. it.nets ≡ carried switch.now.old switch.now.new self.now.nets)
             → work.new ≡ work.old }
-        ensures alike { other.now.nets ≡ carried switch.now.old switch.now.new self.now.nets → work.new ≡ work.old }
+        ensures alike { IsBeside (carried switch.now.old switch.now.new self.now.nets) others.now → work.new ≡ work.old }
     {
         match still_prepared(switch, &self.nets, prepared) {
             Some(prepared) => Ok(self.with(gain, prepared)),
             None => Ok(self.with(
                 gain,
-                prepare_beside(
-                    alloc,
-                    switch,
-                    &self.nets,
-                    &other.nets,
-                    other.requirement,
-                    work,
-                )?,
+                prepare_beside(alloc, switch, &self.nets, others, work)?,
             )),
         }
     }
@@ -354,8 +346,8 @@ fn parts_of(prepared: Option<PreparedUnit>) -> Portfolios<Option<PreparedPortfol
 
 impl Row {
     /// The row under the new set of a switch, `gain` being how much more the unit's collateral is worth there: nets and
-    /// sizes by the contracts' names. Nets and requirement that were prepared become its own where its nets are still the
-    /// same, any other is worked out anew. An error says that memory was refused.
+    /// sizes by the contracts' names. Nets and requirement that were prepared become its own where its nets are still
+    /// the same, any other is worked out anew. An error says that memory was refused.
     pub fn under(
         &self,
         alloc: Global,
@@ -375,15 +367,17 @@ impl Row {
         let sizes = switch.carry(alloc, &self.sizes)?;
         let ready = parts_of(prepared);
         let lots = self.lots.under(alloc, switch, gain, ready.lots, work)?;
+        let first = [lots.priced()];
         let buys = self
             .buys
-            .under_beside(alloc, switch, gain, ready.buys, &lots, work)?;
+            .under_beside(alloc, switch, gain, ready.buys, &first, work)?;
         let sales = self
             .sales
-            .under_beside(alloc, switch, gain, ready.sales, &lots, work)?;
+            .under_beside(alloc, switch, gain, ready.sales, &first, work)?;
+        let others = [buys.priced(), sales.priced(), lots.priced()];
         let all = self
             .all
-            .under_beside(alloc, switch, gain, ready.all, &lots, work)?;
+            .under_beside(alloc, switch, gain, ready.all, &others, work)?;
         Ok(Row {
             sizes,
             lots,
@@ -393,7 +387,8 @@ impl Row {
         })
     }
 
-    /// The same with what was prepared of the unit, where that is known to be for the nets that it has: no nets are compared.
+    /// The same with what was prepared of the unit, where that is known to be for the nets that it has: no nets are
+    /// compared.
     pub fn taking(
         &self,
         alloc: Global,

@@ -3,16 +3,53 @@
 ghost use Rattle.std.specs.Prelude.{◌≡◌, IfOk, Ok};
 ghost use Rattle.mgn_nets.specs.Portfolios.{AreNets, AreUnitNets, behind};
 ghost use Rattle.mgn_unit.specs.NewSets.{IsPrepared, IsPreparedPortfolio, IsRequired, carried, is_unit_covered};
-ghost use Rattle.mgn_unit.specs.Prepared.{AreCarried};
+ghost use Rattle.mgn_unit.specs.Prepared.{AreCarried, ArePriced, IsBeside};
 ghost use Rattle.mgn_unit.specs.Rows.{nets_in};
 
 use crate::new_set::{Switch, are_covered};
-use crate::row::{CopiedNets, PreparedPortfolio, PreparedUnit, Row};
+use crate::row::{CopiedNets, PortfolioRow, PreparedPortfolio, PreparedUnit, PricedNets, Row};
 use mgn_nets::{Nets, Portfolios};
 use mgn_num::Cents;
 use mgn_params::{ParamSet, Work};
 use mgn_plain::requirement;
 use std::alloc::{AllocError, Global};
+
+impl PreparedPortfolio {
+    // Its nets with what they require.
+    fn priced(&self) -> PricedNets<'_>
+        ensures nets { result.nets.now ≡ self.now.nets }
+        ensures requirement { result.requirement ≡ self.now.requirement }
+    {
+        PricedNets {
+            nets: &self.nets,
+            requirement: self.requirement,
+        }
+    }
+}
+
+impl PortfolioRow {
+    // Its nets with what they require under the set in force.
+    pub(crate) fn priced(&self) -> PricedNets<'_>
+        ensures nets { result.nets.now ≡ self.now.nets }
+        ensures requirement { result.requirement ≡ self.now.requirement }
+    {
+        PricedNets {
+            nets: &self.nets,
+            requirement: self.requirement,
+        }
+    }
+
+    // Its nets with what they require under another set.
+    pub(crate) fn priced_at(&self, requirement: Cents) -> PricedNets<'_>
+        ensures nets { result.nets.now ≡ self.now.nets }
+        ensures requirement { result.requirement ≡ requirement }
+    {
+        PricedNets {
+            nets: &self.nets,
+            requirement,
+        }
+    }
+}
 
 impl Row {
     /// The nets, as they are kept.
@@ -78,18 +115,18 @@ pub(crate) fn required_beside(
     alloc: Global,
     set: &ParamSet,
     nets: &Nets,
-    other: &Nets,
-    known: Cents,
+    others: &[PricedNets],
     work: &mut Work,
 ) -> Result<Cents, AllocError>
     requires nets { AreNets set.now nets.now }
-    requires other { IsRequired set.now other.now known }
+    requires others { ArePriced set.now others.now }
     ensures required { IfOk result (IsRequired set.now nets.now) }
-    ensures taken { other.now ≡ nets.now → result ≡ Ok known }
-    ensures alike { other.now ≡ nets.now → work.new ≡ work.old }
+    ensures alike { IsBeside nets.now others.now → work.new ≡ work.old }
 {
-    if nets.is_same(other) {
-        return Ok(known);
+    for other in others {
+        if nets.is_same(other.nets) {
+            return Ok(other.requirement);
+        }
     }
     required(alloc, set, nets, work)
 }
@@ -99,19 +136,18 @@ pub(crate) fn prepare_beside(
     alloc: Global,
     switch: &Switch,
     nets: &Nets,
-    other: &Nets,
-    known: Cents,
+    others: &[PricedNets],
     work: &mut Work,
 ) -> Result<PreparedPortfolio, AllocError>
     requires nets { AreNets switch.now.old nets.now }
-    requires other { IsRequired switch.now.new other.now known }
+    requires others { ArePriced switch.now.new others.now }
     ensures prepared { IfOk result (IsPreparedPortfolio switch.now.new) }
     ensures nets { IfOk result (λ side. side.nets ≡ carried switch.now.old switch.now.new nets.now) }
     ensures limits { IfOk result (λ side. AreNets switch.now.new side.nets) }
-    ensures alike { other.now ≡ carried switch.now.old switch.now.new nets.now → work.new ≡ work.old }
+    ensures alike { IsBeside (carried switch.now.old switch.now.new nets.now) others.now → work.new ≡ work.old }
 {
     let carried = switch.carry(alloc, nets)?;
-    let requirement = required_beside(alloc, switch.new_set(), &carried, other, known, work)?;
+    let requirement = required_beside(alloc, switch.new_set(), &carried, others, work)?;
     Ok(PreparedPortfolio {
         nets: carried,
         requirement,
@@ -143,11 +179,15 @@ impl<'a> Switch<'a> {
         ensures nets { IfOk result (AreCarried self.now.old self.now.new nets.now) }
     {
         let lots = prepare(alloc, self, &nets.lots, work)?;
+        let buys = prepare_beside(alloc, self, &nets.buys, &[lots.priced()], work)?;
+        let sales = prepare_beside(alloc, self, &nets.sales, &[lots.priced()], work)?;
+        let others = [buys.priced(), sales.priced(), lots.priced()];
+        let all = prepare_beside(alloc, self, &nets.all, &others, work)?;
         Ok(PreparedUnit {
-            buys: prepare_beside(alloc, self, &nets.buys, &lots.nets, lots.requirement, work)?,
-            sales: prepare_beside(alloc, self, &nets.sales, &lots.nets, lots.requirement, work)?,
-            all: prepare_beside(alloc, self, &nets.all, &lots.nets, lots.requirement, work)?,
             lots,
+            buys,
+            sales,
+            all,
         })
     }
 }

@@ -36,6 +36,13 @@ pub struct PreparedPortfolio {
     pub requirement: Cents,
 }
 
+/// Nets for which it was worked out what they require under a set.
+#[derive(Clone, Copy)]
+pub(crate) struct PricedNets<'a> {
+    pub nets: &'a Nets,
+    pub requirement: Cents,
+}
+
 /// What the four portfolios of a margin unit require under a set, worked out before that set comes into force.
 pub type PreparedUnit = Portfolios<PreparedPortfolio>;
 

@@ -36,8 +36,8 @@ fn held_of(hold: &Hold) -> Held
     }
 }
 
-// What a trade, an order to be held, or the release or the fill of this order changes in the row of its unit, where the set
-// has its contract. Of any other command the book alone can tell.
+// What a trade, an order to be held, or the release or the fill of this order changes in the row of its unit, where the
+// set has its contract. Of any other command the book alone can tell.
 fn change_by(set: &ParamSet, command: &Command, order: &Option<Hold>) -> Option<Change>
     ensures { IfSome result (IsChange set.now) }
 {
@@ -88,9 +88,9 @@ fn can_follow(desk: &Desk, change: &Change) -> bool
 }
 
 impl<'a, T: Shows, J: SlotNames> UnitDesk<'a, T, J> {
-    /// What a look at a command of this unit will find, as long as nothing else has changed there since the desk's stamp: a
-    /// call then need not look before its desk moves, and its commit looks once for both. Given the order that the command
-    /// releases or fills, as it was held, if that is known. None where the book alone can tell.
+    /// What a look at a command of this unit will find, as long as nothing else has changed there since the desk's
+    /// stamp: a call then need not look before its desk moves, and its commit looks once for both. Given the order that
+    /// the command releases or fills, as it was held, if that is known. None where the book alone can tell.
     pub fn foreseen(&self, command: &Command, order: &Option<Hold>) -> Option<Sight<'a, T, J>>
         ensures unit { IfSome result (λ sight. sight.0.unit ≡ self.now.0.unit) }
         ensures has { IfSome result (λ sight. self.now.1 ≡ Some sight.1.0) }

@@ -1,5 +1,5 @@
-//! The desk of a margin unit under a lock of its own, what a call knows of the unit before that desk moves, and what is worked
-//! out for a switch before its commit. It knows no book and no ledger: which day a desk is of, stamps show.
+//! The desk of a margin unit under a lock of its own, what a call knows of the unit before that desk moves, and what is
+//! worked out for a switch before its commit. It knows no book and no ledger: which day a desk is of, stamps show.
 #![tactic(auto)]
 
 mod foreseen;

@@ -47,8 +47,8 @@ impl<'a, T: Shows, J: SlotNames> Prepared<'a, T, J> {
         })
     }
 
-    /// What all units require under a set, by up to so many workers that are started for it. An error says that memory was
-    /// refused.
+    /// What all units require under a set, by up to so many workers that are started for it. An error says that memory
+    /// was refused.
     pub fn by_threads<R: Threads + Wait + Sync, G: Gate + Sync>(
         rt: &R,
         alloc: Global,

@@ -18,8 +18,8 @@ pub struct UnitMove {
     pub change: Change,
 }
 
-/// What a call looked at of one of its units: what its command changes there, the set in force, what shows the unit's nets,
-/// and a copy of these, unless its desk has them. Contracts see the change, the stamp and the copy.
+/// What a call looked at of one of its units: what its command changes there, the set in force, what shows the unit's
+/// nets, and a copy of these, unless its desk has them. Contracts see the change, the stamp and the copy.
 #[derive(Drop)]
 pub struct Sight<'a, T: Shows, J: SlotNames> {
     pub(crate) change: UnitMove,
@@ -43,8 +43,8 @@ impl<'a, T: Shows, J: SlotNames> Model for Sight<'a, T, J> {
 }
 
 impl<'a, T: Shows, J: SlotNames> Sight<'a, T, J> {
-    /// What was looked at: a change of a unit, the version and the set of the day that a stamp shows, and a copy of the unit's
-    /// nets on that day, unless its desk has them.
+    /// What was looked at: a change of a unit, the version and the set of the day that a stamp shows, and a copy of the
+    /// unit's nets on that day, unless its desk has them.
     pub fn new(
         change: UnitMove,
         version: Version,

@@ -14,9 +14,10 @@ use mgn_unit::{Priced, Row};
 use std::alloc::{AllocError, Global};
 use std::marker::Model;
 
-/// The desk of a margin unit under its own lock, with what shows where its nets stood in the book; without that it counts as
-/// empty. The type says that a desk with a stamp has the nets and the set of the day that the stamp shows, and all that it
-/// keeps is that of these. A call that has moved it takes the stamp away, until it knows which day it is then of.
+/// The desk of a margin unit under its own lock, with what shows where its nets stood in the book; without that it
+/// counts as empty. The type says that a desk with a stamp has the nets and the set of the day that the stamp shows,
+/// and all that it keeps is that of these. A call that has moved it takes the stamp away, until it knows which day it
+/// is then of.
 #[derive(Drop)]
 pub struct UnitDesk<'a, T: Shows, J: SlotNames> {
     pub(crate) desk: Desk,
@@ -70,8 +71,8 @@ impl<'a, T: Shows, J: SlotNames> UnitDesk<'a, T, J> {
         self.at = None;
     }
 
-    /// Marks the desk with the nets that were looked at, unless it has them. An error says that memory was refused; the desk
-    /// is then as it was.
+    /// Marks the desk with the nets that were looked at, unless it has them. An error says that memory was refused; the
+    /// desk is then as it was.
     pub fn ready(&mut self, alloc: Global, sight: &Sight<'a, T, J>) -> Result<(), AllocError>
         requires unit { self.old.0.unit ≡ sight.now.0.unit }
         requires has { sight.now.1.1 ≡ None → self.old.1 ≡ Some sight.now.1.0 }
@@ -125,8 +126,8 @@ impl<'a, T: Shows, J: SlotNames> UnitDesk<'a, T, J> {
         self.set = Some(sight.set);
     }
 
-    /// What the unit requires after a change that moves its nets as the desk has moved, where its row has the nets that were
-    /// looked at.
+    /// What the unit requires after a change that moves its nets as the desk has moved, where its row has the nets that
+    /// were looked at.
     pub fn priced(&self, sight: &Sight<'a, T, J>, now: &UnitChange, row: &Row) -> Priced
         requires moved { IsMoved T.shown sight.now.0 sight.now.1.0.1 self.now.0 }
         requires same { SameMoves now.now.change sight.now.0.change }

@@ -9,8 +9,8 @@ use mgn_params::ParamSet;
 use mgn_unit::{CopiedNets, PreparedUnit};
 use std::alloc::AllocError;
 
-/// What works out what units require under a new set: given the session whose switch it is, the set in force, the new set and
-/// the nets of the units under the set in force.
+/// What works out what units require under a new set: given the session whose switch it is, the set in force, the new
+/// set and the nets of the units under the set in force.
 pub type Marking = Box<
     dyn Fn(
         SessionNo,
@@ -23,7 +23,8 @@ pub type Marking = Box<
         + Drop,
 >;
 
-/// Workers that the switches of a service's sessions share. They are lent to each session; it does not start them itself.
+/// Workers that the switches of a service's sessions share. They are lent to each session; it does not start them
+/// itself.
 #[derive(Drop)]
 pub struct Workers {
     marking: Marking,

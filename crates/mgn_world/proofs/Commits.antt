@@ -3,7 +3,7 @@ use Rattle.std.proofs.Common.{◌≡◌, ◌≢◌, ◌<◌, ◌≤◌, ◌+◌,
 use Rattle.std.specs.Cmp.Lexicographic.{pointwise}
 use Rattle.std.specs.Ordering.{int_eq}
 use Rattle.std.specs.Prelude.{◌&&◌, ◌||◌, not, if◌then◌else◌, nat_lt, slice_index_or, slice_set, ℤ}
-use Rattle.std.proofs.lemmas.Bool.{eq-eqb}
+use Rattle.std.proofs.lemmas.Bool.{eq-eqb, not-false}
 use Rattle.std.proofs.lemmas.Bool.Decides.{Decides-int_eq, nat_tests}
 use Rattle.std.proofs.lemmas.List.{get_or-set_same, get_or-set_other, get_or_append_left}
 use Rattle.mgn_params.specs.Limits.{IsWithinLimits}
@@ -37,10 +37,11 @@ use Rattle.mgn_world.proofs.Effects.{Before, Outcome, outcome}
 use Rattle.mgn_world.proofs.Frames.{Change, good_after, owns_kept, rests_same}
 use Rattle.mgn_world.proofs.Locks.{lengthened_at, lengthened_long}
 use Rattle.mgn_register.proofs.Found.{test_passed}
-use Rattle.mgn_world.proofs.Replays.{last-set, run-done, run-switch}
+use Rattle.mgn_world.proofs.Replays.{run-done, run-switch}
 use Rattle.mgn_world.proofs.Simple.{held_desk, session, stage_in}
 use Rattle.mgn_world.proofs.Stays.{plan_now, plan_open}
 use Rattle.mgn_world.proofs.Twins.{keeps-less, keeps-same}
+use Rattle.mgn_book.proofs.Switches.{last-set}
 
 pub before_step : (w : World) → Good w → Before (in_force w) w.state
 before_step w good = record { limits = good.limits w.state.version (omega (arith, good.replayed.shown)); known = good.known; housed = good.housed }
@@ -245,16 +246,12 @@ good_placed w p k l good is there few fresh = by (is_done (step_under (in_force 
 
 -- A switch
 
-not_false : (b : Bool) → not b ≡ false → b ≡ true
-not_false true e = refl
-not_false false e = cc
-
 fits_covered : (t : Tables) (s : State) (u : Unit {0}) → set_fits t s ≡ Ok u → covers t s.accounts ≡ true
 unfolding set_fits
 fits_covered t s u e =
     let a = test_passed _ _ _ u e in
     let b = test_passed _ _ _ u a.1 in
-    not_false (covers t s.accounts) b.0
+    not-false (covers t s.accounts) b.0
 
 limits_more : (sets : List Tables) (t : Tables) → ((i : ℕ) → i < length sets → IsWithinLimits (set_at sets i)) → IsWithinLimits t → (i : ℕ) → i < length (sets ++ t ∷ []) → IsWithinLimits (set_at (sets ++ t ∷ []) i)
 limits_more sets t limits last i inside = by (nat_lt i (length sets)) refl

@@ -51,9 +51,10 @@ use Rattle.mgn_register.proofs.Kept.{contract-stands, found-Some, known-stands, 
 use Rattle.mgn_world.specs.Claims.{IsAmong}
 use Rattle.mgn_world.specs.World.{is_done, planned, unit_found, unit_nets, units_found, units_of}
 use Rattle.mgn_world.specs.Standing.{IsHoused}
-use Rattle.mgn_register.proofs.Found.{first_done, test_passed}
+use Rattle.mgn_register.proofs.Found.{first_done, test_passed, place-inside}
 use Rattle.mgn_world.proofs.Places.{Takes, bust_at, fill_at, hold_takes, move_at, release_at, trade_at}
-use Rattle.mgn_world.proofs.Twins.{IsBare, Keeps, keeps-push, keeps-same, keeps-set, nets-by_sums, nets-kept, place-inside, twin-both}
+use Rattle.mgn_world.proofs.Twins.{IsBare, Keeps, keeps-push, keeps-same, keeps-set, nets-by_sums, nets-kept, twin-both}
+use Rattle.mgn_plan.proofs.Nets.{nets_by-same, nets_by-other}
 
 -- what is known before a command
 pub record Before (set' : Tables) (s : State) : Type 0 where
@@ -120,12 +121,6 @@ in_rooms set' s us plan now true b before open_day e = none set' s us plan _ bef
 in_rooms set' s us plan now false b before open_day e = in_room set' s us plan now b before open_day e
 
 -- One account changed.
-
-nets_by-same : (u : UnitChange) (k : ℕ) (nets : UnitNets) → u.unit ≡ k → nets_by u k nets ≡ moved_nets u.change nets
-nets_by-same u k nets same = rw (eq-eqb u.unit k same) refl
-
-nets_by-other : (u : UnitChange) (k : ℕ) (nets : UnitNets) → u.unit ≢ k → nets_by u k nets ≡ nets
-nets_by-other u k nets apart = rw (ne_eqb u.unit k apart) refl
 
 abbrev changed_at : List AccountState → ℕ → Change → UnitChange
 changed_at accounts k change = record { account = k; unit = (account_at accounts k).unit; change = change }

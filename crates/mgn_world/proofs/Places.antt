@@ -22,10 +22,7 @@ use Rattle.mgn_machine.specs.State.{State, account_at}
 use Rattle.mgn_machine.specs.Transfers.{move_places, parties}
 use Rattle.mgn_register.proofs.Found.{first_done, test_passed}
 use Rattle.mgn_register.proofs.Kept.{found-Some}
-
-not_false : (b : Bool) → not b ≡ false → b ≡ true
-not_false true e = refl
-not_false false e = cc
+use Rattle.std.proofs.lemmas.Bool.{not-false}
 
 live : (mark : Mark) → is_busted mark ≡ false → is_live mark ≡ true
 live Busted e = cc
@@ -97,7 +94,7 @@ fill_at set' s f at done =
     let inside : i.0 < length (account_at s.accounts k.0).holds = (position-Some (λ (x : Held). nat_eq x.order f.order) (account_at s.accounts k.0).holds i.0 no_hold there).0 in (
       record { open_day = a.0; place = k.1.0 ∙ (λ j. Ok (same j).0) },
       subst (λ (p : ℕ × ℕ). p.1 < length (account_at s.accounts p.0).holds) same inside,
-      subst (λ (p : ℕ × ℕ). covers (hold_at (account_at s.accounts p.0).holds p.1) f.quantity ≡ true) same (not_false _ e.0),
+      subst (λ (p : ℕ × ℕ). covers (hold_at (account_at s.accounts p.0).holds p.1) f.quantity ≡ true) same (not-false _ e.0),
     )
 
 pub release_at : (s : State) (name : List ℕ) (order : ℕ) (at : ℕ × ℕ) → release_places s name order ≡ Ok at → Takes s name at.0 × (at.1 < length (account_at s.accounts at.0).holds)

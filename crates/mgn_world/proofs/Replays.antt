@@ -29,6 +29,7 @@ use Rattle.mgn_world.specs.declared.stages.Step.{Step}
 use Rattle.mgn_world.specs.Stages.{View}
 use Rattle.mgn_world.specs.World.{World, applies, are_of, are_stale, backs, begin_on, begins, commits, does, does_as, ends, entered, gathers, in_force, is_apart, is_full, look_on, looks, marks, next, opening, placed, prepares, run, stepped, with_stage}
 use Rattle.mgn_world.specs.Claims.{IsReplayed, IsRun}
+use Rattle.mgn_book.proofs.Switches.{last-set}
 
 -- One entry more, under the sets as they are then.
 pushed : (sets : List Tables) (state now : State) (history : List Entry) (session : ℕ) (request : Request) (reply : Reply) → Legal sets history → state ≡ replay sets history → (now, reply) ≡ step sets state request → request_of sets (recorded request reply) ≡ request → state.version < length sets
@@ -60,13 +61,6 @@ pub run-done : (sets : List Tables) (state : State) (history : List Entry) (sess
     → IsRun sets (step_under (set_at sets state.version) state c).0 (history ++ entry session (calls session history + 1) (recorded (Do c) (step_under (set_at sets state.version) state c).1) (step_under (set_at sets state.version) state c).1 ∷ [])
 run-done sets state history session c is few =
     pushed sets state _ history session (Do c) (step_under (set_at sets state.version) state c).1 is.legal is.replayed refl refl (omega (arith, is.shown)) (is.shown ∙ ap (λ (v : ℕ). v + 1) (sym (keeps_version (set_at sets state.version) state c))) few
-
--- the set of the version after those that there are
-pub last-set : (sets : List Tables) (t : Tables) (version : ℕ) → length sets ≡ version → set_at (sets ++ t ∷ []) version ≡ t
-last-set [] t zero long = refl
-last-set [] t (suc version) long = absurd (omega (arith, long))
-last-set (x ∷ sets) t zero long = absurd (omega (arith, long))
-last-set (x ∷ sets) t (suc version) long = last-set sets t version (omega (arith, long))
 
 -- A switch that comes into force, or is refused.
 switched-run : (sets : List Tables) (state : State) (history : List Entry) (session on : ℕ) (t : Tables) (r : Result (Unit {0}) Refusal) → r ≡ set_fits t state → on ≡ on_call t state.accounts state.units → IsRun sets state history → length history < 1000000

@@ -22,7 +22,8 @@ use Rattle.mgn_world.specs.Standing.{DeskOf, Good, HeldDesk, IsHoused, Owns, Sta
 use Rattle.mgn_world.proofs.Frames.{good_after, holder, some_none, some_same}
 use Rattle.mgn_world.proofs.Locks.{among_or, free_at, freed_at, freed_mine, freed_other, taken_long, taken_mine, taken_other}
 use Rattle.mgn_world.proofs.Stays.{plan_now}
-use Rattle.mgn_world.proofs.Twins.{keeps-same, place-inside}
+use Rattle.mgn_world.proofs.Twins.{keeps-same}
+use Rattle.mgn_register.proofs.Found.{place-inside}
 
 -- the desk of a unit that the session at a place holds
 pub held_desk : (w : World) (p u : ℕ) (st : Stage) → Good w → stage_at w p ≡ st → lock_at w u ≡ Some p → HeldDesk w.sets w.state.accounts u (desk_at w u) st

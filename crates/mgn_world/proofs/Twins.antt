@@ -21,6 +21,8 @@ use Rattle.mgn_machine.specs.Refusals.{account_names, found, place_of}
 use Rattle.mgn_machine.specs.State.{AccountState, State, account_at, no_account}
 use Rattle.mgn_unit.specs.Rows.{portfolio_of}
 use Rattle.mgn_world.specs.World.{unit_nets}
+use Rattle.mgn_register.proofs.Found.{place-inside}
+use Rattle.mgn_register.proofs.Kept.{found-Some}
 
 -- an account is what it was: its name, origin and unit, and, where its unit is one of those left alone, its lots and
 -- holds
@@ -158,10 +160,6 @@ nets-kept M T u xs ys alone keeps = nets-by_sums T u xs ys (λ p c. sum-kept M u
 
 -- Where accounts stand.
 
-found-Some : (o : Option ℕ) (why : Refusal) (k : ℕ) → found o why ≡ Ok k → o ≡ Some k
-found-Some None why k here = cc
-found-Some (Some j) why k here = cc
-
 position-more : {X : Type 0} (p : X → Bool) (xs ys : List X) (k : ℕ) → position p xs ≡ Some k → position p (xs ++ ys) ≡ Some k
 position-more {X} p xs ys k here = by (nat_lt n (length xs)) refl
   where
@@ -185,12 +183,6 @@ names-more : (M : ℕ → Type 0) (xs ys : List AccountState) → Keeps M xs ys 
 names-more M [] ys keeps = (account_names ys, refl)
 names-more M (a ∷ xs) [] keeps = absurd keeps
 names-more M (a ∷ xs) (b ∷ ys) keeps = let rest = names-more M xs ys keeps.1 in (rest.0, λ i. keeps.0.name i ∷ rest.1 i)
-
-pub place-inside : (s : State) (name : List ℕ) (k : ℕ) → place_of s name ≡ Ok k → k < length s.accounts
-unfolding place_of
-place-inside s name k here =
-    let at = found-Some (position (bytes_eq name) (account_names s.accounts)) NoAccount k here in
-    omega (arith, (position-Some (bytes_eq name) (account_names s.accounts) k [] at).0, length-map s.accounts (λ (a : AccountState). a.name))
 
 pub place-kept : (M : ℕ → Type 0) (s t : State) (name : List ℕ) (k : ℕ) → Keeps M s.accounts t.accounts → place_of s name ≡ Ok k → place_of t name ≡ Ok k
 unfolding place_of

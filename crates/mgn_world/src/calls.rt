@@ -78,8 +78,8 @@ fn after_back(call: Call, again: bool) -> Stage
 }
 
 impl Kept {
-    /// Begin: the units of the command become the session's own, if none of them is held. A command without units commits
-    /// at once. An error says that memory was refused.
+    /// Begin: the units of the command become the session's own, if none of them is held. A command without units
+    /// commits at once. An error says that memory was refused.
     pub(crate) fn begin(
         &mut self,
         alloc: Global,
@@ -112,8 +112,8 @@ impl Kept {
         Ok(())
     }
 
-    /// Look: takes version, plan and nets. A command without a plan commits at once, and its call is over. An error says
-    /// that memory was refused.
+    /// Look: takes version, plan and nets. A command without a plan commits at once, and its call is over. An error
+    /// says that memory was refused.
     pub(crate) fn look(&mut self, alloc: Global, place: usize) -> Result<(), AllocError>
         requires good { Good (shown self.old) }
         requires sound { IsSound self.old }
@@ -149,7 +149,8 @@ impl Kept {
         Ok(())
     }
 
-    /// Mark: sets the first desk of the plan that is not of the looked version to it. An error says that memory was refused.
+    /// Mark: sets the first desk of the plan that is not of the looked version to it. An error says that memory was
+    /// refused.
     pub(crate) fn mark(&mut self, alloc: Global, place: usize) -> Result<(), AllocError>
         requires good { Good (shown self.old) }
         requires sound { IsSound self.old }

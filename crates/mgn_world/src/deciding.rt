@@ -102,8 +102,8 @@ impl Kept {
         self.house()
     }
 
-    /// Commit: one step of the machine, by the desks of the plan's units; or a set comes into force, or is refused, which
-    /// ends its call. An error says that memory was refused.
+    /// Commit: one step of the machine, by the desks of the plan's units; or a set comes into force, or is refused,
+    /// which ends its call. An error says that memory was refused.
     pub(crate) fn commit(&mut self, alloc: Global, place: usize) -> Result<(), AllocError>
         requires good { Good (shown self.old) }
         requires sound { IsSound self.old }

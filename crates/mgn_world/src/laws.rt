@@ -59,8 +59,8 @@ pub fn a_commit_is_one_step()
         → next w record { session = suc p; deed = Commit } ≡ placed w p k l (step w.sets w.state (Do k.command)) }
 {}
 
-/// A law, and no work: a commit that is done leaves the desks of its plan with the nets of their units as they are then,
-/// under the set in force.
+/// A law, and no work: a commit that is done leaves the desks of its plan with the nets of their units as they are
+/// then, under the set in force.
 pub fn done_commit_shows_the_nets()
     ensures { (w : World) (p u : ℕ) (k m : Call) (l : View)
         → IsReached w → stage_at w p ≡ Applied k l → IsAmong u (plan_units l.plan)

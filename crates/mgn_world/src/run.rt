@@ -28,7 +28,8 @@ impl Step {
 }
 
 impl Kept {
-    // One step. Where it is not the next one of its session's call, nothing changes. An error says that memory was refused.
+    // One step. Where it is not the next one of its session's call, nothing changes. An error says that memory was
+    // refused.
     fn step(&mut self, alloc: Global, step: Step) -> Result<(), AllocError>
         requires good { Good (shown self.old) }
         requires sound { IsSound self.old }

@@ -47,8 +47,8 @@ impl Model for View {
     ghost view = { λ v. record { version = v.version; plan = v.plan; seen = v.seen.items } };
 }
 
-/// What was gathered for a switch: the set, the version in force, the nets of all units, and what of these was worked out
-/// under the set since.
+/// What was gathered for a switch: the set, the version in force, the nets of all units, and what of these was worked
+/// out under the set since.
 #[derive(Drop)]
 pub struct Gathering {
     pub(crate) set: ParamSet,

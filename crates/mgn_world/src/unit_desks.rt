@@ -53,8 +53,8 @@ fn mark(
     desks[seen.unit].mark(alloc, version, set, &nets)
 }
 
-/// Marks the first desk, of those of the units that were looked at, that is not of the version. An error says that memory
-/// was refused.
+/// Marks the first desk, of those of the units that were looked at, that is not of the version. An error says that
+/// memory was refused.
 pub(crate) fn mark_first(
     desks: &mut [Desk],
     alloc: Global,

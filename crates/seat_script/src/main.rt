@@ -1,4 +1,5 @@
-//! Answers a script through one seat of a service, for tests and benches: `spand script` does it through a book of one session.
+//! Answers a script through one seat of a service, for tests and benches: `spand script` does it through a book of one
+//! session.
 //! `--workers N` has the switches worked out by N workers on threads of their own, as a server's are.
 #![tactic(auto)]
 

@@ -15,8 +15,8 @@ use std::thread::Threads;
 /// How many workers share the units of a switch at most.
 const MOST_WORKERS: usize = 64;
 
-/// What units with these nets under the set in force require under a new one, by so many workers, 1 to 64, or by the nearest of
-/// these numbers. An error says that memory was refused.
+/// What units with these nets under the set in force require under a new one, by so many workers, 1 to 64, or by the
+/// nearest of these numbers. An error says that memory was refused.
 pub(crate) fn mark<R: Threads + AllocGlobal + Sync>(
     rt: &R,
     session: SessionNo,

@@ -13,8 +13,8 @@ use std::str::FromStr;
 pub(crate) struct Options {
     /// The file of the first set.
     pub(crate) file: SetFile,
-    /// How many workers on threads of their own share the units of a switch, up to 64; none where it is worked out on the thread
-    /// of the session.
+    /// How many workers on threads of their own share the units of a switch, up to 64; none where it is worked out on
+    /// the thread of the session.
     pub(crate) workers: u8,
 }
 

@@ -1,6 +1,7 @@
 ghost use Rattle.std.specs.Prelude.{◌≡◌};
 
 use command_line::SetFile;
+use mgn_book::MOST_ENTRIES;
 use mgn_ledger::{DayImage, Image};
 use mgn_params::ParamSet;
 use mgn_seat::{Seat, Switches};
@@ -14,13 +15,11 @@ use std::marker::Brand;
 use std::rt::Files;
 use std::sync::Wait;
 
-/// How many entries a history has at most, each with a slot.
-const MOST_ENTRIES: usize = 1_000_000;
-
 /// How many workers share the units of a switch.
 const WORKERS: usize = 4;
 
-/// Answers standard input on standard output, to the end of the input, under the set of a file. These work out its switches.
+/// Answers standard input on standard output, to the end of the input, under the set of a file. These work out its
+/// switches.
 pub(crate) fn run<R: Files + Input + Print + AllocGlobal + Wait, W: Switches>(
     rt: &R,
     file: &SetFile,

@@ -373,7 +373,8 @@ fn a_connection_without_a_pass_is_closed(rt: HostRuntime) -> Result<(), Fail> {
     Ok(())
 }
 
-// The first command finds its history unfit, and each command after it, of whichever session. All else is answered as ever.
+// The first command finds its history unfit, and each command after it, of whichever session. All else is answered as
+// ever.
 fn all_is_broken<R: Net<Stream = TcpStream> + Alloc + Abort>(rt: &R, address: SocketAddr) {
     let first = connect(rt, address);
     let second = connect(rt, address);

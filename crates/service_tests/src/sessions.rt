@@ -89,8 +89,8 @@ const TURNS: [Answered; 11] = [
     ("ASK C3", "OK 11 600 600 0 0 -600\n"),
 ];
 
-// An order that is filled in part before what is left of it is released, and its number held again. What the session keeps of
-// the order is then no longer what the book holds.
+// An order that is filled in part before what is left of it is released, and its number held again. What the session
+// keeps of the order is then no longer what the book holds.
 const PARTS: [Answered; 12] = [
     ("ORIGIN CUST GROSS", "OK 1\n"),
     ("OPEN A1 CUST", "OK 2\n"),
@@ -106,7 +106,8 @@ const PARTS: [Answered; 12] = [
     ("ASK A1", "OK 12 900 900 900 900 0\n"),
 ];
 
-// The desks of so many units are kept from call to call, also over a refused order, and nothing is worked out in the book.
+// The desks of so many units are kept from call to call, also over a refused order, and nothing is worked out in the
+// book.
 fn keeps_desks<T: Image, J: TableName + SlotNames, R: Wait + Abort>(
     rt: &R,
     alloc: Global,

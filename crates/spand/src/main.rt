@@ -1,5 +1,5 @@
-//! The program `spand`: margin and order credit of clearing members, by lines of commands on standard input, or of several
-//! sessions over connections.
+//! The program `spand`: margin and order credit of clearing members, by lines of commands on standard input, or of
+//! several sessions over connections.
 #![tactic(auto)]
 
 mod script;

@@ -16,8 +16,8 @@ use std::net::TcpListener;
 use std::sync::{Mutex, Wait};
 use std::thread::Threads;
 
-/// What is served: a service whose passes are still to be made, with a gate that each call passes and the workers of its
-/// switches, to the connections of a listener.
+/// What is served: a service whose passes are still to be made, with a gate that each call passes and the workers of
+/// its switches, to the connections of a listener.
 #[derive(Drop)]
 pub struct Serving<'g, 'a, T: Image, J: TableName + SlotNames, G: Gate, W: Switches, S: SetSource> {
     pub service: Service<'a, T, J>,
@@ -100,13 +100,14 @@ fn end<O: Write>(out: &mut O, audited: Result<u64, AuditFault>, has_all: bool) -
 }
 
 /// Serves as many connections as there are sources of sets, each on a thread of its own, and gives the number of the
-/// history's entries once all have ended. It tells `READY` with the port once a client can connect, `AUDIT` with that number
-/// at the end, and of each session's fault as it comes; the sessions of the others go on.
+/// history's entries once all have ended. It tells `READY` with the port once a client can connect, `AUDIT` with that
+/// number at the end, and of each session's fault as it comes; the sessions of the others go on.
 ///
-/// The connections have passes in order of accepting. Where there is no pass for one it is closed without a reply, which is told.
+/// The connections have passes in order of accepting. Where there is no pass for one it is closed without a reply,
+/// which is told.
 /// `Memory` comes before the first connection. Where accepting fails no more connections are taken, those that run come to
-/// their end, and it is `Port`, whatever the audit says. `Passes` and `Unmatched` are what the audit says, and `ServerOutput`
-/// comes where all else went well and what is told of the beginning or the end could not be written.
+/// their end, and it is `Port`, whatever the audit says. `Passes` and `Unmatched` are what the audit says, and
+/// `ServerOutput` comes where all else went well and what is told of the beginning or the end could not be written.
 pub fn serve<
     R: Threads + Wait + Sync,
     T: Image + Send + Sync,

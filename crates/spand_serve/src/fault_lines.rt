@@ -2,8 +2,8 @@ use mgn_server::{ConnectionFault, FaultReport};
 use spand_lib::name_of;
 use std::io::Write;
 
-/// Writes which connections were closed by a fault on its writer, a line each: `spand: session N NAME`, with the connection's
-/// number in order of accepting, from 1. A line that cannot be written is lost, and changes nothing else.
+/// Writes which connections were closed by a fault on its writer, a line each: `spand: session N NAME`, with the
+/// connection's number in order of accepting, from 1. A line that cannot be written is lost, and changes nothing else.
 #[derive(Drop)]
 pub struct FaultLines<W: Write>(pub W);
 

@@ -15,8 +15,8 @@ use std::thread::Threads;
 /// How many workers share the units of a switch.
 pub(crate) const WORKERS: usize = 4;
 
-/// What units with these nets under the set in force require under a new one, by the workers of the server. An error says that
-/// memory was refused.
+/// What units with these nets under the set in force require under a new one, by the workers of the server. An error
+/// says that memory was refused.
 pub fn mark<R: Threads + AllocGlobal + Sync>(
     rt: &R,
     session: SessionNo,

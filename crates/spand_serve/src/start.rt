@@ -3,6 +3,7 @@ ghost use Rattle.std.specs.Prelude.{◌≡◌};
 use crate::day::{Serving, serve};
 use crate::fault_lines::FaultLines;
 use crate::marking::WORKERS;
+use mgn_book::MOST_ENTRIES;
 use mgn_ledger::DayImage;
 use mgn_params::ParamSet;
 use mgn_seat::Switches;
@@ -18,9 +19,6 @@ use std::marker::Brand;
 use std::net::TcpListener;
 use std::sync::{Mutex, Wait};
 use std::thread::Threads;
-
-/// How many entries a history has at most, each with a slot.
-const MOST_ENTRIES: usize = 1_000_000;
 
 /// How many sessions there are at most.
 const MOST_SESSIONS: usize = 16;

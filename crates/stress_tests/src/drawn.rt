@@ -198,7 +198,8 @@ impl Drawn {
         write!(out, "MOVE {lot} {from} {to} {contract} {quantity}\n")
     }
 
-    // Collateral in or out, as the verb says: mostly cash. More is asked for than comes in, so units are often without room.
+    // Collateral in or out, as the verb says: mostly cash. More is asked for than comes in, so units are often without
+    // room.
     fn collateral(&mut self, verb: &str, most: u32, out: &mut String) -> Result<(), AllocError>
         requires { 1 < most }
     {

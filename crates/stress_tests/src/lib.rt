@@ -1,5 +1,5 @@
-//! Services at their limits: sixteen sessions on threads of their own call one as fast as they can, and a book of one thread gives
-//! each of them the same replies; a history is filled to its end, and a table of sets.
+//! Services at their limits: sixteen sessions on threads of their own call one as fast as they can, and a book of one
+//! thread gives each of them the same replies; a history is filled to its end, and a table of sets.
 #![tactic(auto)]
 
 #[cfg(test)]

@@ -1,5 +1,5 @@
-//! The stress test. Whatever the threads do, the answers are those of one history; how many there are of each kind varies, far
-//! above what is wanted.
+//! The stress test. Whatever the threads do, the answers are those of one history; how many there are of each kind
+//! varies, far above what is wanted.
 
 ghost use Rattle.std.specs.Prelude.{◌≡◌};
 
@@ -107,8 +107,8 @@ fn check_placed(rt: &impl Abort, told: &[Told]) {
     }
 }
 
-// All that the sessions are told. The history of the service has each answer. No command was worked out in the book: it would
-// be only if more sets than there are switches had come into force while the command was under way.
+// All that the sessions are told. The history of the service has each answer. No command was worked out in the book: it
+// would be only if more sets than there are switches had come into force while the command was under way.
 fn stress<
     R: Threads + Wait + Abort + Sync,
     T: Image + Send + Sync,

@@ -1,5 +1,5 @@
-//! Which types may go to another thread, and which several threads may read. A type that loses either is told here, at its name,
-//! and not where a thread is started.
+//! Which types may go to another thread, and which several threads may read. A type that loses either is told here, at
+//! its name, and not where a thread is started.
 
 use mgn_book::Book;
 use mgn_desk::Desk;

@@ -1,5 +1,5 @@
-//! Sessions on two threads: replies and figures worked out by hand. Each test says by its gate what happens while a call is
-//! under way, and none rests on a schedule.
+//! Sessions on two threads: replies and figures worked out by hand. Each test says by its gate what happens while a
+//! call is under way, and none rests on a schedule.
 
 ghost use Rattle.std.specs.Prelude.{◌≡◌};
 
@@ -32,8 +32,8 @@ pub(crate) struct Scene {
     until: Until,
 }
 
-/// What came of it: what both were told, how many units were worked out in the book for a command and for a switch, and how
-/// many entries the history has.
+/// What came of it: what both were told, how many units were worked out in the book for a command and for a switch, and
+/// how many entries the history has.
 #[derive(Drop)]
 pub(crate) struct Played {
     pub(crate) first: Vec<u8>,
@@ -257,7 +257,8 @@ fn a_move_goes_on_under_the_next_set(rt: HostRuntime) -> Result<(), Fail> {
     Ok(())
 }
 
-// At each look of an order another set comes into force before its commit, as often as sets can: at the 65th it is held.
+// At each look of an order another set comes into force before its commit, as often as sets can: at the 65th it is
+// held.
 const LOOKS: Scene = Scene {
     first: &[
         Deed::Call("ORIGIN CUST GROSS"),

@@ -23,7 +23,8 @@ pub fn a_step_out_of_turn_changes_nothing()
     ensures { (w : World) (p : ℕ) (d : Deed) → is_next (stage_at w p) d ≡ false → next w (step_of p d) ≡ w }
 {}
 
-/// A step leaves the stages of all other sessions, what these hold, and the desk of each unit that its own does not hold.
+/// A step leaves the stages of all other sessions, what these hold, and the desk of each unit that its own does not
+/// hold.
 pub fn a_step_leaves_others_alone()
     ensures stages { (w : World) (p : ℕ) (d : Deed) → KeepsOthers p w (next w (step_of p d)) }
     ensures holders { (w : World) (p u q : ℕ) (d : Deed)
@@ -32,8 +33,8 @@ pub fn a_step_leaves_others_alone()
         → IsReached w → lock_at w u ≢ Some p → desk_at (next w (step_of p d)) u ≡ desk_at w u }
 {}
 
-/// Begin: where its accounts are there and their units free, a command begins, and its session holds just these units. The
-/// call has the version in force, and no look.
+/// Begin: where its accounts are there and their units free, a command begins, and its session holds just these units.
+/// The call has the version in force, and no look.
 pub fn begin_takes_the_units()
     ensures { (w : World) (p : ℕ) (c : Command)
         → IsReached w → p < 16 → stage_at w p ≡ Idle → accounts_of c ≢ [] → AreFree w (accounts_of c)
@@ -47,8 +48,8 @@ pub fn begin_waits_for_its_units()
         → next w (step_of p (Begin c)) ≡ w }
 {}
 
-/// Begin: a command without units, or of which an account is not there, is one step of the machine, unless the history is
-/// full; its session stays idle.
+/// Begin: a command without units, or of which an account is not there, is one step of the machine, unless the history
+/// is full; its session stays idle.
 pub fn begin_without_units_commits()
     ensures { (w : World) (p : ℕ) (c : Command)
         → IsReached w → p < 16 → stage_at w p ≡ Idle → length w.history < 1000000
@@ -77,15 +78,15 @@ pub fn look_without_a_plan_commits()
         → Frees p w (next w (step_of p Look)) }
 {}
 
-/// Mark: sets one desk of the plan that is not of the looked version to it, with its unit's nets, and nothing else; where
-/// there is no such desk it changes nothing.
+/// Mark: sets one desk of the plan that is not of the looked version to it, with its unit's nets, and nothing else;
+/// where there is no such desk it changes nothing.
 pub fn mark_sets_one_desk()
     ensures { (w : World) (p : ℕ) (k : Call) (l : View)
         → IsReached w → stage_at w p ≡ Looked k l → MarksOne p l w (next w (step_of p Mark)) }
 {}
 
-/// Apply: where the desks of the plan's units are of the looked version, the call is applied, and nothing changes but its
-/// stage and these desks.
+/// Apply: where the desks of the plan's units are of the looked version, the call is applied, and nothing changes but
+/// its stage and these desks.
 pub fn apply_moves_desks_of_the_looked_version()
     ensures { (w : World) (p : ℕ) (k : Call) (l : View)
         → IsReached w → stage_at w p ≡ Looked k l
@@ -93,8 +94,8 @@ pub fn apply_moves_desks_of_the_looked_version()
         → AppliesPlan p k l w (next w (step_of p Apply)) }
 {}
 
-/// Commit of an applied call: with a full history, or where another set came into force since the call looked, it comes to
-/// nothing, and the latter is to look again; else it is one step of the machine.
+/// Commit of an applied call: with a full history, or where another set came into force since the call looked, it comes
+/// to nothing, and the latter is to look again; else it is one step of the machine.
 pub fn commit_has_four_outcomes()
     ensures full { (w : World) (p : ℕ) (k : Call) (l : View)
         → stage_at w p ≡ Applied k l → length w.history ≡ 1000000

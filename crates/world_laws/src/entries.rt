@@ -14,8 +14,8 @@ pub fn a_step_adds_one_entry_at_most()
     ensures { (w : World) (e : Step) → ((next w e).history ≡ w.history) ⊎ AddsOne e.session w (next w e) }
 {}
 
-/// An entry is added only by a step that answers: a Begin without units, a Look without a plan, or the Commit of an applied
-/// call or of a gathered set. The session's call is then answered.
+/// An entry is added only by a step that answers: a Begin without units, a Look without a plan, or the Commit of an
+/// applied call or of a gathered set. The session's call is then answered.
 pub fn entries_are_answers()
     ensures { (w : World) (p : ℕ) (d : Deed) → ((next w (step_of p d)).history ≡ w.history)
         ⊎ (Answers w (stage_at w p) d × IsAnswered (stage_at (next w (step_of p d)) p)) }
@@ -32,8 +32,8 @@ pub fn only_a_full_history_takes_nothing()
     ensures few { (w : World) → IsReached w → length w.history ≤ 1000000 }
 {}
 
-/// A call is answered once: after a step that added an entry no steps add another entry of its session, until it begins a
-/// call or gathers again.
+/// A call is answered once: after a step that added an entry no steps add another entry of its session, until it begins
+/// a call or gathers again.
 pub fn a_call_is_answered_once()
     ensures { (w : World) (e : Step) (es : List Step)
         → calls e.session w.history < calls e.session (next w e).history → StartsNone e.session es

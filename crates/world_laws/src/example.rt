@@ -7,9 +7,9 @@ ghost use Rattle.mgn_world.specs.declared.stages.Stage.TheVariants.{Failed, Idle
 ghost use Rattle.mgn_world.specs.World.{lock_at, opening, run, stage_at};
 ghost use Rattle.world_laws.specs.Example.{call, looked_again, over, refused, set_of, stale, view};
 
-/// A hold of 2 contracts with 600 cents posted is applied under a set in which it costs 600. A set in which it costs 602
-/// comes into force: the commit is stale and answers nothing, the call keeps its unit and looks again, and is refused for
-/// want of room. Its desk is as before, of the new version, and its unit is free.
+/// A hold of 2 contracts with 600 cents posted is applied under a set in which it costs 600. A set in which it costs
+/// 602 comes into force: the commit is stale and answers nothing, the call keeps its unit and looks again, and is
+/// refused for want of room. Its desk is as before, of the new version, and its unit is free.
 pub fn a_set_passes_a_hold()
     ensures stale { (stage_at (run (opening (set_of 300)) stale) 0 ≡ Failed (call 0 1) (view 0) true)
         × (length (run (opening (set_of 300)) stale).history ≡ 4)

@@ -12,8 +12,8 @@ pub fn twelve_steps_end_a_call()
     ensures { (w : World) (p : ℕ) → IsReached w → stage_at (run w (way_out p)) p ≡ Idle }
 {}
 
-/// So from every world that steps lead to there are at most twelve steps, all of the session, after which it is idle and
-/// holds no unit.
+/// So from every world that steps lead to there are at most twelve steps, all of the session, after which it is idle
+/// and holds no unit.
 pub fn a_session_can_come_to_its_end()
     ensures { (w : World) (p : ℕ) → IsReached w
         → (es : List Step) × (AreOf (suc p) es × (length es ≤ 12) × (stage_at (run w es) p ≡ Idle)

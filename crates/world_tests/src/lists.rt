@@ -96,8 +96,8 @@ fn a_trade_goes_step_by_step(rt: HostRuntime) -> Result<(), Fail> {
     check_told(&rt, rt.alloc(), &world, TRADED_TOLD)
 }
 
-// A set comes into force between the Apply of a hold and its Commit: the call is stale, looks again, and the hold has no
-// room any more. A second Commit of the set does nothing, nor does a Begin on the unit that is held.
+// A set comes into force between the Apply of a hold and its Commit: the call is stale, looks again, and the hold has
+// no room any more. A second Commit of the set does nothing, nor does a Begin on the unit that is held.
 const PASSED: &[(usize, &str)] = &[
     (1, "ORIGIN CUST GROSS"),
     (1, "OPEN A1 CUST"),

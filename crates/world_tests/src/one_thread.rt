@@ -80,8 +80,8 @@ impl OneThread {
         )
     }
 
-    /// Takes what the entry of a book at a place asks, in its session, and tells what it is answered. A session's switches
-    /// are to its own set.
+    /// Takes what the entry of a book at a place asks, in its session, and tells what it is answered. A session's
+    /// switches are to its own set.
     pub fn follow(&mut self, book: &Book, place: u64, drawing: &Drawing) -> Result<Vec<u8>, Fail> {
         let Some(session) = book.session(place) else {
             return Err(Fail::new("no entry"));

@@ -149,7 +149,8 @@ fn entries_after(alloc: Global, sets: &Sets, steps: Vec<Step>) -> Result<usize, 
     Ok(world.book().len())
 }
 
-// How many entries there are after a list up to a commit and the steps of another try, with or without a Back before them.
+// How many entries there are after a list up to a commit and the steps of another try, with or without a Back before
+// them.
 fn tried_again(
     alloc: Global,
     sets: &Sets,
@@ -162,7 +163,8 @@ fn tried_again(
     entries_after(alloc, sets, steps)
 }
 
-// Whether a commit found that its call is stale: only then can the call be tried again after a Back, and not without one.
+// Whether a commit found that its call is stale: only then can the call be tried again after a Back, and not without
+// one.
 fn is_stale(alloc: Global, sets: &Sets, number: u64, passed: Passed) -> Result<bool, Fail> {
     Ok(
         tried_again(alloc, sets, number, passed, true)?

@@ -36,3 +36,7 @@ returns c = record {
   sales = subst (λ (set : Tables). IsRequired set c.args.self.now.sales.nets c.in_ok-sales.sales) c.new_set-set.ensures c.in_ok-sales.ensures.required;
   all = subst (λ (set : Tables). IsRequired set c.args.self.now.all.nets c.in_ok-all.all) c.new_set-set.ensures c.in_ok-all.ensures.required;
 }
+
+pub required_beside-requires-3-clause-others : goal.required_beside-requires-3-clause-others
+required_beside-requires-3-clause-others c =
+    c.priced_before_all-others.ensures c.new_set-set.result.now c.in_ok-lots.ensures c.in_ok-buys.ensures.required c.in_ok-sales.ensures.required
