@@ -1,0 +1,2 @@
+-- What a plan leaves of nets.
+pub mod Nets
