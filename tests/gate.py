@@ -14,7 +14,9 @@ import shutil
 import subprocess
 import sys
 import tempfile
+import threading
 import time
+from concurrent.futures import ThreadPoolExecutor
 
 import green
 import source
@@ -67,7 +69,7 @@ class Gate:
     """A run over a copy of the repository `top`, which stands in `room`."""
 
     def __init__(self, top, room):
-        self.top, self.room, self.passed, self.failed, self.faults = top, room, 0, 0, []
+        self.top, self.room, self.passed, self.failed, self.faults, self.telling = top, room, 0, 0, [], threading.Lock()
         copy_of(green.Repository(top), room)
         self.repository = green.Repository(room)
 
@@ -85,11 +87,12 @@ class Gate:
         found = re.search(counts, line)
         passed, failed = (int(found[1]), int(found[2])) if found else (0, 0)
         failed = failed or int(ran.returncode != 0 or not found)
-        self.passed, self.failed = self.passed + passed, self.failed + failed
-        if failed:
-            fault = f"gate: FAILED: {name}: status {ran.returncode}"
-            say(fault)
-            self.faults += [fault, *(it.rstrip("\n") for it in marked or [line])]
+        with self.telling:
+            self.passed, self.failed = self.passed + passed, self.failed + failed
+            if failed:
+                fault = f"gate: FAILED: {name}: status {ran.returncode}"
+                say(fault)
+                self.faults += [fault, *(it.rstrip("\n") for it in marked or [line])]
         return not failed
 
     def script(self, name, *words):
@@ -137,24 +140,29 @@ class Gate:
         self.part(f"large sessions {whose}", ["tests/large.sh", program], r"(\d+) large sessions passed, (\d+) failed")
 
     def edits(self, tried, keys, until):
-        """Tries the edits of these crates, as long as there is time to begin with one, and writes of each that all were refused,
-        unless something failed before."""
-        writes, late = not self.failed, []
+        """Tries the edits of these crates, a crate on each processor and those with the most edits first, as long as there is time to
+        begin with one, and writes of each that all were refused, unless something failed before."""
+        writes, late, processors = not self.failed, [], len(os.sched_getaffinity(0))
 
         def hear(line):
             told = re.fullmatch(r"(\w+): \d+ edits refused, 0 not\n", line)
             if told and writes:
-                green.write(self.top, {told[1]: keys[told[1]]})
+                with self.telling:
+                    green.write(self.top, {told[1]: keys[told[1]]})
 
-        for name in (it for it in self.repository.lines if it in tried):
+        def edits_of(name):
             if time.time() < until:
-                words = [sys.executable, "tests/edits.py", "--top", self.room, "--built", "--crate", name]
+                jobs = str(max(processors // len(tried), 1))
+                words = [sys.executable, "tests/edits.py", "--top", self.room, "--built", "-j", jobs, "--crate", name]
                 self.part(f"edits that must fail of {name}", words, hear=hear)
             else:
                 late.append(name)
-        if late:
-            say(f"gate: NO TIME LEFT: edits not tried: of {' '.join(late)}")
 
+        number = {it: sum(file.startswith(f"edits/{it}/") for file in self.repository.files) for it in tried}
+        with ThreadPoolExecutor(processors) as pool:
+            list(pool.map(edits_of, sorted(tried, key=lambda it: -number[it])))
+        if late:
+            say(f"gate: NO TIME LEFT: edits not tried: of {' '.join(it for it in self.repository.lines if it in late)}")
 
     def tell_faults(self):
         """Says once more what failed: who reads a long run's end has it there."""
