@@ -1,5 +1,0 @@
-use Rattle.mgn_tiers.specs.Tiers.{AreTiersOf}
-use Rattle.bench_stages.proofs.costs.measure_changes.Given as goal
-
-abbrev pub invariant-loop-pass : goal.invariant-loop-pass
-invariant-loop-pass g l = AreTiersOf l.set l.tiers

@@ -1,5 +1,0 @@
-use Rattle.mgn_tiers.specs.Tiers.{AreTiersOf}
-use Rattle.bench_stages.proofs.tier_run.measure.Given as goal
-
-abbrev pub invariant-loop-round : goal.invariant-loop-round
-invariant-loop-round g l = AreTiersOf l.set l.tiers

@@ -1,5 +1,0 @@
-use Rattle.mgn_tiers.specs.Tiers.{AreTiersOf}
-use Rattle.bench_stages.proofs.tier_run.open_all.Given as goal
-
-abbrev pub invariant-loop-i : goal.invariant-loop-i
-invariant-loop-i l = AreTiersOf l.set l.tiers
