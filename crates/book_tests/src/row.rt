@@ -212,29 +212,30 @@ fn prepared_unit(
     })
 }
 
-// A portfolio of 2 in the first contract.
-fn two(alloc: Global, set: &ParamSet) -> Result<PortfolioRow, AllocError>
+// A portfolio of a quantity of the first contract.
+fn holding(alloc: Global, set: &ParamSet, quantity: i8) -> Result<PortfolioRow, AllocError>
     requires { 0 < length set.now.contracts }
     ensures { IfOk result (IsPortfolioRow set.now) }
 {
     Ok(PortfolioRow {
-        nets: nets_of(alloc, set, 2)?,
+        nets: nets_of(alloc, set, quantity)?,
         worth: Cents::ZERO,
         requirement: Cents::ZERO,
     })
 }
 
-// A unit of two lots.
-fn row_of_two(alloc: Global, set: &ParamSet) -> Result<Row, AllocError>
+// A unit with these quantities of the first contract in its portfolios.
+fn row_of(alloc: Global, set: &ParamSet, quantities: [i8; 4]) -> Result<Row, AllocError>
     requires { 0 < length set.now.contracts }
     ensures { IfOk result (IsRow set.now) }
 {
+    let [lots, buys, sales, all] = quantities;
     Ok(Row {
-        sizes: nets_of(alloc, set, 2)?,
-        lots: two(alloc, set)?,
-        buys: two(alloc, set)?,
-        sales: two(alloc, set)?,
-        all: two(alloc, set)?,
+        sizes: nets_of(alloc, set, lots)?,
+        lots: holding(alloc, set, lots)?,
+        buys: holding(alloc, set, buys)?,
+        sales: holding(alloc, set, sales)?,
+        all: holding(alloc, set, all)?,
     })
 }
 
@@ -262,8 +263,33 @@ fn switched(
     requires contract { 0 < length set.now.contracts }
     requires prepared { IfSome prepared (IsPrepared set.now) }
 {
-    let row = row_of_two(alloc, set)?;
+    let row = row_of(alloc, set, [2; 4])?;
     required_after(alloc, set, &row, prepared)
+}
+
+// How many risk arrays are read for a unit whose row is made anew under a set, with these quantities of the first
+// contract in its portfolios.
+fn read_anew(alloc: Global, set: &ParamSet, quantities: [i8; 4]) -> Result<u64, AllocError>
+    requires { 0 < length set.now.contracts }
+{
+    let row = row_of(alloc, set, quantities)?;
+    let switch = Switch::new(alloc, set, set)?;
+    let mut work = Work::new();
+    let _row = row.under(alloc, &switch, Cents::ZERO, None, &mut work)?;
+    Ok(work.arrays())
+}
+
+// The same for a unit whose row stays, since each contract keeps its place.
+fn read_in_place(alloc: Global, set: &ParamSet, quantities: [i8; 4]) -> Result<u64, AllocError>
+    requires { 0 < length set.now.contracts }
+{
+    let row = row_of(alloc, set, quantities)?;
+    let switch = Switch::new(alloc, set, set)?;
+    let mut work = Work::new();
+    if switch.keeps_places() {
+        let _amounts = row.amounts_under(alloc, &switch, Cents::ZERO, &mut work)?;
+    }
+    Ok(work.arrays())
 }
 
 // What a row as it may stand answers.
@@ -298,10 +324,27 @@ fn check_switches(rt: &impl Abort, alloc: Global, set: &ParamSet) -> Result<(), 
     Ok(())
 }
 
+// Portfolios with equal nets are worked out once: all four, those of one held side, and no two where both sides are held.
+fn check_reads(rt: &impl Abort, alloc: Global, set: &ParamSet) -> Result<(), Fail> {
+    assert!(rt; set.contract_count() > 0);
+    for (quantities, arrays) in [
+        ([2, 2, 2, 2], 1),
+        ([2, 5, 2, 5], 2),
+        ([2, 2, -1, -1], 2),
+        ([2, 5, -1, 2], 3),
+        ([2, 5, -1, 3], 4),
+    ] {
+        assert_eq!(rt; read_anew(alloc, set, quantities)?, arrays);
+        assert_eq!(rt; read_in_place(alloc, set, quantities)?, arrays);
+    }
+    Ok(())
+}
+
 #[test]
 fn a_row_answers_and_changes(rt: HostRuntime) -> Result<(), Fail> {
     let set = read_set(rt.alloc(), fut().as_bytes())?;
     check_answers(&rt, rt.alloc(), &set)?;
     check_changes(&rt, rt.alloc(), &set)?;
-    check_switches(&rt, rt.alloc(), &set)
+    check_switches(&rt, rt.alloc(), &set)?;
+    check_reads(&rt, rt.alloc(), &set)
 }
