@@ -1,6 +1,6 @@
 //! What units require under a set, worked out before that set comes into force.
 
-ghost use Rattle.std.specs.Prelude.{◌≡◌, IfOk, Ok};
+ghost use Rattle.std.specs.Prelude.{◌≡◌, IfOk, IsOk};
 ghost use Rattle.mgn_nets.specs.Portfolios.{AreNets, AreUnitNets, behind};
 ghost use Rattle.mgn_unit.specs.NewSets.{IsPrepared, IsPreparedPortfolio, IsRequired, carried, is_unit_covered};
 ghost use Rattle.mgn_unit.specs.Prepared.{AreCarried, ArePriced, IsBeside};
@@ -121,6 +121,7 @@ pub(crate) fn required_beside(
     requires nets { AreNets set.now nets.now }
     requires others { ArePriced set.now others.now }
     ensures required { IfOk result (IsRequired set.now nets.now) }
+    ensures taken { IsBeside nets.now others.now → IsOk result }
     ensures alike { IsBeside nets.now others.now → work.new ≡ work.old }
 {
     for other in others {
