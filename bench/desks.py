@@ -4,8 +4,8 @@
 A command's time is the processor's for a session with many of them, less that for the same session without, by their number.
 It is to stay the same: with 4,096 contracts, or 256 commodities, at most 1.3 times as much as with one.
 
-Usage: bench/desks.py [PROGRAM]; the program that `rt run` or `rt ci` leaves by default. Sessions run in turn, seven times
-from a file to a file, and of each, with commands and without, the run with the least counts.
+Usage: bench/desks.py [PROGRAM]; the program that `rt run` or `rt ci` leaves by default. It needs a C compiler, `cc`. Sessions
+run in turn, seven times from a file to a file, and of each, with commands and without, the run with the least counts.
 """
 import os
 import pathlib
@@ -13,6 +13,8 @@ import random
 import subprocess
 import sys
 import tempfile
+
+import native
 
 HERE = pathlib.Path(__file__).resolve().parent
 MONTHS = 12
@@ -65,7 +67,7 @@ OPENED += [line for a in range(ACCOUNTS) for line in (f"OPEN A{a} CUST", f"POST 
 
 
 def run(command, work, lines):
-    """Returns the processor seconds of a session, and the most memory that it held, in KiB."""
+    """Returns the processor seconds of a session."""
     (work / "input").write_text("\n".join(lines) + "\n")
     with open(work / "input", "rb") as given, open(work / "output", "wb") as taken:
         ran = subprocess.Popen(command, stdin=given, stdout=taken)
@@ -76,29 +78,35 @@ def run(command, work, lines):
     refused = [line for line in (work / "output").read_text().splitlines() if line.startswith("ERR")]
     if refused:
         sys.exit(f"{len(refused)} replies like {refused[0]}")
-    return used.ru_utime + used.ru_stime, used.ru_maxrss
+    return used.ru_utime + used.ru_stime
+
+
+def held(command, work, lines):
+    """Returns the bytes that a session held at most."""
+    (work / "input").write_text("\n".join(lines) + "\n")
+    return native.most_held(work, command, work / "input", work / "output")
 
 
 def main():
     program = pathlib.Path(sys.argv[1] if len(sys.argv) > 1 else HERE.parent / "crates/spand/out/spand").resolve()
-    took, held = {}, {}
+    took, unit = {}, {}
     with tempfile.TemporaryDirectory() as folder:
         work = pathlib.Path(folder)
+        native.built(work, "most")
         for commodities, contracts in SETS:
             (work / f"S{commodities}X{contracts}.csv").write_text(set_file(commodities, contracts))
         for _ in range(REPEATS):
             for commodities, contracts in SETS:
                 command = [str(program), "script", "--dir", str(work), "--set", f"S{commodities}X{contracts}"]
-                took.setdefault((commodities, contracts), []).append(run(command, work, OPENED)[0])
+                took.setdefault((commodities, contracts), []).append(run(command, work, OPENED))
                 for kind, lines_of in KINDS.items():
                     lines = lines_of(random.Random(1), contracts)
-                    took.setdefault((commodities, contracts, kind), []).append(run(command, work, OPENED + lines)[0])
+                    took.setdefault((commodities, contracts, kind), []).append(run(command, work, OPENED + lines))
         for commodities, contracts in SETS:
             command = [str(program), "script", "--dir", str(work), "--set", f"S{commodities}X{contracts}"]
             opened = ["ORIGIN CUST GROSS"] + [f"OPEN A{a} CUST" for a in range(UNITS)]
-            _, without = run(command, work, opened)
-            _, with_desks = run(command, work, opened + [f"TRADE A{a} 1 F0 1 0" for a in range(UNITS)])
-            held[commodities, contracts] = (with_desks - without) * 1024 / UNITS
+            with_desks = held(command, work, opened + [f"TRADE A{a} 1 F0 1 0" for a in range(UNITS)])
+            unit[commodities, contracts] = (with_desks - held(command, work, opened)) / UNITS
     each_of = lambda commodities, contracts, kind: (min(took[commodities, contracts, kind]) - min(took[commodities, contracts])) / COUNT
     one = {kind: each_of(1, 1, kind) for kind in KINDS}
     print("| Commodities, contracts | " + " | ".join(KINDS) + " | A unit's memory |")
@@ -106,7 +114,7 @@ def main():
     for commodities, contracts in SETS:
         each = {kind: each_of(commodities, contracts, kind) for kind in KINDS}
         cells = [f"{each[kind] * 1e9:,.0f} ns, {each[kind] / one[kind]:.2f}" for kind in KINDS]
-        print(f"| {commodities:,}, {contracts:,} | " + " | ".join(cells) + f" | {held[commodities, contracts] / 1024:,.1f} KiB |")
+        print(f"| {commodities:,}, {contracts:,} | " + " | ".join(cells) + f" | {unit[commodities, contracts] / 1024:,.1f} KiB |")
 
 
 if __name__ == "__main__":

@@ -1,14 +1,15 @@
 #!/usr/bin/env python3
-"""Counts the instructions of a command, and how many of them run while it has the book's lock.
+"""Counts the instructions of a command by one seat of a service, how many of them run while it has the book's lock, and those of
+the same command by `spand script`, which has the book to itself.
 
-Usage: bench/held.py [PROGRAM], by default the seat_script that `rt run` or `rt ci` leaves. It needs valgrind.
+Usage: bench/held.py [SEAT [SCRIPT]], by default the seat_script and the spand that `rt run` or `rt ci` leaves. It needs valgrind.
 
-The program answers a script once without and once with a number of commands of one kind, under callgrind; what is told is the
+A program answers a script once without and once with a number of commands of one kind, under callgrind; what is told is the
 difference, for each command. A service calls the book, its ledger or its register under the lock alone, so its calls of these are
 counted, with all that they call. What is compiled into the service's own functions, as the lock's own steps, is not.
 
 A customer has a position in each of 20 futures in four commodities. A switch is to a set with the same contracts, with 100 such
-customers, and is worked out on the thread of the session.
+customers, and is worked out on the thread of the session. The ratio of TRADE, HOLD, RELEASE and ASK is to stay below 1.3.
 """
 import collections
 import pathlib
@@ -87,21 +88,29 @@ def counted(program, room, lines):
         return held_in(it)
 
 
+def each_of(program, room, before, asked):
+    """Returns the instructions of each command that is asked: all, and those of calls under the lock, by what is called."""
+    without, held_without = counted(program, room, before)
+    everything, held = counted(program, room, before + asked)
+    return (everything - without) // len(asked), {it: (held[it] - held_without[it]) // len(asked) for it in held}
+
+
 def main(words):
-    program = words[0] if words else str(TOP / "crates/seat_script/out/seat_script")
-    print("| Command | Instructions | of these under the book's lock |\n|---|---|---|")
+    seat = words[0] if words else str(TOP / "crates/seat_script/out/seat_script")
+    alone = words[1] if len(words) > 1 else str(TOP / "crates/spand/out/spand")
+    print("| Command | A seat | of these under the book's lock | A script | A seat beside a script |\n|---|---|---|---|---|")
     with tempfile.TemporaryDirectory() as room:
         pathlib.Path(room, "BENCH.csv").write_text(script.set_file(), encoding="utf-8")
         for name, before, asked in kinds():
-            without, held_without = counted(program, room, before)
-            everything, held = counted(program, room, before + asked)
-            if held == held_without:
+            all_of_seat, held = each_of(seat, room, before, asked)
+            all_of_script, _ = each_of(alone, room, before, asked)
+            if not any(held.values()):
                 sys.exit(f"{name}: no call under the lock was found: the program has no such names")
-            each = {what: (held[what] - held_without[what]) // len(asked) for what in held}
-            print(f"| {name} | {(everything - without) // len(asked):,} | {sum(each.values()):,} |", flush=True)
-            parts = [(what, each[what]) for what in SWITCH_PARTS if each.get(what)] if name == "SWITCH" else []
+            ratio = all_of_seat / all_of_script
+            print(f"| {name} | {all_of_seat:,} | {sum(held.values()):,} | {all_of_script:,} | {ratio:.2f} |", flush=True)
+            parts = [(what, held[what]) for what in SWITCH_PARTS if held.get(what)] if name == "SWITCH" else []
             for what, count in parts:
-                print(f"| .. in `{what}` | | {count:,} |", flush=True)
+                print(f"| .. in `{what}` | | {count:,} | | |", flush=True)
 
 
 if __name__ == "__main__":

@@ -1,10 +1,16 @@
 #!/usr/bin/env python3
 """Times what questions and new sets cost in `spand script`: each is the time of a session with them, less that of the same
-session without, by their number.
+session without, by their number. Then tells the memory that a question takes, in `spand script` and in `spand serve`.
 
-Usage: bench/questions.py [PROGRAM]; the program that `rt run` or `rt ci` leaves by default. Sessions run in turn, five times
-from a file to a file, and of each the fastest run counts.
+Usage: bench/questions.py [PROGRAM] [--memory]; the program that `rt run` or `rt ci` leaves by default, and the memory alone. It
+needs a C compiler, `cc`. Sessions run in turn, five times from a file to a file, and of each the fastest run counts.
+
+Memory is the most that a day of 1,000,000 entries held at once, nearly all of them questions, less that of the same day without
+them, by their number. One day asks for an account that is there, one for an account that is not, which is refused. The server has
+one session, and from its start a slot for each entry, so what all of the day takes by that number is told too: the slots are in it.
+It is to stay below 150 bytes.
 """
+import argparse
 import pathlib
 import random
 import subprocess
@@ -12,11 +18,16 @@ import sys
 import tempfile
 import time
 
+import native
+import serve
+
 HERE = pathlib.Path(__file__).resolve().parent
 ACCOUNTS = 1024
 COMMODITIES = 40
 MONTHS = 50
 LOTS = 10_000
+# Of the history, and the lines of a session.
+ENTRIES = 1_000_000
 MOVES = [0, 0, -1, -1, 1, 1, -2, -2, 2, 2, -3, -3, 3, 3, -2.1, 2.1]
 
 
@@ -69,8 +80,40 @@ def seconds(command, work, lines):
         return time.perf_counter() - begin
 
 
-def main():
-    program = pathlib.Path(sys.argv[1] if len(sys.argv) > 1 else HERE.parent / "crates/spand/out/spand").resolve()
+def held_by_script(program, work, before, line, count):
+    """Returns the bytes that a day held at most, and how many lines were refused."""
+    with open(work / "input", "w", encoding="ascii") as made:
+        made.writelines(f"{it}\n" for it in before)
+        made.writelines(f"{line}\n" for _ in range(count))
+    most = native.most_held(work, [program, "script", "--dir", work, "--set", "BENCH"], work / "input", work / "output")
+    with open(work / "output", "rb") as taken:
+        return most, sum(reply.startswith(b"ERR") for reply in taken)
+
+
+def held_by_server(program, work, before, line, count):
+    """Returns the same of a server with one session."""
+    (work / "opening").write_bytes(serve.text(before))
+    (work / "asked").write_bytes(serve.text([line] * count))
+    _, _, refused = serve.loaded(native.watched(work, [program]), work, serve.WINDOW, "NOACCT", [work / "asked"])
+    return native.told(work), refused
+
+
+def tell_memory(program, work):
+    for tool in ("load", "most"):
+        native.built(work, tool)
+    before = opened()[:4]
+    count = ENTRIES - len(before)
+    for way, held in (("script", held_by_script), ("serve", held_by_server)):
+        without, _ = held(program, work, before, "", 0)
+        for name, line, all_refused in (("answered", "ASK A0", 0), ("refused", "ASK NONE", count)):
+            most, refused = held(program, work, before, line, count)
+            if refused != all_refused:
+                sys.exit(f"{way}: {refused:,} of {count:,} questions were refused")
+            each, whole = (most - without) / count, most / count
+            print(f"a question {name + ', ' + way:27} {each:12,.1f} bytes, {whole:,.1f} with all that the program holds")
+
+
+def tell_times(program, work):
     none, customers, holders, house = ["ORIGIN CUST GROSS"], opened(), filled(), entered()
     sessions = {
         "read the file of a set": (none, "SWITCH BENCH", 16),
@@ -81,17 +124,28 @@ def main():
         "STMT of two lots": (customers, "STMT A7", 20_000),
         "STMT of 10,000 lots": (house, "STMT H1", 100),
     }
+    command = [program, "script", "--dir", str(work), "--set", "BENCH"]
+    runs = {name: [] for name in sessions}
+    for _ in range(5):
+        for name, (lines, line, count) in sessions.items():
+            without = seconds(command, work, lines)
+            runs[name].append((seconds(command, work, lines + [line] * count) - without) / count)
+    for name, each in runs.items():
+        print(f"{name:38} {min(each) * 1e6:12,.1f} microseconds")
+
+
+def main():
+    parser = argparse.ArgumentParser(description="Times questions and new sets, and tells the memory of questions.")
+    parser.add_argument("program", nargs="?", default=HERE.parent / "crates/spand/out/spand")
+    parser.add_argument("--memory", action="store_true")
+    words = parser.parse_args()
+    program = str(pathlib.Path(words.program).resolve())
     with tempfile.TemporaryDirectory() as folder:
         work = pathlib.Path(folder)
         (work / "BENCH.csv").write_text(set_file())
-        command = [str(program), "script", "--dir", str(work), "--set", "BENCH"]
-        runs = {name: [] for name in sessions}
-        for _ in range(5):
-            for name, (lines, line, count) in sessions.items():
-                without = seconds(command, work, lines)
-                runs[name].append((seconds(command, work, lines + [line] * count) - without) / count)
-    for name, each in runs.items():
-        print(f"{name:38} {min(each) * 1e6:12,.1f} microseconds")
+        if not words.memory:
+            tell_times(program, work)
+        tell_memory(program, work)
 
 
 if __name__ == "__main__":

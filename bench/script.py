@@ -2,17 +2,18 @@
 """Times `spand script` on a long input, beside `cat` and a plain echo of lines.
 
 Usage: bench/script.py [LINES [PROGRAM]]; 600,000 lines and the program that `rt run` or `rt ci` leaves by default.
-It needs a C compiler, `cc`, for the echo. The three programs run in turn, seven times from a file to a file, and of
-each the fastest run counts. The memory of a line is what the program holds at most, less what it holds for an empty
-input, by the lines that it keeps.
+It needs a C compiler, `cc`, for the echo and for what tells the memory. The three programs run in turn, seven times
+from a file to a file, and of each the fastest run counts. The memory of a line is what the program holds at most, less
+what it holds for an empty input, by the lines that it keeps.
 """
-import os
 import pathlib
 import random
 import subprocess
 import sys
 import tempfile
 import time
+
+import native
 
 HERE = pathlib.Path(__file__).resolve().parent
 ACCOUNTS = 100
@@ -59,22 +60,17 @@ def script(lines):
 
 
 def run(command, source, target):
-    """The seconds and the most memory, in bytes, of one run."""
+    """The seconds of one run."""
     with open(source, "rb") as given, open(target, "wb") as taken:
         begin = time.perf_counter()
-        process = subprocess.Popen(command, stdin=given, stdout=taken)
-        _, status, used = os.wait4(process.pid, 0)
-        process.returncode = os.waitstatus_to_exitcode(status)
-        seconds = time.perf_counter() - begin
-    if process.returncode != 0:
-        sys.exit(f"{command[0]} ended with status {process.returncode}")
-    return seconds, used.ru_maxrss * 1024
+        subprocess.run(command, stdin=given, stdout=taken, check=True)
+        return time.perf_counter() - begin
 
 
 def fastest(commands, source, target):
-    """The seconds of the fastest run of each command, in turn, and the most memory that the last one held."""
+    """The seconds of the fastest run of each command, in turn."""
     runs = [[run(command, source, target) for command in commands] for _ in range(7)]
-    return [min(seconds for seconds, _ in of_one) for of_one in zip(*runs)], runs[-1][-1][1]
+    return [min(of_one) for of_one in zip(*runs)]
 
 
 def main():
@@ -86,13 +82,12 @@ def main():
         with open(work / "input", "w", encoding="ascii") as made:
             made.writelines(script(lines))
         (work / "empty").write_text("")
-        echo = work / "echo"
-        subprocess.run(["cc", "-O2", "-o", echo, HERE / "echo.c"], check=True)
+        echo, _ = native.built(work, "echo"), native.built(work, "most")
         command = [str(program), "script", "--dir", str(work), "--set", "BENCH"]
-        commands = [["cat"], [str(echo)], command]
-        (cat_seconds, echo_seconds, seconds), most = fastest(commands, work / "input", work / "output")
+        commands = [["cat"], [echo], command]
+        cat_seconds, echo_seconds, seconds = fastest(commands, work / "input", work / "output")
         refused = sum(line.startswith(b"ERR") for line in open(work / "output", "rb"))
-        _, least = run(command, work / "empty", work / "output")
+        most, least = [native.most_held(work, command, work / name, work / "output") for name in ("input", "empty")]
         size = (work / "input").stat().st_size
     print(f"{lines:,} lines, {size:,} bytes, {refused:,} refused")
     print(f"cat     {cat_seconds:8.3f} s")

@@ -1,28 +1,33 @@
 #!/usr/bin/env python3
 """Times the server with several sessions beside a script of the same lines.
 
-Usage: bench/serve.py [PROGRAM] [--contracts N] [--lines N] [--runs R]
+Usage: bench/serve.py [PROGRAM] [--contracts N] [--lines N] [--runs R] [--window N] [--mix orders|trades]
 
-Each session trades, holds, releases and asks in accounts of its own, in contracts at random of a set of 50 commodities. It sends
-all its lines ahead, and reads the replies, in a process of its own. The lines are the same for every number of sessions, dealt
-out to them. Times are the least of the runs, in turn. The last column is how many commands a second there are for one of the one
-session.
+Each session has accounts of its own, in contracts at random of a set of 50 commodities. With `orders` it trades, holds, releases
+and asks in turn; with `trades` six lines in ten trade, two post and two ask. The lines are the same for every number of sessions,
+dealt out to them. The client is bench/load.c, a thread for each session, which sends lines ahead. It needs a C compiler, `cc`.
+
+The server and the script run in turn, and medians are told, with the least and the most. The client's share is its processor time
+by the time of the whole: where that comes near to one for each session, the client is what is measured.
 """
 import argparse
-import multiprocessing
 import pathlib
 import random
 import socket
+import statistics
 import subprocess
 import tempfile
-import threading
 import time
 
 import desks
+import native
 
-TOP = pathlib.Path(__file__).resolve().parent.parent
+HERE = pathlib.Path(__file__).resolve().parent
 ACCOUNTS = 16
 COMMODITIES = 50
+SESSIONS = (1, 2, 4, 16)
+# Lines under way of a session: so many that a server which has answered what it reads at once, 65,536 bytes, finds more.
+WINDOW = 8192
 
 
 def opening():
@@ -32,7 +37,7 @@ def opening():
     return lines
 
 
-def lines_of(account, count, contracts):
+def orders(account, count, contracts):
     """Returns so many lines in an account: a trade, an order, its release and a question in turn."""
     name, lines, pick = f"A{account}", [], random.Random(account)
     for turn in range(1, count // 4 + 1):
@@ -43,72 +48,94 @@ def lines_of(account, count, contracts):
     return lines
 
 
+def trades(account, count, contracts):
+    """Returns so many lines in an account: six in ten trade, two post, two ask."""
+    name, lines, pick = f"A{account}", [], random.Random(account)
+    for turn in range(1, count + 1):
+        kind = pick.randrange(10)
+        if kind < 6:
+            lines.append(f"TRADE {name} {turn} F{pick.randrange(contracts)} {pick.choice([-1, 1])} 0")
+        else:
+            lines.append(f"POST {name} CASH {pick.randrange(1, 100_000)}" if kind < 8 else f"ASK {name}")
+    return lines
+
+
+MIXES = {"orders": orders, "trades": trades}
+
+
 def text(lines):
     return "".join(f"{line}\n" for line in lines).encode()
 
 
-def time_of_script(program, folder, parts):
-    """Returns the seconds that a script of all lines takes, less those of the opening alone."""
-    words = [program, "script", "--dir", folder, "--set", "BENCH"]
+def time_of_script(program, folder, names):
+    """Returns the seconds that a script of all lines takes, from a file to a file, less those of the opening alone."""
     seconds = []
-    for lines in (text(opening()), text(opening()) + b"".join(parts)):
-        began = time.monotonic()
-        subprocess.run(words, input=lines, stdout=subprocess.DEVNULL, check=True)
-        seconds.append(time.monotonic() - began)
+    for files in ([], names):
+        given = pathlib.Path(folder, "given")
+        given.write_bytes(b"".join(pathlib.Path(name).read_bytes() for name in [f"{folder}/opening", *files]))
+        with open(given, "rb") as lines, open(f"{folder}/taken", "wb") as replies:
+            began = time.monotonic()
+            subprocess.run([program, "script", "--dir", folder, "--set", "BENCH"], stdin=lines, stdout=replies, check=True)
+            seconds.append(time.monotonic() - began)
     return seconds[1] - seconds[0]
 
 
-def exchange(connection, lines):
-    """Sends the lines, and reads as many replies meanwhile."""
-    sender = threading.Thread(target=connection.sendall, args=(lines,), daemon=True)
-    sender.start()
-    left = lines.count(b"\n")
-    while left > 0:
-        left -= connection.recv(1 << 18).count(b"\n")
-    sender.join()
-
-
-def time_of_server(program, folder, parts, sessions):
-    """Returns the seconds from the first line after the opening to the last reply, of so many sessions."""
+def loaded(words, folder, window, refusal, names):
+    """Starts a server by these words, with a session for each file of lines, and returns what the client tells: seconds, those of
+    its processors, and how many lines were refused."""
     with socket.create_server(("127.0.0.1", 0)) as it:
         port = it.getsockname()[1]
-    words = [program, "serve", "--dir", folder, "--set", "BENCH", "--port", str(port), "--sessions", str(sessions)]
-    with subprocess.Popen(words, stdout=subprocess.PIPE) as server:
-        server.stdout.readline()
-        connections = [socket.create_connection(("127.0.0.1", port)) for _ in range(sessions)]
-        exchange(connections[0], text(opening()))
-        dealt = [b"".join(parts[at::sessions]) for at in range(sessions)]
-        clients = [multiprocessing.Process(target=exchange, args=it) for it in zip(connections, dealt)]
-        began = time.monotonic()
-        for it in clients:
-            it.start()
-        for it in clients:
-            it.join()
-        seconds = time.monotonic() - began
-        for it in connections:
-            it.close()
-        server.wait()
-    return seconds
+    words = [*words, "serve", "--dir", folder, "--set", "BENCH", "--port", str(port), "--sessions", str(len(names))]
+    with subprocess.Popen(words, stdout=subprocess.PIPE, text=True) as server:
+        try:
+            if not server.stdout.readline().startswith("READY"):
+                raise SystemExit("the server did not start")
+            client = [f"{folder}/load", str(port), str(window), refusal, f"{folder}/opening", *names]
+            told = subprocess.run(client, stdout=subprocess.PIPE, text=True, check=True).stdout.split()
+        except BaseException:
+            server.kill()
+            raise
+        if not server.stdout.read().startswith("AUDIT") or server.wait() != 0:
+            raise SystemExit(f"the server ended with status {server.wait()}")
+    return float(told[0]), float(told[1]), int(told[2])
 
 
 def main():
     parser = argparse.ArgumentParser(description="Times spand serve beside spand script.")
-    parser.add_argument("program", nargs="?", default=TOP / "crates/spand/out/spand")
+    parser.add_argument("program", nargs="?", default=HERE.parent / "crates/spand/out/spand")
     parser.add_argument("--contracts", type=int, default=2000)
     parser.add_argument("--lines", type=int, default=640_000)
-    parser.add_argument("--runs", type=int, default=3)
+    parser.add_argument("--runs", type=int, default=9)
+    parser.add_argument("--window", type=int, default=WINDOW)
+    parser.add_argument("--mix", choices=MIXES, default="orders")
     words = parser.parse_args()
-    parts = [text(lines_of(account, words.lines // ACCOUNTS, words.contracts)) for account in range(ACCOUNTS)]
+    program, took, share = str(pathlib.Path(words.program).resolve()), {}, {}
     with tempfile.TemporaryDirectory() as folder:
-        (pathlib.Path(folder) / "BENCH.csv").write_text(desks.set_file(COMMODITIES, words.contracts))
-        ways = {"script": lambda: time_of_script(words.program, folder, parts)}
-        ways |= {f"{it} sessions": lambda it=it: time_of_server(words.program, folder, parts, it) for it in (1, 2, 4, 16)}
-        least = {name: float("inf") for name in ways}
+        native.built(folder, "load")
+        pathlib.Path(folder, "BENCH.csv").write_text(desks.set_file(COMMODITIES, words.contracts))
+        pathlib.Path(folder, "opening").write_bytes(text(opening()))
+        parts = [text(MIXES[words.mix](account, words.lines // ACCOUNTS, words.contracts)) for account in range(ACCOUNTS)]
+        names = {it: [f"{folder}/lines{it}.{at}" for at in range(it)] for it in SESSIONS}
+        for it in SESSIONS:
+            for at, name in enumerate(names[it]):
+                pathlib.Path(name).write_bytes(b"".join(parts[at::it]))
         for _ in range(words.runs):
-            for name, way in ways.items():
-                least[name] = min(least[name], way())
-    for name, seconds in least.items():
-        print(f"{name:12} {seconds:7.3f} s {words.lines / seconds:12,.0f} a second {least['1 sessions'] / seconds:6.2f}")
+            took.setdefault("script", []).append(time_of_script(program, folder, names[1]))
+            for it in SESSIONS:
+                seconds, worked, _ = loaded([program], folder, words.window, "-", names[it])
+                took.setdefault(it, []).append(seconds)
+                share.setdefault(it, []).append(worked / seconds)
+    count = sum(part.count(b"\n") for part in parts)
+    middle = {it: statistics.median(seconds) for it, seconds in took.items()}
+    print("| Sessions | Median | Least, most | Lines a second | beside one | The client's share |\n|---|---|---|---|---|---|")
+    for it, seconds in took.items():
+        client = f"{statistics.median(share[it]):.2f}" if it in share else ""
+        print(f"| {it} | {middle[it]:.3f} s | {min(seconds):.3f}, {max(seconds):.3f} s | {count / middle[it]:,.0f} "
+              f"| {middle[1] / middle[it]:.2f} | {client} |")
+    more = [it for it in SESSIONS if it > 1]
+    print(f"\n| `spand serve`, 1 session, beside a script of the same lines | {middle[1] / middle['script']:.2f} times its time |")
+    print(f"| {', '.join(map(str, more))} sessions beside one: the same lines in all "
+          f"| {', '.join(f'{middle[1] / middle[it]:.2f}' for it in more)} times its commands a second |")
 
 
 if __name__ == "__main__":

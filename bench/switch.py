@@ -86,6 +86,16 @@ def opening(units, contracts):
     return lines
 
 
+def exchange(connection, lines):
+    """Sends the lines, and reads as many replies meanwhile."""
+    sender = threading.Thread(target=connection.sendall, args=(lines,), daemon=True)
+    sender.start()
+    left = lines.count(b"\n")
+    while left > 0:
+        left -= connection.recv(1 << 18).count(b"\n")
+    sender.join()
+
+
 def started(program, folder):
     with socket.create_server(("127.0.0.1", 0)) as it:
         port = it.getsockname()[1]
@@ -107,7 +117,7 @@ def main():
             text = desks.set_file(COMMODITIES, words.contracts).replace("H,1,BENCH", f"H,1,{name}")
             (pathlib.Path(folder) / f"{name}.csv").write_text(text)
         server, first, second = started(words.program, folder)
-        serve.exchange(first.socket, serve.text(opening(words.units, words.contracts)))
+        exchange(first.socket, serve.text(opening(words.units, words.contracts)))
         trader = Trader(second)
         trader.start()
         took, beside, alone, twice = [], [], [], []
