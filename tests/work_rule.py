@@ -18,7 +18,7 @@ ALLOWED = {
     ("crates/mgn_prepare/src/marker.rt", "mark"),
     ("crates/mgn_pricing/src/desks.rt", "foresee"),
     ("crates/mgn_pricing/src/desks.rt", "take_back"),
-    ("crates/mgn_script/src/by_desks.rt", "commit_command"),
+    ("crates/mgn_script/src/plain.rt", "commit"),
     ("crates/mgn_script/src/plain.rt", "commit_switch"),
     ("crates/mgn_statement/src/build.rt", "commodity_figures"),
     ("crates/mgn_unit_desk/src/unit_desk.rt", "apply"),

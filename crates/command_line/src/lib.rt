@@ -13,7 +13,7 @@ const VERSION: &str = "0.3.0 (logic dac8208d650f15bf)";
 
 /// The file of a parameter set, DIR/NAME.csv.
 #[derive(Drop)]
-pub struct SetFile {
+pub struct SetPath {
     /// The folder of the sets.
     pub dir: String,
     /// The name of the set, as it was given.
@@ -24,7 +24,7 @@ pub struct SetFile {
 #[derive(Drop)]
 pub struct ServerOptions {
     /// The file of its first set.
-    pub file: SetFile,
+    pub file: SetPath,
     /// The port that it listens on, from 1.
     pub port: u16,
     /// How many sessions it serves, 1 to 16.
@@ -35,11 +35,11 @@ pub struct ServerOptions {
 #[derive(Drop)]
 pub enum Request {
     /// `script`: lines on standard input are answered on standard output, under a set.
-    Script(SetFile),
+    Script(SetPath),
     /// `serve`: the lines of several connections are answered, each a session.
     Serve(ServerOptions),
     /// `check`: what a set has is told, or why its file is none.
-    Check(SetFile),
+    Check(SetPath),
 }
 
 // An option that each command must be given, with a value.
@@ -118,10 +118,10 @@ fn text_of(alloc: Global, matches: &ArgMatches<'_>, id: &str) -> Result<String, 
     String::from_str(alloc, matches.get_str(id).unwrap_or(""))
 }
 
-fn set_file(alloc: Global, matches: &ArgMatches<'_>) -> Result<SetFile, AllocError> {
+fn set_path(alloc: Global, matches: &ArgMatches<'_>) -> Result<SetPath, AllocError> {
     let dir = text_of(alloc, matches, "dir")?;
     let set = text_of(alloc, matches, "set")?;
-    Ok(SetFile { dir, set })
+    Ok(SetPath { dir, set })
 }
 
 // The number of an option, which the parser has found within its range.
@@ -137,7 +137,7 @@ where
 
 fn server_options(alloc: Global, found: &ArgMatches<'_>) -> Result<ServerOptions, Error> {
     Ok(ServerOptions {
-        file: set_file(alloc, found)?,
+        file: set_path(alloc, found)?,
         port: number_of(alloc, found, "port")?,
         sessions: number_of(alloc, found, "sessions")?,
     })
@@ -145,13 +145,11 @@ fn server_options(alloc: Global, found: &ArgMatches<'_>) -> Result<ServerOptions
 
 // What the words that were found ask for.
 fn request_in(alloc: Global, matches: &ArgMatches<'_>) -> Result<Request, Error> {
-    let Some((name, found)) = matches.subcommand() else {
-        return Err(error_of(alloc, ErrorKind::MissingSubcommand, "no command is given")?);
-    };
-    match name {
-        "serve" => Ok(Request::Serve(server_options(alloc, found)?)),
-        "check" => Ok(Request::Check(set_file(alloc, found)?)),
-        _ => Ok(Request::Script(set_file(alloc, found)?)),
+    match matches.subcommand() {
+        Some(("script", found)) => Ok(Request::Script(set_path(alloc, found)?)),
+        Some(("serve", found)) => Ok(Request::Serve(server_options(alloc, found)?)),
+        Some(("check", found)) => Ok(Request::Check(set_path(alloc, found)?)),
+        _ => Err(error_of(alloc, ErrorKind::MissingSubcommand, "no command is given")?),
     }
 }
 

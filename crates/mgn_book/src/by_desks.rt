@@ -34,7 +34,8 @@ pub enum Decision {
 impl Book {
     /// One step of the machine and its entry in the history, what its units require being told by their desks. These
     /// have been moved by the command's plan; none is needed for a command that has no plan. Nothing that units require
-    /// is worked out in the book: no risk array is counted. (What a statement tells is worked out apart.)
+    /// is worked out in the book: no risk array is counted, by contract, and `tests/work_rule.py` lists who may start a
+    /// count of its own. (Of these it reaches one alone: what a statement tells is worked out apart.)
     ///
     /// `Full` where the history has 1,000,000 entries. Else `Stale` where a desk is of a version before the one in
     /// force. Else `Apart` where a unit of the command's plan, as it is now, has no desk here, or one that is empty, of

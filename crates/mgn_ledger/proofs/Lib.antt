@@ -1,3 +1,4 @@
 -- Lemmas of the crate.
+pub mod Apart
 pub mod Entries
 pub mod Seen

@@ -1,6 +1,6 @@
 -- A session's pass: what it has seen of the day, and so its calls with their places (own profile).
-use Rattle.std.specs.Prelude.{ℕ, ◌≡◌, List, [], ◌∷◌, ◌++◌, length, Option, Some, None, IfSome}
-use Rattle.std.specs.List.{All, sum_by}
+use Rattle.std.specs.Prelude.{ℕ, Bool, ◌≡◌, ◌==◌, List, [], ◌∷◌, ◌++◌, length, Option, Some, None, IfSome}
+use Rattle.std.specs.List.{All, IsDistinct, sum_by}
 use Rattle.mgn_params.specs.Tables.{Tables}
 use Rattle.mgn_machine.specs.declared.entry.Entry.{Entry}
 use Rattle.mgn_machine.specs.declared.entry.Item.{Item}
@@ -35,13 +35,21 @@ pub record IsCalled (old : PassView) (request : Request) (place : ℕ) (reply : 
   pub legal : Legal new.sets new.history
   pub asked : request_of new.sets (recorded request reply) ≡ request
 
+abbrev pub same_session : PassView → PassView → Bool
+same_session p q = p.session == q.session
+
+-- no two passes are of one session
+abbrev pub AreApart : List PassView → Type 0
+AreApart passes = IsDistinct same_session passes
+
 -- There is one legal history of so many entries, as many as the passes have calls, whose entries of each session are its
--- transcript.
+-- transcript; and no two passes are of one session.
 pub record AreAudited (sets : List Tables) (history : List Entry) (passes : List PassView) (entries : ℕ) : Type 0 where
   pub legal : Legal sets history
   pub long : length history ≡ entries
   pub whole : sum_by (λ (p : PassView). length (transcript p)) passes ≡ entries
   pub each : All (λ (p : PassView). items_of p.session history ≡ transcript p) passes
+  pub apart : AreApart passes
 
 -- A pass beside a day: the day's history begins with what the pass has seen, and has no more calls of it.
 pub record IsBeside (p : PassView) (day : Day) : Type 0 where

@@ -1,4 +1,5 @@
-ghost use Rattle.std.specs.Prelude.{ℕ, ◌≡◌, ◌+◌, ◌<◌, false, true, length, None, IsTrue, IfOk, IfSome};
+ghost use Rattle.std.specs.Prelude.{ℕ, ◌≡◌, ◌==◌, ◌+◌, ◌<◌, false, true, length, None, IsTrue, IfOk, IfSome};
+ghost use Rattle.std.specs.List.{list_any};
 ghost use Rattle.mgn_machine.specs.Refusals.{place_of};
 ghost use Rattle.mgn_machine.specs.declared.reply.Refusal.TheVariants.{Broken};
 ghost use Rattle.mgn_machine.specs.declared.reply.Reply.TheVariants.{Refused};
@@ -11,7 +12,7 @@ ghost use Rattle.mgn_day.specs.Changes.{SameUnit};
 ghost use Rattle.mgn_day.specs.Days.{set_of, version_of};
 ghost use Rattle.mgn_day.specs.Gathering.{AreReady};
 ghost use Rattle.mgn_ledger.specs.Ledgers.{Answers, Enters, IsUnplaced};
-ghost use Rattle.mgn_ledger.specs.Passes.{AreAudited, IsBeside, fresh};
+ghost use Rattle.mgn_ledger.specs.Passes.{AreApart, AreAudited, IsBeside, fresh};
 
 use crate::entered::{AuditFault, Entered};
 use crate::image::Image;
@@ -363,12 +364,15 @@ impl<'a, T: Image, J: TableName + SlotNames> Ledger<'a, T, J> {
     }
 
     // Whether these are all passes that were made, each once.
-    fn are_all(&self, passes: &Vec<Pass<'a, T, J>>) -> bool {
-        if passes.len() != self.made as usize {
+    fn are_all(&self, passes: &Vec<Pass<'a, T, J>>) -> bool
+        ensures { IsTrue result → AreApart passes.now.items }
+    {
+        if passes.len() != usize::from(self.made) {
             return false;
         }
-        for number in 1..=self.made {
-            if !passes.iter().any(|pass| pass.session.number() == number) {
+        for i in 0..passes.len() {
+            let session = passes[i].session;
+            if session.number() > self.made || is_one_of(&passes[..i], session) {
                 return false;
             }
         }
@@ -385,6 +389,15 @@ impl<'a, T: Image, J: TableName + SlotNames> Ledger<'a, T, J> {
         }
         lowest
     }
+}
+
+// Whether one of some passes is of a session.
+fn is_one_of<'a, T: Image, J: SlotNames>(passes: &[Pass<'a, T, J>], session: SessionNo) -> bool
+    ensures { result ≡ list_any (λ p. session == p.session) passes.now }
+{
+    passes
+        .iter()
+        .any(|pass| session.number() == pass.session.number())
 }
 
 // Why a pass's next call gets no place, if so: the ledger is broken, or is from now on since the pass does not fit it

@@ -62,6 +62,14 @@ two-keeps u v old between new first second k is =
     let not_planned = either-false (u.unit == k) (v.unit == k) is in
     second k (apart-of v.unit k not_planned.1) ∙ first k (apart-of u.unit k not_planned.0)
 
+pub one-keeps : (u : UnitChange) (old new : List DeskRows) → KeepsOthers u.unit old new → KeepsUnplanned (One u) old new
+one-keeps u old new others k is = others k (apart-of u.unit k is)
+
+pub two-keeps-back : (u v : UnitChange) (old between new : List DeskRows) → KeepsOthers v.unit old between → KeepsOthers u.unit between new → KeepsUnplanned (Two u v) old new
+two-keeps-back u v old between new first second k is =
+    let not_planned = either-false (u.unit == k) (v.unit == k) is in
+    second k (apart-of u.unit k not_planned.0) ∙ first k (apart-of v.unit k not_planned.1)
+
 -- Moved back.
 
 pub one-back : (set' : Tables) (version : ℕ) (rows : List Row) (u : UnitChange) (old new : List DeskRows) → AreDesks set' version (One u) rows old → Rests set' version (nets_in (row_at set' rows u.unit)) (marked_at new u.unit) → KeepsOthers u.unit old new → length new ≡ length old → AreDesks set' version Nothing rows new

@@ -84,6 +84,10 @@ is_planned (Two u v) k = (u.unit == k) || (v.unit == k)
 abbrev pub KeepsUnplanned : Plan → List DeskRows → List DeskRows → Type 0
 KeepsUnplanned plan old new = (k : ℕ) → is_planned plan k ≡ false → marked_at new k ≡ marked_at old k
 
+-- the desks of a plan's units are empty
+abbrev pub AreEmpty : Plan → List DeskRows → Type 0
+AreEmpty plan desks = (k : ℕ) → is_planned plan k ≡ true → marked_at desks k ≡ None
+
 -- the desk of a unit is ready with its nets after a change
 abbrev pub IsMovedBy : Tables → ℕ → List Row → List DeskRows → UnitChange → Type 0
 IsMovedBy set version rows desks u =

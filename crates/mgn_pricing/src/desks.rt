@@ -120,7 +120,7 @@ fn back(desk: &mut Desk, version: Version, set: &ParamSet, row: &Row, change: &C
 
 impl Desks {
     ghost use Rattle.mgn_plan.specs.Plans.{KnowsAll};
-    ghost use Rattle.mgn_pricing.specs.Desks.{AreDesks, AreReady, IsReady, KeepsMarked, KeepsOthers, KeepsUnplanned, Rests, is_of, is_planned, marked_at};
+    ghost use Rattle.mgn_pricing.specs.Desks.{AreDesks, AreEmpty, AreReady, IsReady, KeepsMarked, KeepsOthers, KeepsUnplanned, Rests, is_of, marked_at};
 
     /// No desks. Takes no memory.
     pub fn new(alloc: Global) -> Desks
@@ -243,7 +243,7 @@ impl Desks {
 
     // Empties the desks of a plan's units.
     fn forget(&mut self, plan: &Plan)
-        ensures emptied { (k : ℕ) → is_planned plan.now k ≡ true → marked_at self.new k ≡ None }
+        ensures emptied { AreEmpty plan.now self.new }
         ensures others { KeepsUnplanned plan.now self.old self.new }
         ensures long { length self.new ≡ length self.old }
     {
@@ -258,8 +258,8 @@ impl Desks {
     }
 
     /// What the units of a plan require once it is done: their desks, which are marked where they have to be, move as
-    /// the plan says. An error says that memory for a mark was refused; these desks are then empty, and all are in step
-    /// with the rows whether the plan is done or not.
+    /// the plan says, and no other does. An error says that memory for a mark was refused; these desks are then empty,
+    /// and all are in step with the rows whether the plan is done or not.
     pub fn foresee(
         &mut self,
         alloc: Global,
@@ -275,6 +275,8 @@ impl Desks {
         ensures ready { OnOk result (AreReady set.now version plan.now rows.now self.new) }
         ensures moved { AreDesks set.now version plan.now rows.now self.new }
         ensures refused { OnErr result (AreDesks set.now version Nothing rows.now self.new) }
+        ensures emptied { OnErr result (AreEmpty plan.now self.new) }
+        ensures others { KeepsUnplanned plan.now self.old self.new }
     {
         let known = self.follow(alloc, version, set, rows, plan);
         if known.is_err() {
@@ -283,12 +285,13 @@ impl Desks {
         known
     }
 
-    /// Moves the desks of a plan's units back, after a plan that came to nothing.
+    /// Moves the desks of a plan's units back, after a plan that came to nothing. No other desk moves.
     pub fn take_back(&mut self, version: Version, set: &ParamSet, rows: &[Row], plan: &Plan)
         requires possible { IsPossible set.now rows.now plan.now }
         requires moved { AreDesks set.now version plan.now rows.now self.old }
         ensures rest { AreDesks set.now version Nothing rows.now self.new }
         ensures marked { KeepsMarked version self.old self.new }
+        ensures others { KeepsUnplanned plan.now self.old self.new }
     {
         match plan {
             Plan::Nothing => {}

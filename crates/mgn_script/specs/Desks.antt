@@ -3,11 +3,13 @@ use Rattle.std.specs.Prelude.{Bool, true, false, List}
 use Rattle.mgn_params.specs.Shelves.{set_at}
 use Rattle.mgn_params.specs.Tables.{Tables}
 use Rattle.mgn_desk.specs.Desks.{DeskRows}
+use Rattle.mgn_machine.specs.declared.command.Command.{Command}
 use Rattle.mgn_machine.specs.declared.reply.Reply.{Reply}
 use Rattle.mgn_machine.specs.declared.reply.Reply.TheVariants.{Done as Settled, Figures, NewSet, Refused, Statement, Totals}
 use Rattle.mgn_register.specs.BookStates.{BookState}
 use Rattle.mgn_plan.specs.declared.plans.Plan.{Plan}
 use Rattle.mgn_plan.specs.declared.plans.Plan.TheVariants.{Nothing}
+use Rattle.mgn_plan.specs.Plans.{plan_of}
 use Rattle.mgn_pricing.specs.Desks.{AreDesks}
 use Rattle.mgn_book.specs.declared.book.Outcome.{Outcome}
 use Rattle.mgn_book.specs.declared.book.Outcome.TheVariants.{Done, Full, Memory}
@@ -19,6 +21,10 @@ AreDesksBy sets book plan desks = AreDesks (set_at sets book.state.version) book
 -- the desks as its rows are
 abbrev pub AreAtRest : List Tables → BookState → List DeskRows → Type 0
 AreAtRest sets book desks = AreDesksBy sets book Nothing desks
+
+-- what a command changes in the rows of a book, under the set in force
+abbrev pub plan_in : List Tables → BookState → Command → Plan
+plan_in sets book command = plan_of (set_at sets book.state.version) book.state command
 
 -- a command is done
 abbrev pub is_settled : Reply → Bool

@@ -98,6 +98,7 @@ impl Plain {
             &self.shelf,
             number,
             command,
+            &mut Work::new(),
         )
     }
 

@@ -326,7 +326,11 @@ impl<'a, T: Image, J: TableName + SlotNames> Service<'a, T, J> {
 
     pub(crate) fn count_mark(&self, sight: &Sight<'a, T, J>) {
         if sight.is_copied() {
-            let _ = self.marks.fetch_add(1, Ordering::SeqCst);
+            let _ = self.marks.fetch_update(
+                Ordering::SeqCst,
+                Ordering::SeqCst,
+                |count| count.checked_add(1),
+            );
         }
     }
 
@@ -341,7 +345,7 @@ impl<'a, T: Image, J: TableName + SlotNames> Service<'a, T, J> {
         self.ledger.lock(rt).late_count()
     }
 
-    /// How often a call marked a desk.
+    /// How often a call marked a desk. It stays at its greatest value.
     pub fn mark_count(&self) -> u64 {
         self.marks.load(Ordering::SeqCst)
     }

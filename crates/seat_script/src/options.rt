@@ -2,7 +2,7 @@
 
 use clap::error::ErrorKind;
 use clap::{Arg, ArgMatches, Command, Error, value_parser};
-use command_line::SetFile;
+use command_line::SetPath;
 use std::alloc::{AllocError, Global};
 use std::io;
 use std::rt::Env;
@@ -12,7 +12,7 @@ use std::str::FromStr;
 #[derive(Drop)]
 pub(crate) struct Options {
     /// The file of the first set.
-    pub(crate) file: SetFile,
+    pub(crate) file: SetPath,
     /// How many workers on threads of their own share the units of a switch, up to 64; none where it is worked out on
     /// the thread of the session.
     pub(crate) workers: u8,
@@ -61,7 +61,7 @@ fn options_of(alloc: Global, words: &[String]) -> Result<Options, Error> {
         return Err(error_of(alloc, ErrorKind::MissingSubcommand, "no command is given")?);
     };
     Ok(Options {
-        file: SetFile {
+        file: SetPath {
             dir: text_of(alloc, found, "dir")?,
             set: text_of(alloc, found, "set")?,
         },

@@ -1,6 +1,6 @@
 ghost use Rattle.std.specs.Prelude.{◌≡◌};
 
-use command_line::SetFile;
+use command_line::SetPath;
 use mgn_book::MOST_ENTRIES;
 use mgn_ledger::{DayImage, Image};
 use mgn_params::ParamSet;
@@ -22,7 +22,7 @@ const WORKERS: usize = 4;
 /// switches.
 pub(crate) fn run<R: Files + Input + Print + AllocGlobal + Wait, W: Switches>(
     rt: &R,
-    file: &SetFile,
+    file: &SetPath,
     workers: &W,
 ) -> Result<(), Fault> {
     let mut folder = Folder::new(rt, file.dir.as_str());

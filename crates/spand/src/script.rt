@@ -1,4 +1,4 @@
-use command_line::SetFile;
+use command_line::SetPath;
 use mgn_params::ParamSet;
 use mgn_script::{Plain, run_script};
 use mgn_session::{Conversation, Counted};
@@ -7,7 +7,7 @@ use std::io;
 use std::rt::Files;
 
 /// Answers standard input on standard output, to the end of the input, under the set of a file.
-pub fn run<R: Files + Input + Print + AllocGlobal>(rt: &R, file: &SetFile) -> Result<(), Fault> {
+pub fn run<R: Files + Input + Print + AllocGlobal>(rt: &R, file: &SetPath) -> Result<(), Fault> {
     let mut folder = Folder::new(rt, file.dir.as_str());
     let first = spand_lib::read(rt.alloc(), &mut folder, file.set.as_str())?;
     answer(rt, first.set, &mut folder)

@@ -1,14 +1,14 @@
 use crate::fault::Fault;
 use crate::set;
 use crate::set::Folder;
-use command_line::SetFile;
+use command_line::SetPath;
 use mgn_params::ParamSet;
 use std::io::ErrorKind;
 use std::rt::Files;
 use std::{io, str};
 
 /// Tells on standard output what a set has. Where its file is no set, the fault tells the first faulty record and why.
-pub fn run<R: Files + Print + AllocGlobal>(rt: &R, file: &SetFile) -> Result<(), Fault> {
+pub fn run<R: Files + Print + AllocGlobal>(rt: &R, file: &SetPath) -> Result<(), Fault> {
     let mut folder = Folder::new(rt, file.dir.as_str());
     match set::read(rt.alloc(), &mut folder, file.set.as_str()) {
         Ok(read) => tell(rt, read.version, &read.set).map_err(|error| fault_of(&error)),

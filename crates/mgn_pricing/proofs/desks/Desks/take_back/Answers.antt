@@ -1,8 +1,8 @@
-use Rattle.std.proofs.Common.{subst}
+use Rattle.std.proofs.Common.{sym, subst}
 use Rattle.mgn_plan.specs.declared.plans.Plan.{Plan}
 use Rattle.mgn_plan.specs.Plans.{IsPossible}
-use Rattle.mgn_pricing.specs.Desks.{AreDesks}
-use Rattle.mgn_pricing.proofs.Planned.{one-back, one-marked, second-back}
+use Rattle.mgn_pricing.specs.Desks.{AreDesks, KeepsUnplanned}
+use Rattle.mgn_pricing.proofs.Planned.{one-back, one-keeps, one-marked, second-back, two-keeps-back}
 use Rattle.mgn_pricing.proofs.desks.Desks.take_back.Goals as goal
 
 pub returns-in-One : goal.returns-in-One
@@ -10,7 +10,12 @@ returns-in-One c =
     let set' = c.args.set.now in
     let moved = subst (λ (p : Plan). AreDesks set' c.args.version p c.args.rows.now c.args.self.now) c.in-One.is c.requires.moved in
     let back = c.take_back_one.ensures in
-    record { rest = one-back set' c.args.version c.args.rows.now c.in-One.change c.args.self.now c.take_back_one.new.self moved back.rests back.others back.long; marked = one-marked c.args.version c.in-One.change c.args.self.now c.take_back_one.new.self back.of_version back.others }
+    let kept = one-keeps c.in-One.change c.args.self.now c.take_back_one.new.self back.others in
+    record {
+      rest = one-back set' c.args.version c.args.rows.now c.in-One.change c.args.self.now c.take_back_one.new.self moved back.rests back.others back.long;
+      marked = one-marked c.args.version c.in-One.change c.args.self.now c.take_back_one.new.self back.of_version back.others;
+      others = subst (λ (p : Plan). KeepsUnplanned p c.args.self.now c.take_back_one.new.self) (sym c.in-One.is) kept;
+    }
 
 pub returns-in-Two : goal.returns-in-Two
 returns-in-Two c =
@@ -30,4 +35,5 @@ returns-in-Two c =
       rest = one-back set' version rows giver c.take_back_one-in-Two.new.self c.take_back_one-in-Two-2.new.self one second.rests second.others second.long;
       marked = λ k is.
           one-marked version giver between after second.of_version second.others k (one-marked version taker c.args.self.now between first.of_version first.others k is);
+      others = subst (λ (p : Plan). KeepsUnplanned p c.args.self.now after) (sym c.in-Two.is) (two-keeps-back giver taker c.args.self.now between after first.others second.others);
     }
