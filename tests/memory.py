@@ -24,7 +24,11 @@ STORED = f"{HERE}/../crates/spand"
 IN_A_ROW = 300
 # By how many workers a seat's switches are worked out, beside on its own thread, and of which sessions: those that switch.
 WORKERS = (1, 3)
-SWITCHING = ("a set without a lot's contract is refused, and one without an order's", "the session of two sets in docs/PROTOCOL.md")
+SWITCHING = (
+    "a set without a lot's contract is refused, and one without an order's",
+    "a set after the end of the day: its file is read, and then nothing else is looked at",
+    "the session of two sets in docs/PROTOCOL.md",
+)
 MEMORY = b"ERR 90 MEMORY\n"
 # The title of a session, and the floor of how many allocations were refused in it.
 SESSIONS = {
@@ -34,6 +38,7 @@ SESSIONS = {
     "each portfolio is asked for room": 170,
     "a transfer between two units, where both have room": 240,
     "a set without a lot's contract is refused, and one without an order's": 380,
+    "a set after the end of the day: its file is read, and then nothing else is looked at": 270,
     "drawing classes": 175,
     "totals of origins side by side": 300,
     "the session of two sets in docs/PROTOCOL.md": 300,

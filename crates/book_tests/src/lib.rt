@@ -14,4 +14,8 @@ mod row;
 #[cfg(test)]
 mod script;
 #[cfg(test)]
+mod sessions;
+#[cfg(test)]
+mod shared;
+#[cfg(test)]
 mod shelved;

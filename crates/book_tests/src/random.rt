@@ -190,7 +190,7 @@ impl Written {
 }
 
 // Where two texts first differ, if they do.
-fn first_difference(one: &[u8], other: &[u8]) -> Option<usize> {
+pub(crate) fn first_difference(one: &[u8], other: &[u8]) -> Option<usize> {
     if one == other {
         return None;
     }

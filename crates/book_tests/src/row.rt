@@ -292,6 +292,30 @@ fn read_in_place(alloc: Global, set: &ParamSet, quantities: [i8; 4]) -> Result<u
     Ok(work.arrays())
 }
 
+#[tactic(auto, using(mgn_unit::proofs::Flat::flat_row, mgn_unit::proofs::Flat::flat_roomy))]
+// How many risk arrays are read for what the portfolios of an empty unit require after a change.
+fn read_for(
+    alloc: Global,
+    set: &ParamSet,
+    change: &Change,
+    row: &mut Row,
+) -> Result<u64, AllocError>
+    requires change { IsChange set.now change.now }
+    requires flat { row.old ≡ no_row set.now }
+{
+    let mut work = Work::new();
+    let _priced = row.priced_with(alloc, set, change, &mut work)?;
+    Ok(work.arrays())
+}
+
+// The same of a new unit.
+fn read_first(alloc: Global, set: &ParamSet, change: &Change) -> Result<u64, AllocError>
+    requires { IsChange set.now change.now }
+{
+    let mut row = Row::flat(alloc, set)?;
+    read_for(alloc, set, change, &mut row)
+}
+
 // What a row as it may stand answers.
 fn check_answers(rt: &impl Abort, alloc: Global, set: &ParamSet) -> Result<(), AllocError> {
     assert_eq!(rt; amounts(&figures(alloc, set)?), [300, 900, 900, 900, 0]);
@@ -310,6 +334,10 @@ fn check_changes(rt: &impl Abort, alloc: Global, set: &ParamSet) -> Result<(), F
     let change = Change::of_hold(0, LotQuantity::read(b"3")?, Premium::read(b"0")?);
     let held = changed(alloc, set, &change)?;
     assert_eq!(rt; held, ([0, 900, 0, 900], true));
+    // The lots and all others gain alike by a trade: the first is worked out, and taken for the others.
+    let change = Change::of_lot(0, LotQuantity::read(b"2")?, Premium::read(b"0")?);
+    assert_eq!(rt; changed(alloc, set, &change)?, ([600; 4], true));
+    assert_eq!(rt; read_first(alloc, set, &change)?, 1);
     Ok(())
 }
 

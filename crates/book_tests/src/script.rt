@@ -8,27 +8,56 @@ use mgn_session::{Conversation, Counted, SessionFault, SetSource, SourceFault};
 use mgn_setfile::read_set;
 use std::alloc::Global;
 use std::test::Fail;
-use worked_sets::{fut, one, two};
+use worked_sets::{flat, fut, neg, odd, one, two, win};
 
-// Files of some worked sets, and a faulty one.
+// Files of some worked sets, and faulty ones.
 #[derive(Drop)]
 struct Worked {
     alloc: Global,
 }
 
+// A set whose record of a contract ends after its fifth array value.
+const CUT: &str = "\
+H,1,CUT
+G,AAA,25
+G,BBB,0
+M,AAA,1,1
+M,AAA,2,2
+M,BBB,1,1
+K,AAA1,AAA,1,F,F,10000,0,0,0,-100,-100,100
+";
+
+// One whose contract lies in a month that its commodity lacks.
+const MONTH: &str = "\
+H,1,MONTH
+G,AAA,25
+G,BBB,0
+M,AAA,1,1
+M,AAA,2,2
+M,BBB,1,1
+K,AAA1,AAA,3,F,F,10000,0,0,0,-100,-100,100,100,-200,-200,200,200,-300,-300,300,300,-210,210
+";
+
 /// The text of such a file, by its name.
 pub(crate) fn text_of(name: &[u8]) -> Option<&'static str> {
-    if name == b"ONE".as_slice() {
-        Some(one())
-    } else if name == b"TWO".as_slice() {
-        Some(two())
-    } else if name == b"FUT".as_slice() {
-        Some(fut())
-    } else if name == b"BROKEN".as_slice() {
-        Some("H,1,BROKEN\nG,AAA,0\nM,AAA,1,9\n")
-    } else {
-        None
+    let files = [
+        ("ONE", one()),
+        ("TWO", two()),
+        ("FUT", fut()),
+        ("ODD", odd()),
+        ("FLAT", flat()),
+        ("NEG", neg()),
+        ("WIN", win()),
+        ("BROKEN", "H,1,BROKEN\nG,AAA,0\nM,AAA,1,9\n"),
+        ("CUT", CUT),
+        ("MONTH", MONTH),
+    ];
+    for (of, text) in files {
+        if of.as_bytes() == name {
+            return Some(text);
+        }
     }
+    None
 }
 
 impl SetSource for Worked {

@@ -248,3 +248,45 @@ fn desks_of_calls(rt: HostRuntime) -> Result<(), Fail> {
     let set = read_text(rt.alloc(), &file)?;
     agree_after_all(&rt, rt.alloc(), &set, 200)
 }
+
+// Where the lots of a contract, and these with the held buys, go by a trade of 2, by an order for 3 more and by its
+// fill, and how many risk arrays each of these reads.
+const COMMANDS: [(i64, i64, u64); 3] = [(2, 2, 4), (2, 5, 2), (5, 5, 2)];
+
+// What so many contracts require at 300 each.
+fn cents_of(contracts: i64) -> Cents {
+    Cents::new(i128::from(contracts) * 300)
+}
+
+// Brings the first contract there. It requires 300 a contract, by the desk and anew.
+fn check_command(
+    rt: &impl Abort,
+    alloc: Global,
+    beside: &mut Beside,
+    command: (i64, i64, u64),
+) -> Result<(), Fail> {
+    let (lots, buys, arrays) = command;
+    let nets = FourNets {
+        lots,
+        buys,
+        sales: lots,
+        all: buys,
+    };
+    let (_, read) = beside.bring_counted(rt, 0, &nets);
+    assert_eq!(rt; read, arrays);
+    let required = beside.agree(rt, alloc)?;
+    let (by_lots, with_buys) = (cents_of(lots), cents_of(buys));
+    assert_eq!(rt; (required.lots, required.buys), (by_lots, with_buys));
+    assert_eq!(rt; (required.sales, required.all), (by_lots, with_buys));
+    Ok(())
+}
+
+#[test]
+fn a_trade_reads_four_arrays_and_a_hold_and_a_fill_two(rt: HostRuntime) -> Result<(), Fail> {
+    let set = Worked::One.read(rt.alloc())?;
+    let mut beside = Beside::new(rt.alloc(), &set)?;
+    for command in COMMANDS.iter() {
+        check_command(&rt, rt.alloc(), &mut beside, *command)?;
+    }
+    Ok(())
+}

@@ -24,7 +24,7 @@ fn set_of(alloc: Global, name: SetName, class: ClassName) -> Result<ParamSet, Al
     Ok(set)
 }
 
-// Posts 6 dollars of cash and 3 bills: 600 and 3 * 9,950 * 0.97 = 28,954.5, rounded down.
+// Posts 10 dollars of cash, and after these 9, and 3 bills: 900 and 3 * 9,950 * 0.97 = 28,954.5, rounded down.
 fn check_value(
     rt: &impl Abort,
     collateral: &mut Collateral,
@@ -32,17 +32,19 @@ fn check_value(
     cash: &ClassName,
     bill: &ClassName,
 )
-    requires cash { 600 ≤ most_of cash.now }
+    requires cash { 1000 ≤ most_of cash.now }
     requires bill { 3 ≤ most_of bill.now }
 {
-    assert!(rt; collateral.write(cash, 600).is_ok());
-    assert_eq!(rt; collateral.value_with(set, bill, 3).amount(), 29_554);
+    assert!(rt; collateral.write(cash, 1000).is_ok());
+    assert_eq!(rt; collateral.value(set).amount(), 1000);
+    assert!(rt; collateral.write(cash, 900).is_ok());
+    assert_eq!(rt; collateral.value_with(set, bill, 3).amount(), 29_854);
     assert!(rt; collateral.write(bill, 3).is_ok());
-    assert_eq!(rt; collateral.value(set).amount(), 29_554);
+    assert_eq!(rt; collateral.value(set).amount(), 29_854);
     assert_eq!(rt; collateral.value_with(set, cash, 0).amount(), 28_954);
     assert_eq!(rt;
         (collateral.amount(cash), collateral.amount(bill)),
-        (600, 3)
+        (900, 3)
     );
 }
 

@@ -129,3 +129,29 @@ fn a_released_hold_is_gone(rt: HostRuntime) -> Result<(), Fail> {
     check_release(&rt, &mut holds, &buy, &sale);
     Ok(())
 }
+
+// Holds 4 options at 60 cents, and fills them all at once: not 5, and not above the limit.
+fn check_whole(rt: &impl Abort, holds: &mut Holds, held: &Held)
+    requires { IsHeld held.now }
+{
+    assert!(rt; add(holds, held));
+    assert_eq!(rt; figures(holds), (1, Some(4)));
+    assert!(rt; !fill(holds, held.order, Quantity::new(5), 60));
+    assert!(rt; !fill(holds, held.order, Quantity::new(4), 61));
+    assert!(rt; fill(holds, held.order, Quantity::new(4), 60));
+    assert_eq!(rt; figures(holds), (0, None));
+    assert!(rt; !fill(holds, held.order, Quantity::new(1), 60));
+}
+
+#[test]
+fn a_hold_is_filled_whole(rt: HostRuntime) -> Result<(), Fail> {
+    let held = Held {
+        order: OrderId::read(b"5")?,
+        contract: ContractName::read(b"AAAC")?,
+        quantity: Quantity::new(4),
+        limit: 60,
+    };
+    let mut holds = Holds::new(rt.alloc());
+    check_whole(&rt, &mut holds, &held);
+    Ok(())
+}

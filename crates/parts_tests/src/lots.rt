@@ -1,7 +1,8 @@
 //! Lists of lots, alone and two beside one another.
+ghost use Rattle.std.specs.Prelude.{IfOk};
 ghost use Rattle.mgn_lots.specs.Lots.{IsLot};
 
-use mgn_ids::{ContractName, LotId, ShortId};
+use mgn_ids::{ContractName, IdFault, LotId, LotQuantity, Premium, ShortId};
 use mgn_lots::{Lot, Lots, Mark, add_both};
 use mgn_num::Quantity;
 use std::alloc::Global;
@@ -80,6 +81,45 @@ fn a_busted_lot_counts_no_more(rt: HostRuntime) -> Result<(), Fail> {
     let sold = sold(LotId::read(b"2")?, contract);
     let mut lots = Lots::new(rt.alloc());
     check_bust(&rt, &mut lots, &bought, &sold);
+    Ok(())
+}
+
+// A lot of these words, by a trade.
+fn lot_of(number: &[u8], contract: &[u8], quantity: &[u8], premium: &[u8]) -> Result<Lot, IdFault>
+    ensures { IfOk result IsLot }
+{
+    Ok(Lot {
+        number: ShortId::of_lot(LotId::read(number)?),
+        contract: ContractName::read(contract)?,
+        quantity: LotQuantity::read(quantity)?.quantity(),
+        premium: Premium::read(premium)?.cents(),
+        mark: Mark::Traded,
+    })
+}
+
+// Adds a lot, after which these are the figures of its contract.
+fn check_added(rt: &impl Abort, lots: &mut Lots, lot: &Lot, expected: (usize, i64, u64))
+    requires { IsLot lot.now }
+{
+    assert!(rt; add(lots, lot));
+    assert_eq!(rt; figures(lots, &lot.contract), expected);
+}
+
+// A spread between two contracts.
+fn check_spread(rt: &impl Abort, lots: &mut Lots) -> Result<(), IdFault> {
+    check_added(rt, lots, &lot_of(b"1", b"AAA1", b"2", b"0")?, (1, 2, 2));
+    check_added(rt, lots, &lot_of(b"2", b"AAA2", b"-2", b"0")?, (2, -2, 2));
+    assert_eq!(rt; figures(lots, &ContractName::read(b"AAA1")?), (2, 2, 2));
+    Ok(())
+}
+
+#[test]
+fn lots_are_added_and_counted_by_their_contracts(rt: HostRuntime) -> Result<(), Fail> {
+    let mut spread = Lots::new(rt.alloc());
+    check_spread(&rt, &mut spread)?;
+    let bought = lot_of(b"1", b"AAAC", b"4", b"60")?;
+    let mut options = Lots::new(rt.alloc());
+    check_added(&rt, &mut options, &bought, (1, 4, 4));
     Ok(())
 }
 

@@ -6,6 +6,8 @@ mod crossing;
 #[cfg(test)]
 mod lent;
 #[cfg(test)]
+mod marks;
+#[cfg(test)]
 mod meeting;
 #[cfg(test)]
 mod player;

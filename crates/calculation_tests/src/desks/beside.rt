@@ -271,16 +271,27 @@ impl<'a> Beside<'a> {
         self.all.write(contract, some_net(rt, nets.all));
     }
 
-    /// Brings the nets of a contract to these, the desk by the moves that lead there. It reads an array for each portfolio
-    /// that moves.
-    pub(super) fn bring(&mut self, rt: &impl Abort, contract: usize, nets: &FourNets) -> Moves {
+    /// Brings the nets of a contract to these, the desk by the moves that lead there. Tells the moves, and how many
+    /// arrays they read.
+    pub(super) fn bring_counted(
+        &mut self,
+        rt: &impl Abort,
+        contract: usize,
+        nets: &FourNets,
+    ) -> (Moves, u64) {
         assert!(rt; contract < self.set.contract_count());
         let moves = self.moves_to(rt, contract, nets);
         let mut work = Work::new();
         expect_rooms(rt, self.set, &self.desk, &moves);
         self.desk.apply(self.set, &moves, &mut work);
-        assert_eq!(rt; work.arrays(), count_moved(&moves));
         self.write(rt, contract, nets);
+        (moves, work.arrays())
+    }
+
+    /// Brings them there by moves that read an array for each portfolio that moves.
+    pub(super) fn bring(&mut self, rt: &impl Abort, contract: usize, nets: &FourNets) -> Moves {
+        let (moves, arrays) = self.bring_counted(rt, contract, nets);
+        assert_eq!(rt; arrays, count_moved(&moves));
         moves
     }
 
