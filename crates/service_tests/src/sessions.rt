@@ -56,8 +56,8 @@ fn call<'a, R: Wait + Abort, T: Image, J: TableName + SlotNames, G: Gate>(
     assert!(rt; text.as_slice() == reply.as_bytes(), "at {line}");
 }
 
-// One account's orders, of which those that buy and those that sell do not cover one another.
-const ORDERS: [Answered; 14] = [
+/// One account's orders, of which those that buy and those that sell do not cover one another.
+pub(crate) const ORDERS: [Answered; 14] = [
     ("ORIGIN CUST GROSS", "OK 1\n"),
     ("OPEN A1 CUST", "OK 2\n"),
     ("POST A1 CASH 900", "OK 3\n"),
@@ -164,6 +164,20 @@ pub(crate) fn fresh<'a, R: Wait, T: Image, J: TableName + SlotNames>(
     Ok(Service::new(rt, alloc, slots, table, first, WORKERS)?)
 }
 
+// The next passes of a service.
+fn passes_of<'a, R: Wait, T: Image, J: TableName + SlotNames>(
+    rt: &R,
+    alloc: Global,
+    service: &Service<'a, T, J>,
+    count: u8,
+) -> Result<Vec<Pass<'a, T, J>>, Fail> {
+    let mut passes = Vec::new(alloc);
+    for _ in 0..count {
+        passes.push(service.pass(rt).ok_or("a pass")?)?;
+    }
+    Ok(passes)
+}
+
 fn sixteen<R: Wait + Abort, T: Image, J: TableName + SlotNames>(
     rt: &R,
     alloc: Global,
@@ -174,10 +188,7 @@ fn sixteen<R: Wait + Abort, T: Image, J: TableName + SlotNames>(
     requires table { table.now ≡ J.table }
 {
     let service = fresh::<_, T, J>(rt, alloc, slots, table)?;
-    let mut passes = Vec::new(alloc);
-    for _ in 0..16u8 {
-        passes.push(service.pass(rt).ok_or("a pass")?)?;
-    }
+    let passes = passes_of(rt, alloc, &service, 16)?;
     assert!(rt; service.pass(rt).is_none());
     assert!(rt; service.close(passes) == Ok(0));
     Ok(())
@@ -190,7 +201,24 @@ fn there_are_sixteen_passes(rt: HostRuntime) -> Result<(), Fail> {
     sixteen::<_, _, Brand>(&rt, rt.alloc(), &slots, &table)
 }
 
-/// The first pass of another service, whose audit misses it.
+// The first passes of another service, whose audit misses them.
+fn other_passes<'a, R: Wait + Abort, T: Image, J: TableName + SlotNames>(
+    rt: &R,
+    alloc: Global,
+    slots: &'a Slots<T>,
+    table: &'a SetTable,
+    count: u8,
+) -> Result<Vec<Pass<'a, T, J>>, Fail>
+    requires slots { slots.now ≡ J.slots }
+    requires table { table.now ≡ J.table }
+{
+    let other = fresh::<_, T, J>(rt, alloc, slots, table)?;
+    let passes = passes_of(rt, alloc, &other, count)?;
+    assert!(rt; other.close(Vec::new(alloc)) == Err(AuditFault::Passes));
+    Ok(passes)
+}
+
+/// The first pass of another service.
 pub(crate) fn another_pass<'a, R: Wait + Abort, T: Image, J: TableName + SlotNames>(
     rt: &R,
     alloc: Global,
@@ -200,10 +228,41 @@ pub(crate) fn another_pass<'a, R: Wait + Abort, T: Image, J: TableName + SlotNam
     requires slots { slots.now ≡ J.slots }
     requires table { table.now ≡ J.table }
 {
-    let other = fresh::<_, T, J>(rt, alloc, slots, table)?;
-    let pass = other.pass(rt).ok_or("a pass")?;
-    assert!(rt; other.close(Vec::new(alloc)) == Err(AuditFault::Passes));
-    Ok(pass)
+    let passes = other_passes(rt, alloc, slots, table, 1)?;
+    Ok(passes.into_iter().next().ok_or("a pass")?)
+}
+
+// What a session calls before an audit.
+const CALLED: [Answered; 1] = [("ORIGIN CUST GROSS", "OK 1\n")];
+
+#[test]
+fn an_audit_tells_how_many_calls_there_were(rt: HostRuntime) -> Result<(), Fail> {
+    let slots = Slots::<DayImage>::new(rt.alloc(), 20)?;
+    let table = SetTable::new(rt.alloc())?;
+    keeps_desks::<_, Brand, _>(&rt, rt.alloc(), &slots, &table, &CALLED, 0)
+}
+
+fn missing<R: Wait + Abort, T: Image, J: TableName + SlotNames>(
+    rt: &R,
+    alloc: Global,
+    slots: &Slots<T>,
+    table: &SetTable,
+) -> Result<(), Fail>
+    requires slots { slots.now ≡ J.slots }
+    requires table { table.now ≡ J.table }
+{
+    let service = fresh::<_, T, J>(rt, alloc, slots, table)?;
+    let mut pass = service.pass(rt).ok_or("a pass")?;
+    play(rt, alloc, &service, &mut pass, &Through, &CALLED);
+    assert!(rt; service.close(Vec::new(alloc)) == Err(AuditFault::Passes));
+    Ok(())
+}
+
+#[test]
+fn an_audit_misses_a_pass(rt: HostRuntime) -> Result<(), Fail> {
+    let slots = Slots::<DayImage>::new(rt.alloc(), 20)?;
+    let table = SetTable::new(rt.alloc())?;
+    missing::<_, _, Brand>(&rt, rt.alloc(), &slots, &table)
 }
 
 fn unmatched<R: Wait + Abort, T: Image, J: TableName + SlotNames>(
@@ -217,8 +276,7 @@ fn unmatched<R: Wait + Abort, T: Image, J: TableName + SlotNames>(
 {
     let service = fresh::<_, T, J>(rt, alloc, slots, table)?;
     let mut pass = service.pass(rt).ok_or("a pass")?;
-    let lines = [("ORIGIN CUST GROSS", "OK 1\n")];
-    play(rt, alloc, &service, &mut pass, &Through, &lines);
+    play(rt, alloc, &service, &mut pass, &Through, &CALLED);
     let mut passes = Vec::new(alloc);
     passes.push(another_pass(rt, alloc, slots, table)?)?;
     let session = SessionNo::new(1);
@@ -231,6 +289,46 @@ fn an_audit_wants_its_own_passes(rt: HostRuntime) -> Result<(), Fail> {
     let slots = Slots::<DayImage>::new(rt.alloc(), 20)?;
     let table = SetTable::new(rt.alloc())?;
     unmatched::<_, _, Brand>(&rt, rt.alloc(), &slots, &table)
+}
+
+// A call of each of three sessions.
+const OPENED: [Answered; 3] = [
+    ("ORIGIN CUST GROSS", "OK 1\n"),
+    ("OPEN A1 CUST", "OK 2\n"),
+    ("OPEN A2 CUST", "OK 3\n"),
+];
+
+// The audit is handed the first session's own pass, and before it the passes that another service made for the third
+// and for the second.
+fn two_unmatched<R: Wait + Abort, T: Image, J: TableName + SlotNames>(
+    rt: &R,
+    alloc: Global,
+    slots: &Slots<T>,
+    table: &SetTable,
+) -> Result<(), Fail>
+    requires slots { slots.now ≡ J.slots }
+    requires table { table.now ≡ J.table }
+{
+    let service = fresh::<_, T, J>(rt, alloc, slots, table)?;
+    let mut own = passes_of(rt, alloc, &service, 3)?;
+    for (pass, call) in own.iter_mut().zip(&OPENED) {
+        play(rt, alloc, &service, pass, &Through, &[*call]);
+    }
+    let mut others = other_passes(rt, alloc, slots, table, 3)?;
+    let mut passes = Vec::new(alloc);
+    passes.push(others.pop().ok_or("a third pass")?)?;
+    passes.push(others.pop().ok_or("a second pass")?)?;
+    passes.push(own.into_iter().next().ok_or("a first pass")?)?;
+    let session = SessionNo::new(2);
+    assert!(rt; service.close(passes) == Err(AuditFault::Unmatched(session)));
+    Ok(())
+}
+
+#[test]
+fn an_audit_tells_the_lowest_session_that_it_finds_wrong(rt: HostRuntime) -> Result<(), Fail> {
+    let slots = Slots::<DayImage>::new(rt.alloc(), 20)?;
+    let table = SetTable::new(rt.alloc())?;
+    two_unmatched::<_, _, Brand>(&rt, rt.alloc(), &slots, &table)
 }
 
 /// Switches to the set of a text, and compares the answer.
@@ -314,4 +412,31 @@ fn a_lot_moves_between_units(rt: HostRuntime) -> Result<(), Fail> {
     let slots = Slots::<DayImage>::new(rt.alloc(), 20)?;
     let table = SetTable::new(rt.alloc())?;
     keeps_desks::<_, Brand, _>(&rt, rt.alloc(), &slots, &table, &MOVED, 2)
+}
+
+// A lot may not go to an account that has a cent too little. Trades of both then find their desks as they were before
+// both moved, and the lot goes under the same number once there is room.
+const NOT_MOVED: [Answered; 15] = [
+    ("ORIGIN CUST GROSS", "OK 1\n"),
+    ("OPEN A1 CUST", "OK 2\n"),
+    ("OPEN A2 CUST", "OK 3\n"),
+    ("TRADE A1 1 AAA1 1 0", "OK 4\n"),
+    ("POST A2 CASH 299", "OK 5\n"),
+    ("MOVE 9 A1 A2 AAA1 1", "ERR 6 30 NOROOM\n"),
+    ("TRADE A1 2 AAA1 1 0", "OK 7\n"),
+    ("TRADE A2 1 AAA1 1 0", "OK 8\n"),
+    ("ASK A1", "OK 9 600 600 0 0 -600\n"),
+    ("ASK A2", "OK 10 300 300 299 299 -1\n"),
+    ("POST A1 CASH 300", "OK 11\n"),
+    ("POST A2 CASH 301", "OK 12\n"),
+    ("MOVE 9 A1 A2 AAA1 1", "OK 13\n"),
+    ("ASK A1", "OK 14 300 300 300 300 0\n"),
+    ("ASK A2", "OK 15 600 600 600 600 0\n"),
+];
+
+#[test]
+fn a_refused_transfer_leaves_both_desks(rt: HostRuntime) -> Result<(), Fail> {
+    let slots = Slots::<DayImage>::new(rt.alloc(), 20)?;
+    let table = SetTable::new(rt.alloc())?;
+    keeps_desks::<_, Brand, _>(&rt, rt.alloc(), &slots, &table, &NOT_MOVED, 2)
 }

@@ -6,7 +6,8 @@ use rand::RngExt;
 use rand_pcg::Pcg32;
 use std::alloc::{AllocError, Global};
 
-const SEED: u64 = 20_261_126;
+/// What all is drawn from, which each failure names.
+pub(crate) const SEED: u64 = 20_261_126;
 
 /// How many sessions there are.
 pub(crate) const SESSIONS: u8 = 16;

@@ -1,6 +1,7 @@
 //! All sessions' requests, merged by the places of their answers, and asked again of a book of one thread.
 
 use crate::counts::Counts;
+use crate::drawn::SEED;
 use crate::text::{Rest, set_of};
 use crate::told::Told;
 use mgn_machine::Answer;
@@ -98,12 +99,12 @@ pub(crate) fn check(
     let mut text = Vec::with_capacity(alloc, 256)?;
     for place in 1..=end {
         let Some((asked, told)) = take_at(tracks, place) else {
-            panic!(rt; "no session was answered at place {place}")
+            panic!(rt; "no session was answered at place {place}, seed {SEED}")
         };
         text.clear();
         write_answer(alloc, plain, asked, &mut counts, &mut text);
         let replayed = Rest(text.as_slice()).next_line();
-        assert!(rt; replayed == Some(told), "at place {place}");
+        assert!(rt; replayed == Some(told), "at place {place}, seed {SEED}");
     }
     Ok(counts)
 }

@@ -3,7 +3,7 @@
 
 ghost use Rattle.std.specs.Prelude.{◌≡◌};
 
-use crate::drawn::{LINES, OPENING_LINES, SESSIONS, lines_of};
+use crate::drawn::{LINES, OPENING_LINES, SEED, SESSIONS, lines_of};
 use crate::player::{Player, play_all};
 use crate::replay::{Track, check, tracks};
 use crate::text::Rest;
@@ -103,7 +103,7 @@ fn play<
 // No answer lacks a place, as one would that says that the service is closed.
 fn check_placed(rt: &impl Abort, told: &[Told]) {
     for one in told {
-        assert!(rt; one.unplaced.is_empty());
+        assert!(rt; one.unplaced.is_empty(), "seed {SEED}");
     }
 }
 
@@ -129,7 +129,7 @@ fn stress<
     let plain = service.plain_count(rt);
     let entries = service.close(passes);
     check_placed(rt, &told);
-    assert!(rt; plain == 0 && entries == Ok(ENTRIES));
+    assert!(rt; plain == 0 && entries == Ok(ENTRIES), "seed {SEED}");
     Ok(told)
 }
 
@@ -152,7 +152,7 @@ fn check_by(
     tracks: &mut [Track<'_>],
 ) -> Result<(), Fail> {
     let counts = check(rt, alloc, plain, tracks, ENTRIES)?;
-    assert!(rt; counts.are_many(), "{counts:?}");
+    assert!(rt; counts.are_many(), "{counts:?}, seed {SEED}");
     Ok(())
 }
 

@@ -20,7 +20,7 @@ use std::thread::Threads;
 use std::time::Clock;
 
 /// How many of them there are.
-const LENT: usize = 3;
+const LENT: usize = 2;
 
 // An order finds no unit late, and a lot that came meanwhile one.
 fn meet<R: Threads + Wait + Clock + Abort + AllocGlobal + Sync>(
