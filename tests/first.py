@@ -55,7 +55,7 @@ def proved_answer():
     """Proves and builds the program and runs it, and returns its replies, or None."""
     jobs = max(1, min(processors(), 4, free_memory() // HELD))
     with open(f"{PROGRAM_FOLDER}/stdin", "rb") as lines:
-        words = ["rt", "run", "--jobs", str(jobs), *ARGUMENTS]
+        words = kit.command("run", "--jobs", str(jobs), *ARGUMENTS)
         ran = subprocess.run(words, cwd=PROGRAM_FOLDER, stdin=lines, stdout=subprocess.PIPE, check=False)
     if ran.returncode:
         say(f"{PROGRAM} NOT PROVED, or its run failed (status {ran.returncode})")
@@ -105,7 +105,7 @@ def prove(crate, jobs, give_way):
         copy_of(crate, room)
         folder = f"{room}/crates/{crate.name}"
         how = {"stdin": subprocess.DEVNULL, "stdout": subprocess.PIPE, "stderr": subprocess.STDOUT, "text": True}
-        words = ["nice", "-n", str(give_way), "rt", "lib", "--jobs", str(jobs)]
+        words = ["nice", "-n", str(give_way), *kit.command("lib", "--jobs", str(jobs))]
         ran = subprocess.run(words, cwd=folder, **how, errors="replace", check=False)
         if os.path.isdir(f"{folder}/out"):
             shutil.move(f"{folder}/out", f"{crate.folder}/out")
@@ -155,6 +155,7 @@ def main(words):
         return 2
     if words:
         return int(first_answer() is None)
+    kit.sum_once()
     program = next(it for it in kit.crates(source.TOP) if it.name == PROGRAM)
     if all(it.is_built() for it in program.below()) and os.path.isfile(f"{PROGRAM_FOLDER}/out/{PROGRAM}"):
         # (an answer before the proof would come after the proved one)

@@ -19,6 +19,7 @@ import time
 from concurrent.futures import ThreadPoolExecutor
 
 import green
+import kit
 import source
 
 PROGRAM = "spand"
@@ -116,7 +117,7 @@ class Gate:
         """Proves and tests the crates, runs the program, and tries the edits of some. Returns whether all are proved."""
         keys = self.repository.keys()
         cut(self.repository, proved)
-        is_proved = self.part("rt ci", ["rt", "ci"])
+        is_proved = self.part("rt ci", kit.command("ci"))
         if is_proved:
             if PROGRAM in proved:
                 self.program(f"{self.room}/crates/{PROGRAM}/out/{PROGRAM}")

@@ -1,4 +1,6 @@
-"""All that the scripts take from inside the toolchain. The rest goes by commands of rt. kit_selftest.py tries each name."""
+"""All that the scripts take from inside the toolchain. The rest goes by commands of rt. kit_selftest.py tries each name.
+
+Called with words it runs rt with these (see sum_once)."""
 import functools
 import importlib.machinery
 import importlib.util
@@ -20,6 +22,26 @@ def rt():
     loader.exec_module(made)
     made.rtlib.guarded()  # (its first call sets a signal's handler, which only the main thread may)
     return made
+
+
+def sum_once():
+    """Has this program sum the files of each crate once. The toolchain sums them once for each way that leads down to a crate, at
+    each question whether a library is that of its files: for the highest crates that takes minutes. Only where nobody writes to
+    the files meanwhile."""
+    crate, known = rt().rtlib.Crate, {}
+    sum_of = crate.stamp
+
+    def known_sum(it):
+        if it.folder not in known:
+            known[it.folder] = sum_of(it)
+        return known[it.folder]
+
+    crate.stamp = known_sum
+
+
+def command(*words):
+    """Returns the words that run rt, with sum_once."""
+    return [sys.executable, os.path.realpath(__file__), *words]
 
 
 def crates(top):
@@ -58,3 +80,8 @@ def token_lines(files):
     ran = subprocess.run([rt().rtlib.RATTLE, "fmt", "--tokens", *files], capture_output=True, text=True, errors="replace")
     parts = re.split(r"(?m)^file \d+\n", ran.stdout)[1:]
     return [it.splitlines() for it in parts] if ran.returncode == 0 and len(parts) == len(files) else None
+
+
+if __name__ == "__main__":
+    sum_once()
+    sys.exit(rt().main(sys.argv[1:]))

@@ -69,6 +69,12 @@ def tries(top, room):
     yield "token_lines", told is not None and any(it.endswith(' Code "double"') for it in told[0])
     write_files(top, {"unread.txt": 'fn "\n'})
     yield "token_lines: of a file that is none", kit.token_lines([file, f"{top}/unread.txt"]) is None
+    sums = [it.stamp() for it in kit.crates(top)]
+    kit.sum_once()
+    again = [[it.stamp() for it in kit.crates(top)] for _ in range(2)]
+    yield "sum_once", len(sums) > 1 and again == [sums, sums]
+    said = [subprocess.run(it, capture_output=True, text=True, check=True).stdout for it in (["rt", "version"], kit.command("version"))]
+    yield "command", said[0] == said[1] != ""
 
 
 def main():
