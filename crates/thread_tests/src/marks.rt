@@ -1,7 +1,7 @@
 //! What units require under a set to come, asked of the workers themselves: worked out by hand, and the same by the caller
 //! alone, by one and by more than there are units.
 
-ghost use Rattle.std.specs.Prelude.{IfOk, All};
+ghost use Rattle.std.specs.Prelude.{◌<◌, ◌≤◌, All, IfOk};
 ghost use Rattle.mgn_nets.specs.Portfolios.{AreNets, AreUnitNets};
 
 use mgn_nets::{Nets, Portfolios};
