@@ -281,12 +281,16 @@ fn check_command(
     Ok(())
 }
 
+fn check_commands(rt: &impl Abort, alloc: Global, beside: &mut Beside) -> Result<(), Fail> {
+    for command in COMMANDS.iter() {
+        check_command(rt, alloc, beside, *command)?;
+    }
+    Ok(())
+}
+
 #[test]
 fn a_trade_reads_four_arrays_and_a_hold_and_a_fill_two(rt: HostRuntime) -> Result<(), Fail> {
     let set = Worked::One.read(rt.alloc())?;
     let mut beside = Beside::new(rt.alloc(), &set)?;
-    for command in COMMANDS.iter() {
-        check_command(&rt, rt.alloc(), &mut beside, *command)?;
-    }
-    Ok(())
+    check_commands(&rt, rt.alloc(), &mut beside)
 }
