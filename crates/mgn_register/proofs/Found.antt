@@ -1,24 +1,30 @@
 -- What is known where nothing but want of room refuses a command, and what a plan tells of it.
-use Rattle.std.proofs.Common.{◌≡◌, ◌<◌, ℕ, Bool, true, false, List, [], length, subst, sym, ap, refl, arith, Result, Ok, Err}
+use Rattle.std.proofs.Common.{◌≡◌, ◌<◌, ℕ, Bool, true, false, List, [], length, subst, sym, ap, ◌∙◌, refl, arith, Result, Ok, Err}
 use Rattle.std.specs.Str.{bytes_eq}
+use Rattle.std.proofs.lemmas.Bool.{not-false}
 use Rattle.std.proofs.lemmas.List.{length-map}
 use Rattle.std.proofs.lemmas.List.Quantifiers.{position-Some}
 use Rattle.mgn_params.specs.Limits.{contract_names}
 use Rattle.mgn_params.specs.Tables.{Tables}
 use Rattle.mgn_params.specs.declared.tables.Contract.{Contract}
-use Rattle.mgn_lots.specs.Lots.{has_number, is_full}
-use Rattle.mgn_holds.specs.Holds.{has_order, is_full as holds_full}
+use Rattle.mgn_lots.specs.declared.lot.Lot.{Lot}
+use Rattle.mgn_lots.specs.declared.lot.Mark.{Mark}
+use Rattle.mgn_lots.specs.declared.lot.Mark.TheVariants.{Busted, Moved, Traded}
+use Rattle.mgn_lots.specs.Lots.{has_number, is_busted, is_full, is_live, lot_at, place_of_lot}
+use Rattle.mgn_holds.specs.declared.held.Held.{Held}
+use Rattle.mgn_holds.specs.Holds.{covers, has_order, hold_at, place_of_order, is_full as holds_full}
+use Rattle.mgn_machine.specs.declared.command.Fill.{Fill}
 use Rattle.mgn_machine.specs.declared.command.Hold.{Hold}
 use Rattle.mgn_machine.specs.declared.command.Trade.{Trade}
 use Rattle.mgn_machine.specs.declared.reply.Refusal.{Refusal}
-use Rattle.mgn_machine.specs.declared.reply.Refusal.TheVariants.{NoAccount, NoContract}
-use Rattle.mgn_machine.specs.Holding.{hold_places}
-use Rattle.mgn_machine.specs.Refusals.{◌>>=◌, account_names, contract_of, is_over, place_of, refuse_if, trade_places}
+use Rattle.mgn_machine.specs.declared.reply.Refusal.TheVariants.{NoAccount, NoContract, NoOrder, NoTrade}
+use Rattle.mgn_machine.specs.Holding.{fill_places, hold_places, release_places}
+use Rattle.mgn_machine.specs.Refusals.{◌>>=◌, account_names, bust_places, contract_of, found, is_over, place_of, refuse_if, trade_places}
 use Rattle.mgn_machine.specs.State.{AccountState, State, account_at}
-use Rattle.mgn_unit.specs.Changes.{hold_change, lot_change}
+use Rattle.mgn_unit.specs.Changes.{bust_change, fill_change, hold_change, lot_change, release_change}
 use Rattle.mgn_plan.specs.declared.plans.Plan.TheVariants.{One}
 use Rattle.mgn_plan.specs.declared.plans.UnitChange.{UnitChange}
-use Rattle.mgn_plan.specs.Plans.{hold_plan, in_unit_of, trade_plan}
+use Rattle.mgn_plan.specs.Plans.{bust_plan, bust_plan_at, fill_plan, fill_plan_at, hold_plan, in_unit_of, release_plan, release_plan_at, trade_plan}
 use Rattle.mgn_register.proofs.Kept.{found-Some}
 
 -- Chains of refusals that came to an end.
@@ -124,3 +130,221 @@ trade-plan-finds set' s t u planned = trade-finds set' s t (u.account, u.change.
 
 pub hold-plan-finds : (set' : Tables) (s : State) (h : Hold) (u : UnitChange) → One u ≡ hold_plan s h (hold_places set' s h) → FindsHold set' s h (u.account, u.change.contract)
 hold-plan-finds set' s h u planned = hold-finds set' s h (u.account, u.change.contract) (hold-planned s h (hold_places set' s h) u planned)
+
+-- RELEASE: where the account and the hold stand, and the hold's contract in the set
+pub record FindsRelease (set' : Tables) (s : State) (account : List ℕ) (order : ℕ) (u : UnitChange) (j : ℕ) : Type 0 where
+  pub places : release_places s account order ≡ Ok (u.account, j)
+  pub owner : u.account < length s.accounts
+  pub hold : found (place_of_order (account_at s.accounts u.account).holds order) NoOrder ≡ Ok j
+  pub stands : contract_of set' (hold_at (account_at s.accounts u.account).holds j).contract ≡ Ok u.change.contract
+  pub within : u.change.contract < length set'.contracts
+
+release-found : (s : State) (account : List ℕ) (order : ℕ) (at : ℕ × ℕ) → release_places s account order ≡ Ok at
+  → (at.0 < length s.accounts) × (found (place_of_order (account_at s.accounts at.0).holds order) NoOrder ≡ Ok at.1)
+unfolding release_places
+release-found s account order at done =
+    let a = test_passed _ _ _ at done in
+    let k = first_done _ _ at a.1 in
+    let j = first_done _ _ at k.1.1 in
+    let same : (k.0, j.0) ≡ at = cc (j.1.1) in
+    subst (λ (p : ℕ × ℕ). (p.0 < length s.accounts) × (found (place_of_order (account_at s.accounts p.0).holds order) NoOrder ≡ Ok p.1)) same
+    (place-inside s account k.0 k.1.0, j.1.0)
+
+release-planned-at : (s : State) (k : ℕ) (held : Held) (place : Result ℕ Refusal) (u : UnitChange)
+  → One u ≡ release_plan_at s k held place → (u.account ≡ k) × (place ≡ Ok u.change.contract)
+release-planned-at s k held (Ok i) u planned =
+    let same : u ≡ in_unit_of s k (release_change i held.quantity held.limit) = cc in
+    (ap (λ (x : UnitChange). x.account) same, sym (ap (λ (x : UnitChange). Ok x.change.contract) same))
+release-planned-at s k held (Err why) u planned = cc
+
+release-planned : (set' : Tables) (s : State) (account : List ℕ) (order : ℕ) (places : Result (ℕ × ℕ) Refusal) (u : UnitChange)
+  → release_places s account order ≡ places → One u ≡ release_plan set' s places → (j : ℕ) × FindsRelease set' s account order u j
+release-planned set' s account order (Ok (k, j)) u done planned =
+    let told = release-planned-at s k (hold_at (account_at s.accounts k).holds j) (contract_of set' (hold_at (account_at s.accounts k).holds j).contract) u planned in
+    let there = release-found s account order (k, j) done in
+    (j, record {
+      places = done ∙ ap (λ (x : ℕ). Ok (x, j)) (sym told.0);
+      owner = subst (λ (x : ℕ). x < length s.accounts) (sym told.0) there.0;
+      hold = subst (λ (x : ℕ). found (place_of_order (account_at s.accounts x).holds order) NoOrder ≡ Ok j) (sym told.0) there.1;
+      stands = subst (λ (x : ℕ). contract_of set' (hold_at (account_at s.accounts x).holds j).contract ≡ Ok u.change.contract) (sym told.0) told.1;
+      within = contract-inside set' (hold_at (account_at s.accounts k).holds j).contract u.change.contract told.1;
+    })
+release-planned set' s account order (Err why) u done planned = cc
+
+pub release-plan-finds : (set' : Tables) (s : State) (account : List ℕ) (order : ℕ) (u : UnitChange)
+  → One u ≡ release_plan set' s (release_places s account order) → (j : ℕ) × FindsRelease set' s account order u j
+release-plan-finds set' s account order u planned = release-planned set' s account order (release_places s account order) u refl planned
+
+-- the hold that is looked for among the account's own is the one of the plan
+pub release-place : (set' : Tables) (s : State) (account : List ℕ) (order : ℕ) (u : UnitChange) (owner : AccountState) (j : ℕ)
+  → One u ≡ release_plan set' s (release_places s account order) → owner ≡ account_at s.accounts u.account
+  → Ok j ≡ found (place_of_order owner.holds order) NoOrder → FindsRelease set' s account order u j
+release-place set' s account order u owner j planned own looked =
+    let finds = release-plan-finds set' s account order u planned in
+    let there : found (place_of_order owner.holds order) NoOrder ≡ Ok finds.0 = ap (λ (a : AccountState). found (place_of_order a.holds order) NoOrder) own ∙ finds.1.hold in
+    let same : finds.0 ≡ j = cc (looked, there) in
+    subst (FindsRelease set' s account order u) same finds.1
+
+-- and it is there
+pub release-place-there : (set' : Tables) (s : State) (account : List ℕ) (order : ℕ) (u : UnitChange) (owner : AccountState) (why : Refusal)
+  → One u ≡ release_plan set' s (release_places s account order) → owner ≡ account_at s.accounts u.account
+  → Err why ≡ found (place_of_order owner.holds order) NoOrder → ⊥
+release-place-there set' s account order u owner why planned own looked =
+    let finds = release-plan-finds set' s account order u planned in
+    let there : found (place_of_order owner.holds order) NoOrder ≡ Ok finds.0 = ap (λ (a : AccountState). found (place_of_order a.holds order) NoOrder) own ∙ finds.1.hold in
+    cc (looked, there)
+
+-- FILL: the same, and what is known of the lot and the hold
+pub record FindsFill (set' : Tables) (s : State) (f : Fill) (u : UnitChange) (j : ℕ) : Type 0 where
+  pub places : fill_places set' s f ≡ Ok (u.account, j)
+  pub owner : u.account < length s.accounts
+  pub hold : found (place_of_order (account_at s.accounts u.account).holds f.order) NoOrder ≡ Ok j
+  pub stands : contract_of set' (hold_at (account_at s.accounts u.account).holds j).contract ≡ Ok u.change.contract
+  pub within : u.change.contract < length set'.contracts
+  pub fresh : has_number (account_at s.accounts u.account).lots f.lot ≡ false
+  pub covered : covers (hold_at (account_at s.accounts u.account).holds j) f.quantity ≡ true
+  pub few : is_full (account_at s.accounts u.account).lots ≡ false
+
+record FoundFill (s : State) (f : Fill) (at : ℕ × ℕ) : Type 0 where
+  owner : at.0 < length s.accounts
+  hold : found (place_of_order (account_at s.accounts at.0).holds f.order) NoOrder ≡ Ok at.1
+  fresh : has_number (account_at s.accounts at.0).lots f.lot ≡ false
+  covered : covers (hold_at (account_at s.accounts at.0).holds at.1) f.quantity ≡ true
+  few : is_full (account_at s.accounts at.0).lots ≡ false
+
+fill-found : (set' : Tables) (s : State) (f : Fill) (at : ℕ × ℕ) → fill_places set' s f ≡ Ok at → FoundFill s f at
+unfolding fill_places
+fill-found set' s f at done =
+    let a = test_passed _ _ _ at done in
+    let k = first_done _ _ at a.1 in
+    let b = test_passed _ _ _ at k.1.1 in
+    let j = first_done _ _ at b.1 in
+    let c = test_passed _ _ _ at j.1.1 in
+    let d = test_passed _ _ _ at c.1 in
+    let e = test_passed _ _ _ at d.1 in
+    let g = test_passed _ _ _ at e.1 in
+    let same : (k.0, j.0) ≡ at = cc (g.1) in
+    subst (FoundFill s f) same record {
+      owner = place-inside s f.account k.0 k.1.0;
+      hold = j.1.0;
+      fresh = b.0;
+      covered = not-false (covers (hold_at (account_at s.accounts k.0).holds j.0) f.quantity) e.0;
+      few = g.0;
+    }
+
+fill-planned-at : (s : State) (k : ℕ) (held : Held) (f : Fill) (place : Result ℕ Refusal) (u : UnitChange)
+  → One u ≡ fill_plan_at s k held f place → (u.account ≡ k) × (place ≡ Ok u.change.contract)
+fill-planned-at s k held f (Ok i) u planned =
+    let same : u ≡ in_unit_of s k (fill_change i f.quantity held.limit f.premium) = cc in
+    (ap (λ (x : UnitChange). x.account) same, sym (ap (λ (x : UnitChange). Ok x.change.contract) same))
+fill-planned-at s k held f (Err why) u planned = cc
+
+fill-planned : (set' : Tables) (s : State) (f : Fill) (places : Result (ℕ × ℕ) Refusal) (u : UnitChange)
+  → fill_places set' s f ≡ places → One u ≡ fill_plan set' s f places → (j : ℕ) × FindsFill set' s f u j
+fill-planned set' s f (Ok (k, j)) u done planned =
+    let told = fill-planned-at s k (hold_at (account_at s.accounts k).holds j) f (contract_of set' (hold_at (account_at s.accounts k).holds j).contract) u planned in
+    let there = fill-found set' s f (k, j) done in
+    (j, record {
+      places = done ∙ ap (λ (x : ℕ). Ok (x, j)) (sym told.0);
+      owner = subst (λ (x : ℕ). x < length s.accounts) (sym told.0) there.owner;
+      hold = subst (λ (x : ℕ). found (place_of_order (account_at s.accounts x).holds f.order) NoOrder ≡ Ok j) (sym told.0) there.hold;
+      stands = subst (λ (x : ℕ). contract_of set' (hold_at (account_at s.accounts x).holds j).contract ≡ Ok u.change.contract) (sym told.0) told.1;
+      within = contract-inside set' (hold_at (account_at s.accounts k).holds j).contract u.change.contract told.1;
+      fresh = subst (λ (x : ℕ). has_number (account_at s.accounts x).lots f.lot ≡ false) (sym told.0) there.fresh;
+      covered = subst (λ (x : ℕ). covers (hold_at (account_at s.accounts x).holds j) f.quantity ≡ true) (sym told.0) there.covered;
+      few = subst (λ (x : ℕ). is_full (account_at s.accounts x).lots ≡ false) (sym told.0) there.few;
+    })
+fill-planned set' s f (Err why) u done planned = cc
+
+pub fill-plan-finds : (set' : Tables) (s : State) (f : Fill) (u : UnitChange)
+  → One u ≡ fill_plan set' s f (fill_places set' s f) → (j : ℕ) × FindsFill set' s f u j
+fill-plan-finds set' s f u planned = fill-planned set' s f (fill_places set' s f) u refl planned
+
+pub fill-place : (set' : Tables) (s : State) (f : Fill) (u : UnitChange) (owner : AccountState) (j : ℕ)
+  → One u ≡ fill_plan set' s f (fill_places set' s f) → owner ≡ account_at s.accounts u.account
+  → Ok j ≡ found (place_of_order owner.holds f.order) NoOrder → FindsFill set' s f u j
+fill-place set' s f u owner j planned own looked =
+    let finds = fill-plan-finds set' s f u planned in
+    let there : found (place_of_order owner.holds f.order) NoOrder ≡ Ok finds.0 = ap (λ (a : AccountState). found (place_of_order a.holds f.order) NoOrder) own ∙ finds.1.hold in
+    let same : finds.0 ≡ j = cc (looked, there) in
+    subst (FindsFill set' s f u) same finds.1
+
+pub fill-place-there : (set' : Tables) (s : State) (f : Fill) (u : UnitChange) (owner : AccountState) (why : Refusal)
+  → One u ≡ fill_plan set' s f (fill_places set' s f) → owner ≡ account_at s.accounts u.account
+  → Err why ≡ found (place_of_order owner.holds f.order) NoOrder → ⊥
+fill-place-there set' s f u owner why planned own looked =
+    let finds = fill-plan-finds set' s f u planned in
+    let there : found (place_of_order owner.holds f.order) NoOrder ≡ Ok finds.0 = ap (λ (a : AccountState). found (place_of_order a.holds f.order) NoOrder) own ∙ finds.1.hold in
+    cc (looked, there)
+
+-- BUST: where the account and its lot stand, and the lot's contract in the set
+pub record FindsBust (set' : Tables) (s : State) (account : List ℕ) (lot : ℕ) (u : UnitChange) (j : ℕ) : Type 0 where
+  pub places : bust_places s account lot ≡ Ok (u.account, j)
+  pub owner : u.account < length s.accounts
+  pub traded : found (place_of_lot (account_at s.accounts u.account).lots lot) NoTrade ≡ Ok j
+  pub live : is_live (lot_at (account_at s.accounts u.account).lots j).mark ≡ true
+  pub stands : contract_of set' (lot_at (account_at s.accounts u.account).lots j).contract ≡ Ok u.change.contract
+  pub within : u.change.contract < length set'.contracts
+
+bust-found : (s : State) (account : List ℕ) (lot : ℕ) (at : ℕ × ℕ) → bust_places s account lot ≡ Ok at
+  → (at.0 < length s.accounts) × (found (place_of_lot (account_at s.accounts at.0).lots lot) NoTrade ≡ Ok at.1)
+    × (is_busted (lot_at (account_at s.accounts at.0).lots at.1).mark ≡ false)
+unfolding bust_places
+bust-found s account lot at done =
+    let a = test_passed _ _ _ at done in
+    let k = first_done _ _ at a.1 in
+    let j = first_done _ _ at k.1.1 in
+    let b = test_passed _ _ _ at j.1.1 in
+    let c = test_passed _ _ _ at b.1 in
+    let same : (k.0, j.0) ≡ at = cc (c.1) in
+    subst (λ (p : ℕ × ℕ). (p.0 < length s.accounts) × (found (place_of_lot (account_at s.accounts p.0).lots lot) NoTrade ≡ Ok p.1)
+    × (is_busted (lot_at (account_at s.accounts p.0).lots p.1).mark ≡ false)) same
+    (place-inside s account k.0 k.1.0, j.1.0, b.0)
+
+live_mark : (mark : Mark) → is_busted mark ≡ false → is_live mark ≡ true
+live_mark Traded h = refl
+live_mark Moved h = refl
+live_mark Busted h = cc
+
+bust-planned-at : (s : State) (k : ℕ) (lot : Lot) (place : Result ℕ Refusal) (u : UnitChange)
+  → One u ≡ bust_plan_at s k lot place → (u.account ≡ k) × (place ≡ Ok u.change.contract)
+bust-planned-at s k lot (Ok i) u planned =
+    let same : u ≡ in_unit_of s k (bust_change i lot) = cc in
+    (ap (λ (x : UnitChange). x.account) same, sym (ap (λ (x : UnitChange). Ok x.change.contract) same))
+bust-planned-at s k lot (Err why) u planned = cc
+
+bust-planned : (set' : Tables) (s : State) (account : List ℕ) (lot : ℕ) (places : Result (ℕ × ℕ) Refusal) (u : UnitChange)
+  → bust_places s account lot ≡ places → One u ≡ bust_plan set' s places → (j : ℕ) × FindsBust set' s account lot u j
+bust-planned set' s account lot (Ok (k, j)) u done planned =
+    let told = bust-planned-at s k (lot_at (account_at s.accounts k).lots j) (contract_of set' (lot_at (account_at s.accounts k).lots j).contract) u planned in
+    let there = bust-found s account lot (k, j) done in
+    (j, record {
+      places = done ∙ ap (λ (x : ℕ). Ok (x, j)) (sym told.0);
+      owner = subst (λ (x : ℕ). x < length s.accounts) (sym told.0) there.0;
+      traded = subst (λ (x : ℕ). found (place_of_lot (account_at s.accounts x).lots lot) NoTrade ≡ Ok j) (sym told.0) there.1;
+      live = subst (λ (x : ℕ). is_live (lot_at (account_at s.accounts x).lots j).mark ≡ true) (sym told.0) (live_mark (lot_at (account_at s.accounts k).lots j).mark there.2);
+      stands = subst (λ (x : ℕ). contract_of set' (lot_at (account_at s.accounts x).lots j).contract ≡ Ok u.change.contract) (sym told.0) told.1;
+      within = contract-inside set' (lot_at (account_at s.accounts k).lots j).contract u.change.contract told.1;
+    })
+bust-planned set' s account lot (Err why) u done planned = cc
+
+pub bust-plan-finds : (set' : Tables) (s : State) (account : List ℕ) (lot : ℕ) (u : UnitChange)
+  → One u ≡ bust_plan set' s (bust_places s account lot) → (j : ℕ) × FindsBust set' s account lot u j
+bust-plan-finds set' s account lot u planned = bust-planned set' s account lot (bust_places s account lot) u refl planned
+
+pub bust-place : (set' : Tables) (s : State) (account : List ℕ) (lot : ℕ) (u : UnitChange) (owner : AccountState) (j : ℕ)
+  → One u ≡ bust_plan set' s (bust_places s account lot) → owner ≡ account_at s.accounts u.account
+  → Ok j ≡ found (place_of_lot owner.lots lot) NoTrade → FindsBust set' s account lot u j
+bust-place set' s account lot u owner j planned own looked =
+    let finds = bust-plan-finds set' s account lot u planned in
+    let there : found (place_of_lot owner.lots lot) NoTrade ≡ Ok finds.0 = ap (λ (a : AccountState). found (place_of_lot a.lots lot) NoTrade) own ∙ finds.1.traded in
+    let same : finds.0 ≡ j = cc (looked, there) in
+    subst (FindsBust set' s account lot u) same finds.1
+
+pub bust-place-there : (set' : Tables) (s : State) (account : List ℕ) (lot : ℕ) (u : UnitChange) (owner : AccountState) (why : Refusal)
+  → One u ≡ bust_plan set' s (bust_places s account lot) → owner ≡ account_at s.accounts u.account
+  → Err why ≡ found (place_of_lot owner.lots lot) NoTrade → ⊥
+bust-place-there set' s account lot u owner why planned own looked =
+    let finds = bust-plan-finds set' s account lot u planned in
+    let there : found (place_of_lot owner.lots lot) NoTrade ≡ Ok finds.0 = ap (λ (a : AccountState). found (place_of_lot a.lots lot) NoTrade) own ∙ finds.1.traded in
+    cc (looked, there)

@@ -79,10 +79,13 @@ impl Register {
         set: &ParamSet,
         account: AccountName,
         number: LotId,
+        plan: &Plan,
         known: &Known,
         work: &mut Work,
     ) -> Result<(), Fault>
         requires kept { IsKept set.now self.old }
+        requires plan { plan.now ≡
+            bust_plan set.now self.old.state (bust_places self.old.state account number) }
         requires known { Foresees set.now self.old.rows
             (bust_plan set.now self.old.state (bust_places self.old.state account number)) known.now }
         ensures kept { IsKept set.now self.new }
@@ -96,8 +99,7 @@ impl Register {
             → result ≢ Err Fault.Memory }
     {
         set.limits();
-        let (place, at) = self.bust_places(account, number)?;
-        let contract = self.contract_of_lot(set, place, at);
+        let (place, at, contract) = self.planned_bust(set, account, number, plan)?;
         let owner = &mut self.accounts[place];
         let row = &mut self.rows[owner.unit()];
         let change = Change::of_bust(contract, owner.lot_at(at));

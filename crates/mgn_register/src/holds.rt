@@ -36,7 +36,7 @@ fn new_hold(hold: &Hold) -> Held
 }
 
 // Where the hold of an order stands.
-fn order_place(owner: &Account, order: OrderId) -> Result<usize, Refusal>
+pub(crate) fn order_place(owner: &Account, order: OrderId) -> Result<usize, Refusal>
     ensures place { result ≡ found (place_of_order owner.now.holds order) Refusal.NoOrder }
     ensures within { IfOk result (λ j. j < length owner.now.holds) }
 {
@@ -175,10 +175,13 @@ impl Register {
         alloc: Global,
         set: &ParamSet,
         fill: &Fill,
+        plan: &Plan,
         known: &Known,
         work: &mut Work,
     ) -> Result<(), Fault>
         requires kept { IsKept set.now self.old }
+        requires plan { plan.now ≡
+            fill_plan set.now self.old.state fill.now (fill_places set.now self.old.state fill.now) }
         requires known { Foresees set.now self.old.rows
             (fill_plan set.now self.old.state fill.now (fill_places set.now self.old.state fill.now)) known.now }
         ensures kept { IsKept set.now self.new }
@@ -190,8 +193,7 @@ impl Register {
             known.now work.old work.new }
     {
         set.limits();
-        let (place, hold) = self.fill_places(set, fill)?;
-        let i = self.held_contract(set, place, hold);
+        let (place, hold, i) = self.planned_fill(set, fill, plan)?;
         let owner = &mut self.accounts[place];
         let held = *owner.hold_at(hold);
         let change = Change::of_fill(i, fill.quantity, held.limit, fill.premium);
@@ -218,10 +220,13 @@ impl Register {
         set: &ParamSet,
         account: AccountName,
         order: OrderId,
+        plan: &Plan,
         known: &Known,
         work: &mut Work,
     ) -> Result<(), Fault>
         requires kept { IsKept set.now self.old }
+        requires plan { plan.now ≡
+            release_plan set.now self.old.state (release_places self.old.state account order) }
         requires known { Foresees set.now self.old.rows
             (release_plan set.now self.old.state (release_places self.old.state account order)) known.now }
         ensures kept { IsKept set.now self.new }
@@ -235,8 +240,7 @@ impl Register {
             → result ≢ Err Fault.Memory }
     {
         set.limits();
-        let (place, hold) = self.release_places(account, order)?;
-        let i = self.held_contract(set, place, hold);
+        let (place, hold, i) = self.planned_release(set, account, order, plan)?;
         let owner = &mut self.accounts[place];
         let change = Change::of_release(i, owner.hold_at(hold));
         let row = &mut self.rows[owner.unit()];

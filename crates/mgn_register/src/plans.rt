@@ -1,6 +1,6 @@
-ghost use Rattle.std.specs.Prelude.{◌≡◌, ◌<◌, length, IfOk, Ok, false};
-ghost use Rattle.mgn_holds.specs.Holds.{has_order, is_full as holds_full};
-ghost use Rattle.mgn_lots.specs.Lots.{has_number, is_full};
+ghost use Rattle.std.specs.Prelude.{◌≡◌, ◌<◌, length, IfErr, IfOk, Err, Ok, false, true};
+ghost use Rattle.mgn_holds.specs.Holds.{covers, has_order, hold_at, is_full as holds_full};
+ghost use Rattle.mgn_lots.specs.Lots.{has_number, is_full, is_live, lot_at};
 ghost use Rattle.mgn_machine.specs.Holding.{fill_places, hold_places, release_places};
 ghost use Rattle.mgn_machine.specs.Refusals.{bust_places, contract_of, is_over, trade_places};
 ghost use Rattle.mgn_machine.specs.State.{account_at};
@@ -8,7 +8,8 @@ ghost use Rattle.mgn_machine.specs.Transfers.{move_places};
 ghost use Rattle.mgn_register.specs.BookStates.{IsKept};
 ghost use Rattle.mgn_plan.specs.Plans.{IsPossible, bust_plan, fill_plan, hold_plan, in_unit_of, move_plan, both_plan, plan_of, release_plan, trade_plan};
 
-use crate::register::Register;
+use crate::holds::order_place;
+use crate::register::{Register, lot_place};
 use mgn_ids::{AccountName, LotId, OrderId};
 use mgn_machine::{Command, Fill, Hold, Refusal, Trade, Transfer};
 use mgn_params::ParamSet;
@@ -171,6 +172,107 @@ impl Register {
             self.in_unit_of(from, Change::of_moved(i, quantity.negated())),
             self.in_unit_of(to, Change::of_moved(i, quantity)),
         )
+    }
+
+    // What the plan of a release found: where the account and the hold stand, and the hold's contract in the set, if it is
+    // not refused.
+    pub(crate) fn planned_release(
+        &self,
+        set: &ParamSet,
+        account: AccountName,
+        order: OrderId,
+        plan: &Plan,
+    ) -> Result<(usize, usize, usize), Refusal>
+        requires kept { IsKept set.now self.now }
+        requires plan { plan.now ≡
+            release_plan set.now self.now.state (release_places self.now.state account order) }
+        ensures places { IfOk result (λ at. Ok (at.0, at.1) ≡ release_places self.now.state account order) }
+        ensures refused { IfErr result (λ why. Err why ≡ release_places self.now.state account order) }
+        ensures account { IfOk result (λ at. at.0 < length self.now.state.accounts) }
+        ensures hold { IfOk result (λ at. at.1 < length (account_at self.now.state.accounts at.0).holds) }
+        ensures stands { IfOk result (λ at.
+            contract_of set.now (hold_at (account_at self.now.state.accounts at.0).holds at.1).contract ≡ Ok at.2) }
+        ensures within { IfOk result (λ at. at.2 < length set.now.contracts) }
+    {
+        match plan {
+            Plan::One(found) => {
+                let hold = order_place(&self.accounts[found.account], order)?;
+                Ok((found.account, hold, found.change.contract))
+            }
+            Plan::Nothing | Plan::Two(..) => {
+                let (place, hold) = self.release_places(account, order)?;
+                Ok((place, hold, self.held_contract(set, place, hold)))
+            }
+        }
+    }
+
+    // The same of a fill.
+    pub(crate) fn planned_fill(
+        &self,
+        set: &ParamSet,
+        fill: &Fill,
+        plan: &Plan,
+    ) -> Result<(usize, usize, usize), Refusal>
+        requires kept { IsKept set.now self.now }
+        requires plan { plan.now ≡
+            fill_plan set.now self.now.state fill.now (fill_places set.now self.now.state fill.now) }
+        ensures places { IfOk result (λ at. Ok (at.0, at.1) ≡ fill_places set.now self.now.state fill.now) }
+        ensures refused { IfErr result (λ why. Err why ≡ fill_places set.now self.now.state fill.now) }
+        ensures account { IfOk result (λ at. at.0 < length self.now.state.accounts) }
+        ensures hold { IfOk result (λ at. at.1 < length (account_at self.now.state.accounts at.0).holds) }
+        ensures stands { IfOk result (λ at.
+            contract_of set.now (hold_at (account_at self.now.state.accounts at.0).holds at.1).contract ≡ Ok at.2) }
+        ensures within { IfOk result (λ at. at.2 < length set.now.contracts) }
+        ensures fresh { IfOk result (λ at.
+            has_number (account_at self.now.state.accounts at.0).lots fill.now.lot ≡ false) }
+        ensures covers { IfOk result (λ at.
+            covers (hold_at (account_at self.now.state.accounts at.0).holds at.1) fill.now.quantity ≡ true) }
+        ensures few { IfOk result (λ at. is_full (account_at self.now.state.accounts at.0).lots ≡ false) }
+    {
+        match plan {
+            Plan::One(found) => {
+                let hold = order_place(&self.accounts[found.account], fill.order)?;
+                Ok((found.account, hold, found.change.contract))
+            }
+            Plan::Nothing | Plan::Two(..) => {
+                let (place, hold) = self.fill_places(set, fill)?;
+                Ok((place, hold, self.held_contract(set, place, hold)))
+            }
+        }
+    }
+
+    // What the plan of a bust found: where the account and its lot stand, and the lot's contract in the set, if it can be
+    // busted.
+    pub(crate) fn planned_bust(
+        &self,
+        set: &ParamSet,
+        account: AccountName,
+        lot: LotId,
+        plan: &Plan,
+    ) -> Result<(usize, usize, usize), Refusal>
+        requires kept { IsKept set.now self.now }
+        requires plan { plan.now ≡
+            bust_plan set.now self.now.state (bust_places self.now.state account lot) }
+        ensures places { IfOk result (λ at. Ok (at.0, at.1) ≡ bust_places self.now.state account lot) }
+        ensures refused { IfErr result (λ why. Err why ≡ bust_places self.now.state account lot) }
+        ensures account { IfOk result (λ at. at.0 < length self.now.state.accounts) }
+        ensures lot { IfOk result (λ at. at.1 < length (account_at self.now.state.accounts at.0).lots) }
+        ensures live { IfOk result (λ at.
+            is_live (lot_at (account_at self.now.state.accounts at.0).lots at.1).mark ≡ true) }
+        ensures stands { IfOk result (λ at.
+            contract_of set.now (lot_at (account_at self.now.state.accounts at.0).lots at.1).contract ≡ Ok at.2) }
+        ensures within { IfOk result (λ at. at.2 < length set.now.contracts) }
+    {
+        match plan {
+            Plan::One(found) => {
+                let at = lot_place(&self.accounts[found.account], lot)?;
+                Ok((found.account, at, found.change.contract))
+            }
+            Plan::Nothing | Plan::Two(..) => {
+                let (place, at) = self.bust_places(account, lot)?;
+                Ok((place, at, self.contract_of_lot(set, place, at)))
+            }
+        }
     }
 
     /// What a command changes in the rows of margin units, where nothing but want of room refuses it. The rows can

@@ -86,7 +86,7 @@ pub(crate) fn premium_fits(set: &ParamSet, contract: usize, premium: Premium) ->
 }
 
 // Where the lot of a number stands among the lots of an account.
-fn lot_place(owner: &Account, number: LotId) -> Result<usize, Refusal>
+pub(crate) fn lot_place(owner: &Account, number: LotId) -> Result<usize, Refusal>
     ensures place { result ≡ found (place_of_lot owner.now.lots number) NoTrade }
     ensures within { IfOk result (λ i. i < length owner.now.lots) }
 {

@@ -82,12 +82,12 @@ pub fn step(
         Command::NewAccount(name, origin) => answer_of(register.open(alloc, set, name, origin)),
         Command::Trade(trade) => answer_of(register.trade(alloc, set, &trade, plan, known, work)),
         Command::Bust(account, lot) => answer_of(register.bust(
-            alloc, set, account, lot, known, work,
+            alloc, set, account, lot, plan, known, work,
         )),
         Command::Hold(hold) => answer_of(register.hold(alloc, set, &hold, plan, known, work)),
-        Command::Fill(fill) => answer_of(register.fill(alloc, set, &fill, known, work)),
+        Command::Fill(fill) => answer_of(register.fill(alloc, set, &fill, plan, known, work)),
         Command::Release(account, order) => answer_of(register.release(
-            alloc, set, account, order, known, work,
+            alloc, set, account, order, plan, known, work,
         )),
         Command::Transfer(transfer) => answer_of(register.transfer(
             alloc, set, &transfer, known, work,

@@ -29,7 +29,7 @@ bust_lot-requires-clause-roomy c =
     let there : account_at c.args.self.now.state.accounts k ≡ a =
     sym (c.index_mut-owner.ensures.value ∙ get_or_default r.accounts.items k a no_account within ∙ ap (λ (g : BookState). account_at g.state.accounts k) c.self.view_is)
     in
-    let busting : Busting set f k at c.contract_of_lot-contract.result a row = record {
+    let busting : Busting set f k at c.in_ok-place.contract a row = record {
       within = c.limits.ensures;
       kept = search rules;
       account = within;
@@ -37,12 +37,12 @@ bust_lot-requires-clause-roomy c =
       row = c.index_mut-row.ensures.value ∙ ap (λ (u : _). get_or r.rows.items u row) c.unit.ensures;
       lot = subst (λ (x : AccountState). at < length x.lots) there c.in_ok-place.ensures.lot;
       live = subst (λ (x : AccountState). is_live (lot_at x.lots at).mark ≡ true) there c.in_ok-place.ensures.live;
-      stands = subst (λ (x : AccountState). contract_of set (lot_at x.lots at).contract ≡ Ok c.contract_of_lot-contract.result) there c.contract_of_lot-contract.ensures.stands;
+      stands = subst (λ (x : AccountState). contract_of set (lot_at x.lots at).contract ≡ Ok c.in_ok-place.contract) there c.in_ok-place.ensures.stands;
     } in
-    let change_is : c.of_bust-change.result ≡ bust_change c.contract_of_lot-contract.result (lot_at a.lots at) =
-    c.of_bust-change.ensures.change ∙ ap (bust_change c.contract_of_lot-contract.result) c.lot_at.ensures.lot
+    let change_is : c.of_bust-change.result ≡ bust_change c.in_ok-place.contract (lot_at a.lots at) =
+    c.of_bust-change.ensures.change ∙ ap (bust_change c.in_ok-place.contract) c.lot_at.ensures.lot
     in
-    subst (λ (change : Change). IsRoomy change row) (sym change_is) (bust-roomy set f k at c.contract_of_lot-contract.result a row busting)
+    subst (λ (change : Change). IsRoomy change row) (sym change_is) (bust-roomy set f k at c.in_ok-place.contract a row busting)
 
 pub returns-in_err-bust_lot-clause-kept : goal.returns-in_err-bust_lot-clause-kept
 returns-in_err-bust_lot-clause-kept c =
@@ -73,7 +73,7 @@ returns-clause-kept c =
     let there : account_at c.args.self.now.state.accounts k ≡ a =
     sym (c.index_mut-owner.ensures.value ∙ get_or_default r.accounts.items k a no_account within ∙ ap (λ (g : BookState). account_at g.state.accounts k) c.self.view_is)
     in
-    let busting : Busting set f k at c.contract_of_lot-contract.result a row = record {
+    let busting : Busting set f k at c.in_ok-place.contract a row = record {
       within = c.limits.ensures;
       kept = search rules;
       account = within;
@@ -81,15 +81,15 @@ returns-clause-kept c =
       row = c.index_mut-row.ensures.value ∙ ap (λ (u : _). get_or r.rows.items u row) c.unit.ensures;
       lot = subst (λ (x : AccountState). at < length x.lots) there c.in_ok-place.ensures.lot;
       live = subst (λ (x : AccountState). is_live (lot_at x.lots at).mark ≡ true) there c.in_ok-place.ensures.live;
-      stands = subst (λ (x : AccountState). contract_of set (lot_at x.lots at).contract ≡ Ok c.contract_of_lot-contract.result) there c.contract_of_lot-contract.ensures.stands;
+      stands = subst (λ (x : AccountState). contract_of set (lot_at x.lots at).contract ≡ Ok c.in_ok-place.contract) there c.in_ok-place.ensures.stands;
     } in
-    let change_is : c.of_bust-change.result ≡ bust_change c.contract_of_lot-contract.result (lot_at a.lots at) =
-    c.of_bust-change.ensures.change ∙ ap (bust_change c.contract_of_lot-contract.result) c.lot_at.ensures.lot
+    let change_is : c.of_bust-change.result ≡ bust_change c.in_ok-place.contract (lot_at a.lots at) =
+    c.of_bust-change.ensures.change ∙ ap (bust_change c.in_ok-place.contract) c.lot_at.ensures.lot
     in
     let said : (priced : Priced) × Prices set c.of_bust-change.result row priced = search rules in
     let changed : c.bust_lot.new.row ≡ row_with set c.of_bust-change.result row = search rules in
     let done : c.bust_lot.new.owner ≡ with_bust a at = search rules in
-    let kept = bust-kept set r.origins.items r.accounts.items r.rows.items r.closed r.version k at c.contract_of_lot-contract.result a c.bust_lot.new.owner row c.bust_lot.new.row said.0 busting
+    let kept = bust-kept set r.origins.items r.accounts.items r.rows.items r.closed r.version k at c.in_ok-place.contract a c.bust_lot.new.owner row c.bust_lot.new.row said.0 busting
     (subst (λ (x : Change). Prices set x row said.0) change_is said.1) (changed ∙ ap (λ (x : Change). row_with set x row) change_is) done
     in
     subst (λ (u : _). IsKept set (book_state r.origins.items (set' r.accounts.items k c.bust_lot.new.owner) (set' r.rows.items u c.bust_lot.new.row) r.closed r.version)) (sym c.unit.ensures) kept
@@ -104,7 +104,7 @@ returns-clause-follows c =
     let at = c.in_ok-place.at in
     let a = c.index_mut-owner.result.now in
     let row = c.index_mut-row.result.now in
-    let i = c.contract_of_lot-contract.result in
+    let i = c.in_ok-place.contract in
     let changed : c.bust_lot.new.row ≡ row_with set c.of_bust-change.result row = search rules in
     let within : k < length r.accounts.items = search rules in
     let inside : c.unit.result < length r.rows.items = search rules in
@@ -117,7 +117,7 @@ returns-clause-follows c =
     let plan : BookState → Plan = λ h. bust_plan set h.state (bust_places h.state c.args.account c.args.number) in
     let planned : plan g ≡ One (in_unit_of g.state k c.of_bust-change.result) =
     ap (bust_plan set g.state) (sym c.in_ok-place.ensures.places)
-    ∙ ap (bust_plan_at g.state k (lot_at (account_at g.state.accounts k).lots at)) c.contract_of_lot-contract.ensures.stands
+    ∙ ap (bust_plan_at g.state k (lot_at (account_at g.state.accounts k).lots at)) c.in_ok-place.ensures.stands
     ∙ ap (λ (x : Change). One (in_unit_of g.state k x)) (sym change_is)
     in
     follows-planned set f g plan k c.unit.result a c.of_bust-change.result row c.bust_lot.new.row c.self.view_is within c.index_mut-owner.ensures.value c.unit.ensures inside c.index_mut-row.ensures.value planned changed

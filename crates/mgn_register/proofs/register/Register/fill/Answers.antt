@@ -31,12 +31,12 @@ fill_hold-requires-clause-roomy c =
     c.index_mut-owner.ensures.value ∙ get_or_default c.self.inside.accounts.items c.in_ok-place.place a no_account (search rules)
     ∙ ap (λ (g : BookState). account_at g.state.accounts c.in_ok-place.place) c.self.view_is
     in
-    let stands : contract_of c.args.set.now (hold_at a.holds c.in_ok-place.hold).contract ≡ Ok c.held_contract-i.result =
-    ap (λ (x : AccountState). contract_of c.args.set.now (hold_at x.holds c.in_ok-place.hold).contract) account ∙ c.held_contract-i.ensures.stands
+    let stands : contract_of c.args.set.now (hold_at a.holds c.in_ok-place.hold).contract ≡ Ok c.in_ok-place.i =
+    ap (λ (x : AccountState). contract_of c.args.set.now (hold_at x.holds c.in_ok-place.hold).contract) account ∙ c.in_ok-place.ensures.stands
     in
     let inside : c.in_ok-place.hold < length a.holds = subst (λ (x : AccountState). c.in_ok-place.hold < length x.holds) (sym account) (c.in_ok-place.ensures.hold) in
     let row = c.index_mut-row.result.now in
-    let reads : Reads set' f at.0 c.held_contract-i.result a row (hold_at a.holds at.1).contract = record {
+    let reads : Reads set' f at.0 c.in_ok-place.i a row (hold_at a.holds at.1).contract = record {
       within = c.limits.ensures;
       kept = search rules;
       account = search rules;
@@ -45,10 +45,10 @@ fill_hold-requires-clause-roomy c =
       stands = stands;
     } in
     let x = hold_at a.holds at.1 in
-    let change = fill_change c.held_contract-i.result c.args.fill.now.quantity x.limit c.args.fill.now.premium in
-    let is : c.of_fill-change.result ≡ change = c.of_fill-change.ensures.change ∙ ap (λ (y : Held). fill_change c.held_contract-i.result c.args.fill.now.quantity y.limit c.args.fill.now.premium) c.hold_at-held.ensures.held in
+    let change = fill_change c.in_ok-place.i c.args.fill.now.quantity x.limit c.args.fill.now.premium in
+    let is : c.of_fill-change.result ≡ change = c.of_fill-change.ensures.change ∙ ap (λ (y : Held). fill_change c.in_ok-place.i c.args.fill.now.quantity y.limit c.args.fill.now.premium) c.hold_at-held.ensures.held in
     let c_is : covers x c.args.fill.now.quantity ≡ true = ap (λ (y : AccountState). covers (hold_at y.holds at.1) c.args.fill.now.quantity) account ∙ c.in_ok-place.ensures.covers in
-    subst (λ (change : Change). IsRoomy change row) (sym is) (fill-roomy set' f at.0 c.held_contract-i.result at.1 a row c.args.fill.now reads inside c_is)
+    subst (λ (change : Change). IsRoomy change row) (sym is) (fill-roomy set' f at.0 c.in_ok-place.i at.1 a row c.args.fill.now reads inside c_is)
 
 pub returns-in_err-fill_hold-clause-kept : goal.returns-in_err-fill_hold-clause-kept
 returns-in_err-fill_hold-clause-kept c =
@@ -61,12 +61,12 @@ returns-in_err-fill_hold-clause-kept c =
     c.index_mut-owner.ensures.value ∙ get_or_default c.self.inside.accounts.items c.in_ok-place.place a no_account (search rules)
     ∙ ap (λ (g : BookState). account_at g.state.accounts c.in_ok-place.place) c.self.view_is
     in
-    let stands : contract_of c.args.set.now (hold_at a.holds c.in_ok-place.hold).contract ≡ Ok c.held_contract-i.result =
-    ap (λ (x : AccountState). contract_of c.args.set.now (hold_at x.holds c.in_ok-place.hold).contract) account ∙ c.held_contract-i.ensures.stands
+    let stands : contract_of c.args.set.now (hold_at a.holds c.in_ok-place.hold).contract ≡ Ok c.in_ok-place.i =
+    ap (λ (x : AccountState). contract_of c.args.set.now (hold_at x.holds c.in_ok-place.hold).contract) account ∙ c.in_ok-place.ensures.stands
     in
     let inside : c.in_ok-place.hold < length a.holds = subst (λ (x : AccountState). c.in_ok-place.hold < length x.holds) (sym account) (c.in_ok-place.ensures.hold) in
     let row = c.index_mut-row.result.now in
-    let reads : Reads set' f at.0 c.held_contract-i.result a row (hold_at a.holds at.1).contract = record {
+    let reads : Reads set' f at.0 c.in_ok-place.i a row (hold_at a.holds at.1).contract = record {
       within = c.limits.ensures;
       kept = search rules;
       account = search rules;
@@ -97,12 +97,12 @@ returns-clause-kept c =
     c.index_mut-owner.ensures.value ∙ get_or_default c.self.inside.accounts.items c.in_ok-place.place a no_account (search rules)
     ∙ ap (λ (g : BookState). account_at g.state.accounts c.in_ok-place.place) c.self.view_is
     in
-    let stands : contract_of c.args.set.now (hold_at a.holds c.in_ok-place.hold).contract ≡ Ok c.held_contract-i.result =
-    ap (λ (x : AccountState). contract_of c.args.set.now (hold_at x.holds c.in_ok-place.hold).contract) account ∙ c.held_contract-i.ensures.stands
+    let stands : contract_of c.args.set.now (hold_at a.holds c.in_ok-place.hold).contract ≡ Ok c.in_ok-place.i =
+    ap (λ (x : AccountState). contract_of c.args.set.now (hold_at x.holds c.in_ok-place.hold).contract) account ∙ c.in_ok-place.ensures.stands
     in
     let inside : c.in_ok-place.hold < length a.holds = subst (λ (x : AccountState). c.in_ok-place.hold < length x.holds) (sym account) (c.in_ok-place.ensures.hold) in
     let row = c.index_mut-row.result.now in
-    let reads : Reads set' f at.0 c.held_contract-i.result a row (hold_at a.holds at.1).contract = record {
+    let reads : Reads set' f at.0 c.in_ok-place.i a row (hold_at a.holds at.1).contract = record {
       within = c.limits.ensures;
       kept = search rules;
       account = search rules;
@@ -111,8 +111,8 @@ returns-clause-kept c =
       stands = stands;
     } in
     let x = hold_at a.holds at.1 in
-    let change = fill_change c.held_contract-i.result c.args.fill.now.quantity x.limit c.args.fill.now.premium in
-    let is : c.of_fill-change.result ≡ change = c.of_fill-change.ensures.change ∙ ap (λ (y : Held). fill_change c.held_contract-i.result c.args.fill.now.quantity y.limit c.args.fill.now.premium) c.hold_at-held.ensures.held in
+    let change = fill_change c.in_ok-place.i c.args.fill.now.quantity x.limit c.args.fill.now.premium in
+    let is : c.of_fill-change.result ≡ change = c.of_fill-change.ensures.change ∙ ap (λ (y : Held). fill_change c.in_ok-place.i c.args.fill.now.quantity y.limit c.args.fill.now.premium) c.hold_at-held.ensures.held in
     let c_is : covers x c.args.fill.now.quantity ≡ true = ap (λ (y : AccountState). covers (hold_at y.holds at.1) c.args.fill.now.quantity) account ∙ c.in_ok-place.ensures.covers in
     let lot = traded_lot c.args.fill.now.lot x.contract c.args.fill.now.quantity c.args.fill.now.premium in
     let lot_is : c.traded_lot-lot.result ≡ lot = c.traded_lot-lot.ensures.lot ∙ ap (λ (y : Held). traded_lot c.args.fill.now.lot y.contract c.args.fill.now.quantity c.args.fill.now.premium) c.hold_at-held.ensures.held in
@@ -122,9 +122,9 @@ returns-clause-kept c =
     let filled : c.fill_hold.new.owner ≡ with_fill a at.1 c.traded_lot-lot.result = search rules in
     let limits : IsLot lot = subst IsLot lot_is c.traded_lot-lot.ensures.limits in
     let few : is_full a.lots ≡ false = ap (λ (y : AccountState). is_full y.lots) account ∙ c.in_ok-place.ensures.few in
-    let room : IsRoomy change row = fill-roomy set' f at.0 c.held_contract-i.result at.1 a row c.args.fill.now reads inside c_is in
+    let room : IsRoomy change row = fill-roomy set' f at.0 c.in_ok-place.i at.1 a row c.args.fill.now reads inside c_is in
     subst (λ (u : _). IsKept set' (book_state r.origins.items (set r.accounts.items at.0 c.fill_hold.new.owner) (set r.rows.items u c.fill_hold.new.row) r.closed r.version)) (sym c.unit.ensures)
-    (fill-kept set' r.origins.items r.accounts.items r.rows.items r.closed r.version at.0 c.held_contract-i.result at.1 a c.fill_hold.new.owner row c.fill_hold.new.row c.args.fill.now said.0 reads inside c_is room prices limits few (changed ∙ ap (λ (y : Change). row_with set' y row) is) (filled ∙ ap (λ (y : Lot). with_fill a at.1 y) lot_is))
+    (fill-kept set' r.origins.items r.accounts.items r.rows.items r.closed r.version at.0 c.in_ok-place.i at.1 a c.fill_hold.new.owner row c.fill_hold.new.row c.args.fill.now said.0 reads inside c_is room prices limits few (changed ∙ ap (λ (y : Change). row_with set' y row) is) (filled ∙ ap (λ (y : Lot). with_fill a at.1 y) lot_is))
 
 pub returns-clause-follows : goal.returns-clause-follows
 returns-clause-follows c =
@@ -137,7 +137,7 @@ returns-clause-follows c =
     let j = c.in_ok-place.hold in
     let a = c.index_mut-owner.result.now in
     let row = c.index_mut-row.result.now in
-    let i = c.held_contract-i.result in
+    let i = c.in_ok-place.i in
     let changed : c.fill_hold.new.row ≡ row_with set' c.of_fill-change.result row = search rules in
     let within : k < length r.accounts.items = search rules in
     let inside : c.unit.result < length r.rows.items = search rules in
@@ -151,7 +151,7 @@ returns-clause-follows c =
     let plan : BookState → Plan = λ b. fill_plan set' b.state m (fill_places set' b.state m) in
     let planned : plan g ≡ One (in_unit_of g.state k c.of_fill-change.result) =
     ap (fill_plan set' g.state m) (sym c.in_ok-place.ensures.places)
-    ∙ ap (fill_plan_at g.state k (hold_at (account_at g.state.accounts k).holds j) m) c.held_contract-i.ensures.stands
+    ∙ ap (fill_plan_at g.state k (hold_at (account_at g.state.accounts k).holds j) m) c.in_ok-place.ensures.stands
     ∙ ap (λ (x : Change). One (in_unit_of g.state k x)) (sym is)
     in
     follows-planned set' f g plan k c.unit.result a c.of_fill-change.result row c.fill_hold.new.row c.self.view_is within c.index_mut-owner.ensures.value c.unit.ensures inside c.index_mut-row.ensures.value planned changed

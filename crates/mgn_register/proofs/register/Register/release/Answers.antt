@@ -29,12 +29,12 @@ release_hold-requires-clause-roomy c =
     c.index_mut-owner.ensures.value ∙ get_or_default c.self.inside.accounts.items c.in_ok-place.place a no_account (search rules)
     ∙ ap (λ (g : BookState). account_at g.state.accounts c.in_ok-place.place) c.self.view_is
     in
-    let stands : contract_of c.args.set.now (hold_at a.holds c.in_ok-place.hold).contract ≡ Ok c.held_contract-i.result =
-    ap (λ (x : AccountState). contract_of c.args.set.now (hold_at x.holds c.in_ok-place.hold).contract) account ∙ c.held_contract-i.ensures.stands
+    let stands : contract_of c.args.set.now (hold_at a.holds c.in_ok-place.hold).contract ≡ Ok c.in_ok-place.i =
+    ap (λ (x : AccountState). contract_of c.args.set.now (hold_at x.holds c.in_ok-place.hold).contract) account ∙ c.in_ok-place.ensures.stands
     in
     let inside : c.in_ok-place.hold < length a.holds = subst (λ (x : AccountState). c.in_ok-place.hold < length x.holds) (sym account) (c.in_ok-place.ensures.hold) in
     let row = c.index_mut-row.result.now in
-    let reads : Reads set' f at.0 c.held_contract-i.result a row (hold_at a.holds at.1).contract = record {
+    let reads : Reads set' f at.0 c.in_ok-place.i a row (hold_at a.holds at.1).contract = record {
       within = c.limits.ensures;
       kept = search rules;
       account = search rules;
@@ -43,9 +43,9 @@ release_hold-requires-clause-roomy c =
       stands = stands;
     } in
     let x = hold_at a.holds at.1 in
-    let change = release_change c.held_contract-i.result x.quantity x.limit in
-    let is : c.of_release-change.result ≡ change = c.of_release-change.ensures.change ∙ ap (λ (y : Held). release_change c.held_contract-i.result y.quantity y.limit) c.hold_at.ensures.held in
-    subst (λ (change : Change). IsRoomy change row) (sym is) (release-roomy set' f at.0 c.held_contract-i.result at.1 a row reads inside)
+    let change = release_change c.in_ok-place.i x.quantity x.limit in
+    let is : c.of_release-change.result ≡ change = c.of_release-change.ensures.change ∙ ap (λ (y : Held). release_change c.in_ok-place.i y.quantity y.limit) c.hold_at.ensures.held in
+    subst (λ (change : Change). IsRoomy change row) (sym is) (release-roomy set' f at.0 c.in_ok-place.i at.1 a row reads inside)
 
 pub returns-in_err-release_hold-clause-kept : goal.returns-in_err-release_hold-clause-kept
 returns-in_err-release_hold-clause-kept c =
@@ -58,12 +58,12 @@ returns-in_err-release_hold-clause-kept c =
     c.index_mut-owner.ensures.value ∙ get_or_default c.self.inside.accounts.items c.in_ok-place.place a no_account (search rules)
     ∙ ap (λ (g : BookState). account_at g.state.accounts c.in_ok-place.place) c.self.view_is
     in
-    let stands : contract_of c.args.set.now (hold_at a.holds c.in_ok-place.hold).contract ≡ Ok c.held_contract-i.result =
-    ap (λ (x : AccountState). contract_of c.args.set.now (hold_at x.holds c.in_ok-place.hold).contract) account ∙ c.held_contract-i.ensures.stands
+    let stands : contract_of c.args.set.now (hold_at a.holds c.in_ok-place.hold).contract ≡ Ok c.in_ok-place.i =
+    ap (λ (x : AccountState). contract_of c.args.set.now (hold_at x.holds c.in_ok-place.hold).contract) account ∙ c.in_ok-place.ensures.stands
     in
     let inside : c.in_ok-place.hold < length a.holds = subst (λ (x : AccountState). c.in_ok-place.hold < length x.holds) (sym account) (c.in_ok-place.ensures.hold) in
     let row = c.index_mut-row.result.now in
-    let reads : Reads set' f at.0 c.held_contract-i.result a row (hold_at a.holds at.1).contract = record {
+    let reads : Reads set' f at.0 c.in_ok-place.i a row (hold_at a.holds at.1).contract = record {
       within = c.limits.ensures;
       kept = search rules;
       account = search rules;
@@ -94,12 +94,12 @@ returns-clause-kept c =
     c.index_mut-owner.ensures.value ∙ get_or_default c.self.inside.accounts.items c.in_ok-place.place a no_account (search rules)
     ∙ ap (λ (g : BookState). account_at g.state.accounts c.in_ok-place.place) c.self.view_is
     in
-    let stands : contract_of c.args.set.now (hold_at a.holds c.in_ok-place.hold).contract ≡ Ok c.held_contract-i.result =
-    ap (λ (x : AccountState). contract_of c.args.set.now (hold_at x.holds c.in_ok-place.hold).contract) account ∙ c.held_contract-i.ensures.stands
+    let stands : contract_of c.args.set.now (hold_at a.holds c.in_ok-place.hold).contract ≡ Ok c.in_ok-place.i =
+    ap (λ (x : AccountState). contract_of c.args.set.now (hold_at x.holds c.in_ok-place.hold).contract) account ∙ c.in_ok-place.ensures.stands
     in
     let inside : c.in_ok-place.hold < length a.holds = subst (λ (x : AccountState). c.in_ok-place.hold < length x.holds) (sym account) (c.in_ok-place.ensures.hold) in
     let row = c.index_mut-row.result.now in
-    let reads : Reads set' f at.0 c.held_contract-i.result a row (hold_at a.holds at.1).contract = record {
+    let reads : Reads set' f at.0 c.in_ok-place.i a row (hold_at a.holds at.1).contract = record {
       within = c.limits.ensures;
       kept = search rules;
       account = search rules;
@@ -108,15 +108,15 @@ returns-clause-kept c =
       stands = stands;
     } in
     let x = hold_at a.holds at.1 in
-    let change = release_change c.held_contract-i.result x.quantity x.limit in
-    let is : c.of_release-change.result ≡ change = c.of_release-change.ensures.change ∙ ap (λ (y : Held). release_change c.held_contract-i.result y.quantity y.limit) c.hold_at.ensures.held in
+    let change = release_change c.in_ok-place.i x.quantity x.limit in
+    let is : c.of_release-change.result ≡ change = c.of_release-change.ensures.change ∙ ap (λ (y : Held). release_change c.in_ok-place.i y.quantity y.limit) c.hold_at.ensures.held in
     let said : (priced : Priced) × Prices set' c.of_release-change.result row priced = search rules in
     let prices : Prices set' change row said.0 = subst (λ (y : Change). Prices set' y row said.0) is said.1 in
     let changed : c.release_hold.new.row ≡ row_with set' c.of_release-change.result row = search rules in
     let released : c.release_hold.new.owner ≡ without_hold a at.1 = search rules in
-    let room : IsRoomy change row = release-roomy set' f at.0 c.held_contract-i.result at.1 a row reads inside in
+    let room : IsRoomy change row = release-roomy set' f at.0 c.in_ok-place.i at.1 a row reads inside in
     subst (λ (u : _). IsKept set' (book_state r.origins.items (set r.accounts.items at.0 c.release_hold.new.owner) (set r.rows.items u c.release_hold.new.row) r.closed r.version)) (sym c.unit.ensures)
-    (release-kept set' r.origins.items r.accounts.items r.rows.items r.closed r.version at.0 c.held_contract-i.result at.1 a c.release_hold.new.owner row c.release_hold.new.row said.0 reads inside room prices (changed ∙ ap (λ (y : Change). row_with set' y row) is) released)
+    (release-kept set' r.origins.items r.accounts.items r.rows.items r.closed r.version at.0 c.in_ok-place.i at.1 a c.release_hold.new.owner row c.release_hold.new.row said.0 reads inside room prices (changed ∙ ap (λ (y : Change). row_with set' y row) is) released)
 
 pub returns-clause-follows : goal.returns-clause-follows
 returns-clause-follows c =
@@ -128,7 +128,7 @@ returns-clause-follows c =
     let j = c.in_ok-place.hold in
     let a = c.index_mut-owner.result.now in
     let row = c.index_mut-row.result.now in
-    let i = c.held_contract-i.result in
+    let i = c.in_ok-place.i in
     let changed : c.release_hold.new.row ≡ row_with set' c.of_release-change.result row = search rules in
     let within : k < length r.accounts.items = search rules in
     let inside : c.unit.result < length r.rows.items = search rules in
@@ -142,7 +142,7 @@ returns-clause-follows c =
     let plan : BookState → Plan = λ b. release_plan set' b.state (release_places b.state c.args.account c.args.order) in
     let planned : plan g ≡ One (in_unit_of g.state k c.of_release-change.result) =
     ap (release_plan set' g.state) (sym c.in_ok-place.ensures.places)
-    ∙ ap (release_plan_at g.state k (hold_at (account_at g.state.accounts k).holds j)) c.held_contract-i.ensures.stands
+    ∙ ap (release_plan_at g.state k (hold_at (account_at g.state.accounts k).holds j)) c.in_ok-place.ensures.stands
     ∙ ap (λ (x : Change). One (in_unit_of g.state k x)) (sym is)
     in
     follows-planned set' f g plan k c.unit.result a c.of_release-change.result row c.release_hold.new.row c.self.view_is within c.index_mut-owner.ensures.value c.unit.ensures inside c.index_mut-row.ensures.value planned changed
