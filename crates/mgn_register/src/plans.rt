@@ -1,10 +1,10 @@
-ghost use Rattle.std.specs.Prelude.{◌≡◌, ◌<◌, length, IfErr, IfOk, Err, Ok, false, true};
+ghost use Rattle.std.specs.Prelude.{◌≡◌, ◌≢◌, ◌<◌, length, IfErr, IfOk, Err, Ok, false, true};
 ghost use Rattle.mgn_holds.specs.Holds.{covers, has_order, hold_at, is_full as holds_full};
 ghost use Rattle.mgn_lots.specs.Lots.{has_number, is_full, is_live, lot_at};
 ghost use Rattle.mgn_machine.specs.Holding.{fill_places, hold_places, release_places};
 ghost use Rattle.mgn_machine.specs.Refusals.{bust_places, contract_of, is_over, trade_places};
 ghost use Rattle.mgn_machine.specs.State.{account_at};
-ghost use Rattle.mgn_machine.specs.Transfers.{move_places};
+ghost use Rattle.mgn_machine.specs.Transfers.{move_places, quantity_in_unit};
 ghost use Rattle.mgn_register.specs.BookStates.{IsKept};
 ghost use Rattle.mgn_plan.specs.Plans.{IsPossible, bust_plan, fill_plan, hold_plan, in_unit_of, move_plan, both_plan, plan_of, release_plan, trade_plan};
 
@@ -272,6 +272,39 @@ impl Register {
                 let (place, at) = self.bust_places(account, lot)?;
                 Ok((place, at, self.contract_of_lot(set, place, at)))
             }
+        }
+    }
+
+    // What the plan of a transfer found: where the giver, the taker and the contract stand, if it is not refused; room is
+    // not asked here.
+    pub(crate) fn planned_move(
+        &self,
+        set: &ParamSet,
+        transfer: &Transfer,
+        plan: &Plan,
+    ) -> Result<(usize, usize, usize), Refusal>
+        requires kept { IsKept set.now self.now }
+        requires plan { plan.now ≡
+            move_plan self.now.state transfer.now (move_places set.now self.now.state transfer.now) }
+        ensures places { result ≡ move_places set.now self.now.state transfer.now }
+        ensures giver { IfOk result (λ at. at.0 < length self.now.state.accounts) }
+        ensures taker { IfOk result (λ at. at.1 < length self.now.state.accounts) }
+        ensures apart { IfOk result (λ at. at.1 ≢ at.0) }
+        ensures stands { IfOk result (λ at. contract_of set.now transfer.now.contract ≡ Ok at.2) }
+        ensures giver_fresh { IfOk result (λ at.
+            has_number (account_at self.now.state.accounts at.0).lots transfer.now.lot ≡ false) }
+        ensures taker_fresh { IfOk result (λ at.
+            has_number (account_at self.now.state.accounts at.1).lots transfer.now.lot ≡ false) }
+        ensures giver_few { IfOk result (λ at. is_full (account_at self.now.state.accounts at.0).lots ≡ false) }
+        ensures taker_few { IfOk result (λ at. is_full (account_at self.now.state.accounts at.1).lots ≡ false) }
+        ensures giver_room { IfOk result (λ at. is_over self.now.state at.0 transfer.now.contract
+            (quantity_in_unit self.now.state at.0 at.1 transfer.now.quantity) ≡ false) }
+        ensures taker_room { IfOk result (λ at. is_over self.now.state at.1 transfer.now.contract
+            (quantity_in_unit self.now.state at.0 at.1 transfer.now.quantity) ≡ false) }
+    {
+        match plan {
+            Plan::Two(given, taken) => Ok((given.account, taken.account, given.change.contract)),
+            Plan::Nothing | Plan::One(_) => self.move_places(set, transfer),
         }
     }
 

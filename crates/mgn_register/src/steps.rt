@@ -90,7 +90,7 @@ pub fn step(
             alloc, set, account, order, plan, known, work,
         )),
         Command::Transfer(transfer) => answer_of(register.transfer(
-            alloc, set, &transfer, known, work,
+            alloc, set, &transfer, plan, known, work,
         )),
         Command::Post(account, class, units) => answer_of(register.post(
             set, account, &class, units,

@@ -20,7 +20,7 @@ use mgn_lots::{Lot, Mark};
 use mgn_machine::{Refusal, Transfer};
 use mgn_num::Quantity;
 use mgn_params::{ParamSet, Work};
-use mgn_plan::Known;
+use mgn_plan::{Known, Plan};
 use mgn_unit::{Account, Change, Priced, Row, add_both};
 use std::alloc::{AllocError, Global};
 
@@ -157,10 +157,13 @@ impl Register {
         alloc: Global,
         set: &ParamSet,
         transfer: &Transfer,
+        plan: &Plan,
         known: &Known,
         work: &mut Work,
     ) -> Result<(), Fault>
         requires kept { IsKept set.now self.old }
+        requires plan { plan.now ≡
+            move_plan self.old.state transfer.now (move_places set.now self.old.state transfer.now) }
         requires known { Foresees set.now self.old.rows
             (move_plan self.old.state transfer.now (move_places set.now self.old.state transfer.now)) known.now }
         ensures kept { IsKept set.now self.new }
@@ -172,7 +175,7 @@ impl Register {
             known.now work.old work.new }
     {
         set.limits();
-        let (from, to, i) = self.move_places(set, transfer)?;
+        let (from, to, i) = self.planned_move(set, transfer, plan)?;
         let quantity = transfer.quantity.quantity();
         let giver = party_of(&self.accounts[from], from, i, transfer, quantity.negated());
         let taker = party_of(&self.accounts[to], to, i, transfer, quantity);
