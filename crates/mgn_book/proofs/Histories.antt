@@ -1,4 +1,4 @@
--- A book with one more entry.
+-- A book with one more entry, as its commits leave it.
 use Rattle.std.proofs.Common.{eqb, get_or, ◌≡◌, ◌+◌, ◌<◌, ℕ, Bool, true, false, cond, suc, List, length, length-append, arith, [], ◌∷◌, ◌++◌, sym, ap, ◌∙◌, subst, ◌≤◌, ◌-◌, ◌⊎◌, ◌≢◌, inl, inr}
 use Rattle.std.specs.Prelude.{◌==◌, slice_set as set'}
 use Rattle.std.proofs.lemmas.List.{get_or-set_same, get_or-set_other, length-set}

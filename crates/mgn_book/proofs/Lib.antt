@@ -1,4 +1,4 @@
--- Histories and switches of a book.
+-- For commits, switches and the stored history of a book.
 pub mod Begun
 pub mod FilledAtLimit
 pub mod Histories

@@ -1,4 +1,4 @@
--- What is stored stays the same while the lists of names, of replies and of refused sets grow.
+-- What is stored stays the same while the lists that it names grow: for the pushes of the history.
 use Rattle.std.proofs.Common.{All, get_or, ◌≡◌, ℕ, zero, suc, ◌+◌, ◌≤◌, ◌<◌, List, [], ◌∷◌, ◌++◌, ◌∙◌, length, length-append, map, refl, ap, sym, arith}
 use Rattle.std.proofs.lemmas.List.{append-nil, get_or_append_left, map-append}
 use Rattle.std.proofs.lemmas.List.Elements.{All-push}

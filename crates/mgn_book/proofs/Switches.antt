@@ -1,4 +1,4 @@
--- One switch: the state with its rows, and the shelf, after it.
+-- One switch: the state with its rows, and the shelf, after it, as `switch_set` leaves them.
 use Rattle.std.proofs.Common.{All, IfOk, IfSome, OnOk, Result, Ok, Err, length-append, ◌≡◌, ◌+◌, ◌-◌, ◌<◌, ◌∙◌, ℕ, true, List, [], ◌∷◌, ◌++◌, length, get_or, sym, ap, arith, refl, subst, filter}
 use Rattle.std.proofs.lemmas.List.{get_or-append_right}
 use Rattle.mgn_params.specs.Shelves.{set_at}

@@ -1,2 +1,3 @@
+-- For writes of one amount.
 pub mod OtherAmounts
 pub mod Written

@@ -1,4 +1,4 @@
--- The units of a class where another amount of some class is written.
+-- The units of a class where another amount is written: for the check of a write.
 use Rattle.std.proofs.Common.{◌≡◌, ℕ, List, [], ◌∷◌, refl, sym, ap, subst, true, false, Bool, Some, cond}
 use Rattle.std.specs.Map.{lookup}
 use Rattle.std.specs.Option.{unwrap_or}

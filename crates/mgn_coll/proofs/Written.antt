@@ -1,4 +1,4 @@
--- The units of a class stay within their limit where one amount is written.
+-- The units of a class stay within their limit where one amount is written, as `write` promises.
 use Rattle.std.proofs.Common.{◌≡◌, ℕ, ◌≤◌, ◌^◌, List, refl, true, false, Bool, Some, cond}
 use Rattle.std.specs.Map.{lookup}
 use Rattle.std.specs.Option.{unwrap_or}

@@ -1,4 +1,4 @@
--- The nets of units, as a switch is prepared from them.
+-- The nets of units, as a switch is prepared from them: for `gather` of a ledger.
 use Rattle.std.proofs.Common.{◌≡◌, ◌+◌, ◌<◌, ◌≤◌, ◌∙◌, ℕ, arith, All, List, [], ◌∷◌, ◌++◌, get_or, length, map, ap, sym, subst, ⊎_elim}
 use Rattle.std.specs.Prelude.{None, Option, Some}
 use Rattle.std.proofs.lemmas.Bool.{cases_lt}

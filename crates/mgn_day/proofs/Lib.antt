@@ -1,3 +1,3 @@
--- Lemmas of the crate.
+-- For what a day's entries leave of the nets of units.
 pub mod Gathers
 pub mod PlaceFacts

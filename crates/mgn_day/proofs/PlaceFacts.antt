@@ -1,4 +1,4 @@
--- The places since which units have their nets, with one entry more.
+-- The places since which units have their nets, with one entry more: for `renew` and for entries.
 use Rattle.std.proofs.Common.{◌≡◌, ◌<◌, ◌≤◌, ◌+◌, ◌-◌, ◌∙◌, ◌⊎◌, inl, inr, ℕ, Bool, true, false, List, [], ◌∷◌, ◌++◌, length, sym, ap, subst, refl, arith, length-append, ⊎_elim, true≢false, ◌≢◌, get_or, set, ne_eqb}
 use Rattle.std.specs.Prelude.{◌==◌, ◌||◌, slice_index_or}
 use Rattle.std.proofs.lemmas.Bool.{cases_eq, cases_lt}

@@ -1,4 +1,4 @@
--- Branches under a set.
+-- What is kept of a portfolio beside that of the lots: for `Branch`, and for desks under a set.
 use Rattle.std.proofs.Common.{◌≡◌, ◌∙◌, Bool, true, false, refl}
 use Rattle.std.specs.Prelude.{if◌then◌else◌}
 use Rattle.mgn_params.specs.Tables.{Tables}

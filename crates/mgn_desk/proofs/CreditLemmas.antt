@@ -1,4 +1,4 @@
--- The credit of a commodity by what is kept.
+-- The credit of a commodity by what is kept: for the requirement of a portfolio.
 use Rattle.std.proofs.Common.{◌≡◌, ℕ, List, slice_index, ap}
 use Rattle.mgn_params.specs.Tables.{Tables}
 use Rattle.mgn_span.specs.Credits.{credits_of}

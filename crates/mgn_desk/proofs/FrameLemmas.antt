@@ -1,4 +1,4 @@
--- A change of one net leaves the numbers of the other commodities as they were.
+-- A change of one net leaves the numbers of the other commodities as they were: for `Portfolio::change`.
 use Rattle.std.proofs.Common.{◌≡◌, ◌≢◌, ℕ, ◌<◌, List, length, slice_set, ℤ, ap, ◌∙◌, sym, arith, refl, ne_eqb}
 use Rattle.std.specs.Prelude.{◌+ℤ◌, ◌*ℤ◌}
 use Rattle.std.proofs.lemmas.Int.{ints}

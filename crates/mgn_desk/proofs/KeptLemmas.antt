@@ -1,4 +1,4 @@
--- What is kept of a portfolio once what hangs on the nets of one commodity is brought after them.
+-- What is kept of a portfolio once one commodity is brought after its nets: for `change` and `settle`.
 use Rattle.std.proofs.Common.{◌≡◌, ◌≢◌, ℕ, ◌<◌, Bool, true, false, List, length, slice_index, slice_set, pos, ℤ, unsigned_abs, ap, ◌∙◌, sym, subst, arith, refl, ⊎_elim, length-set, get_or-set_same, get_or-set_other}
 use Rattle.std.specs.Prelude.{◌-ℤ◌, if◌then◌else◌}
 use Rattle.std.specs.Int.{int_max}

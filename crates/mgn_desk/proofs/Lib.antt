@@ -1,4 +1,4 @@
--- Why what is kept is that of the nets after a change.
+-- Why what is kept is that of the nets after a change, and why a requirement by it is the definition's.
 pub mod SumLemmas
 pub mod RowLemmas
 pub mod RiskLemmas

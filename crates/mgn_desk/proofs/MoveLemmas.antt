@@ -1,4 +1,4 @@
--- Totals, sums and stages after a change of one net, and what is worked out by them.
+-- Totals, sums and stages after a change of one net, and what is worked out by them: for `move_net`.
 use Rattle.std.proofs.Common.{◌≡◌, ℕ, ◌<◌, List, length, slice_set, pos, ℤ, ap, ◌∙◌, sym, arith, refl, All, length-set, eq-eqb, get_or-set_same}
 use Rattle.std.specs.Prelude.{◌+ℤ◌, ◌*ℤ◌}
 use Rattle.std.proofs.lemmas.Int.{ints}

@@ -1,4 +1,4 @@
--- Nets that are moved and moved back, and what that reads.
+-- Nets that are moved and moved back, for `follow` and `take_back`.
 use Rattle.std.proofs.Common.{◌≡◌, ℕ, zero, suc, ◌+◌, List, [], ◌∷◌, set, pos, ℤ, unsigned_abs, ap, ◌∙◌, sym, arith, refl, Option, Some, None}
 use Rattle.std.specs.Prelude.{◌+ℤ◌, neg_ℤ}
 use Rattle.std.proofs.lemmas.Int.{ints}

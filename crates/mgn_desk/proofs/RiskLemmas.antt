@@ -1,4 +1,4 @@
--- Risks with their sum.
+-- Risks with their sum, as `RiskSum` keeps it.
 use Rattle.std.proofs.Common.{ℕ, ◌*◌, ◌<◌, ◌≤◌, ◌^◌, List, length, set, pos, ℤ, unsigned_abs, ap, ◌∙◌, sym, arith, replicate, length-set}
 use Rattle.std.specs.Prelude.{◌+ℤ◌, ◌-ℤ◌}
 use Rattle.std.proofs.lemmas.Int.{ints}

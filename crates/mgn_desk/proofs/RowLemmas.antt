@@ -1,4 +1,4 @@
--- Rows of one number for each commodity, of which one is written.
+-- Rows of one number for each commodity, of which `settle` writes one.
 use Rattle.std.proofs.Common.{◌≡◌, ◌≢◌, ℕ, ◌<◌, length, set, get_or, map, ap, ◌∙◌, sym, arith, ⊎_elim, length-set, get_or-set_same, get_or-set_other}
 use Rattle.std.specs.List.{range_with_len}
 use Rattle.std.proofs.lemmas.Bool.{cases_eq}

@@ -1,4 +1,4 @@
--- What is kept of nets of 0.
+-- What is kept of nets of 0, for `Portfolio::new` and `flatten`.
 use Rattle.std.proofs.Common.{◌≡◌, ℕ, List, length, pos, ℤ, unsigned_abs, ap, ◌∙◌, sym, arith, refl, replicate, map}
 use Rattle.std.specs.List.{range_with_len}
 use Rattle.std.proofs.lemmas.Int.{ints}

@@ -1,4 +1,4 @@
--- The sum of a row.
+-- The sum of a row of which one number is written, for `RiskSum`.
 use Rattle.std.proofs.Common.{◌≡◌, ℕ, ◌<◌, List, length, set, pos, ℤ, arith, length-set, get_or-set_same, get_or-set_other}
 use Rattle.std.specs.Prelude.{◌+ℤ◌, ◌-ℤ◌}
 use Rattle.std.proofs.lemmas.Int.{ints}

@@ -1,4 +1,4 @@
--- A hold of which a part is filled, and what its side may cost then.
+-- A hold of which a part is filled, and what its side may cost then: for `lessen`, and for fills of a row.
 use Rattle.std.proofs.Common.{◌≡◌, ◌≢◌, ℕ, ◌≤◌, ◌<◌, List, length, set, get_or, refl, sym, ap, ◌∙◌, arith, true, false, Bool}
 use Rattle.std.specs.Prelude.{ℤ, pos, ◌+ℤ◌, ◌-ℤ◌, unsigned_abs, not}
 use Rattle.std.proofs.lemmas.Int.{ints}

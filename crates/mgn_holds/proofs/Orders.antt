@@ -1,4 +1,4 @@
--- The orders of the holds are distinct, so that each hold is found by its own.
+-- The orders of the holds are distinct, so that `at` and `release` find each hold by its own.
 use Rattle.std.proofs.Common.{◌≡◌, ℕ, zero, suc, ◌<◌, ◌≤◌, List, [], ◌∷◌, length, get_or, refl, sym, ap, ◌∙◌, arith, true, false, Bool, Some, None, nat_eq, cond}
 use Rattle.std.specs.Prelude.{remove, nat_lt}
 use Rattle.std.specs.List.{list_any, position_or_len, IsDistinct, AllByRecursion}

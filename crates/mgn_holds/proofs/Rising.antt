@@ -1,4 +1,4 @@
--- Holds whose orders rise: where one stands, and what a hold more or less does to them.
+-- Holds whose orders rise: where one stands, and what `add` and `release` do to them.
 use Rattle.std.proofs.Common.{◌≡◌, ℕ, ◌+◌, ◌-◌, ◌≤◌, ◌<◌, List, [], ◌∷◌, ◌++◌, length, get_or, Some, None, Result, Ok, Err, All, Bool, true, false, nat_eq, sym, ap, subst, ◌∙◌, arith, ⊎_elim}
 use Rattle.std.specs.List.{slice_get, position, position_or_len, remove}
 use Rattle.std.specs.Result.{result_ok}

@@ -1,4 +1,4 @@
--- The legs of one spread, one after the other.
+-- The legs of one spread, one after the other, for the loops of `rows` and for `rework`.
 use Rattle.std.proofs.Common.{◌≡◌, ◌≢◌, ℕ, zero, suc, ◌+◌, ◌-◌, ◌<◌, ◌≤◌, Bool, true, false, List, [], ◌∷◌, length, map, take, get_or, slice_index, slice_set, min, pos, ℤ, ap, ◌∙◌, sym, subst, arith, refl, replicate, eq-eqb, ne_eqb, All, ⊎_elim, length-set, get_or-set_same, get_or-set_other}
 use Rattle.std.specs.Prelude.{◌==◌, if◌then◌else◌, not}
 use Rattle.std.specs.List.{IsDistinct, fold, list_all, sum_by, zip}

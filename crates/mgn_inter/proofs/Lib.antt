@@ -1,4 +1,4 @@
--- Why the kept rows are those of the definitions.
+-- Why the kept credits between commodities are those of the definitions.
 pub mod LegLemmas
 pub mod SpreadLemmas
 pub mod StateLemmas

@@ -1,4 +1,4 @@
--- A change of a commodity's net delta that no spread notices.
+-- A change of a commodity's net delta that no spread notices: for `pass_all`.
 use Rattle.std.proofs.Common.{◌≡◌, ◌≢◌, ℕ, zero, suc, ◌+◌, ◌<◌, ◌≤◌, Bool, true, false, List, [], ◌∷◌, length, take, slice_index, slice_set, replicate, ℤ, ap, ◌∙◌, sym, arith, refl, add-one, ⊎_elim, length-set, get_or-set_same, eq-eqb, ne_eqb}
 use Rattle.std.specs.Int.{bit_at}
 use Rattle.std.specs.List.{list_all}

@@ -1,4 +1,4 @@
--- The places of the spreads that were formed again, when one more may have been.
+-- The places of the spreads that were formed again, when one more may have been: for `rework_reached`.
 use Rattle.std.proofs.Common.{◌≡◌, ℕ, ◌+◌, ◌<◌, ◌≤◌, Bool, true, false, inl, inr, List, [], ◌∷◌, ◌++◌, length, ap, ◌∙◌, sym, subst, arith, ⊎_elim, All, length-append}
 use Rattle.std.specs.Prelude.{if◌then◌else◌}
 use Rattle.std.proofs.lemmas.Bool.{or_parts}

@@ -1,4 +1,4 @@
--- The rests and credits after the first spreads, and what is kept of each.
+-- The rests and credits after the first spreads, and what is kept of each: for `rework` and `pass_all`.
 use Rattle.std.proofs.Common.{◌≡◌, ◌≢◌, ℕ, zero, suc, ◌+◌, ◌*◌, ◌<◌, ◌≤◌, List, length, take, slice_index, slice_set, replicate, pos, ℤ, ap, ◌∙◌, sym, subst, arith, refl, add-one, ⊎_elim, All, get_or-set_same, get_or-set_other}
 use Rattle.std.proofs.lemmas.Bool.{cases_eq, cases_lt}
 use Rattle.std.proofs.lemmas.List.{get_or-replicate, get_or_past, length-replicate}

@@ -1,4 +1,4 @@
--- The places of the spreads that credit something else: exact, and in order.
+-- The places of the spreads that credit something else, exact and in order: what `refresh` tells.
 use Rattle.std.proofs.Common.{◌≡◌, ◌≢◌, ℕ, zero, suc, ◌+◌, ◌-◌, ◌<◌, ◌≤◌, Bool, true, false, List, [], ◌∷◌, ◌++◌, length, ap, ◌∙◌, sym, subst, arith, refl, ⊎_elim, All, length-append}
 use Rattle.std.specs.Prelude.{if◌then◌else◌, not, ◌↔◌}
 use Rattle.std.specs.Str.{bytes_eq}
@@ -12,10 +12,7 @@ use Rattle.mgn_inter.specs.declared.kept.Kept.{Kept}
 use Rattle.mgn_inter.specs.Rows.{kept_at}
 use Rattle.mgn_inter.specs.Told.{credits_at, credits_else, places_where, told_of}
 
--- A choice by a Bool.
-if_true : {X : Type 0} (b : Bool) (x y : X) → b ≡ true → (if b then x else y) ≡ x
-if_true b x y h = rw h refl
-
+-- the second of a choice by a Bool
 if_false : {X : Type 0} (b : Bool) (x y : X) → b ≡ false → (if b then x else y) ≡ y
 if_false b x y h = rw h refl
 
@@ -124,10 +121,6 @@ pub told_alike : (was now : List Kept) (count : ℕ) → ((j : ℕ) → credits_
 told_alike was now count same =
     let none = places_more (credits_else was now) 0 count (λ k from low. else_not was now k (same k)) in
     sym (ap (λ (m : ℕ). told_of was now m) (omega arith) ∙ none)
-
-pub told_not : (kept : List Kept) (i : ℕ) (places : List ℕ) → places ≡ (if credits_else kept kept i then places ++ i ∷ [] else places)
-told_not kept i places =
-    sym (if_false (credits_else kept kept i) (places ++ i ∷ []) places (else_not kept kept i refl))
 
 -- the places after one more spread, and those behind it that stay as they were
 pub told_next : (was old now : List Kept) (i next : ℕ) (places more : List ℕ) → i + 1 ≤ next → ((j : ℕ) → i ≤ j → kept_at old j ≡ kept_at was j) → ((j : ℕ) → j ≢ i → kept_at now j ≡ kept_at old j) → places ≡ told_of was old i → more ≡ (if credits_else old now i then places ++ i ∷ [] else places) → more ≡ told_of was now next

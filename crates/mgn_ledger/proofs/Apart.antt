@@ -1,4 +1,4 @@
--- That no two passes of an audit are of one session.
+-- That no two passes of an audit are of one session, as `are_all` finds.
 use Rattle.std.proofs.Common.{◌≡◌, ℕ, ◌+◌, ◌<◌, ◌∙◌, ◌++◌, ◌∷◌, [], List, length, take, false, get_or, suc, sym, ap, subst, arith, add-one}
 use Rattle.std.specs.Prelude.{◌==◌}
 use Rattle.std.specs.Cmp.{IsEquivalence}

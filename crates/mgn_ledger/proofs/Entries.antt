@@ -1,4 +1,4 @@
--- The ledger with one entry more.
+-- The ledger with one entry more, as `enter` and `enter_switch` leave it.
 use Rattle.std.specs.Prelude.{slice_index_or}
 use Rattle.std.proofs.Common.{Result, Ok, Err, ◌≡◌, ℕ, ◌+◌, ◌<◌, ◌≤◌, ◌∙◌, Bool, List, [], ◌∷◌, ◌++◌, length, take, sym, ap, subst, arith, ⊎_elim, length-append}
 use Rattle.std.proofs.lemmas.List.{take-append-le, take_all, get_or_append_left, get_or_push}

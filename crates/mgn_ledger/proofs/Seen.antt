@@ -1,4 +1,4 @@
--- A pass beside the day: what it has seen begins the history, and a call more stands at its end.
+-- A pass beside the day: what it has seen begins the history, as the audit needs it.
 use Rattle.std.proofs.Common.{◌≡◌, ℕ, ◌+◌, ◌-◌, ◌<◌, ◌≤◌, ◌∙◌, List, [], ◌∷◌, ◌++◌, length, drop, suc, cond, Bool, Option, Some, None, refl, sym, ap, subst, arith, append_assoc, length-append}
 use Rattle.std.specs.Prelude.{slice_index_or}
 use Rattle.std.proofs.lemmas.List.{append-nil, take-append-drop}

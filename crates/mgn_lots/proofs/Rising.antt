@@ -1,4 +1,4 @@
--- Numbers of which the first so many rise: where one stands, and what a number more does to them.
+-- Numbers of which the first so many rise: where `place` finds one, and what `add_reserved` does to them.
 use Rattle.std.proofs.Common.{◌≡◌, ℕ, ◌+◌, ◌-◌, ◌≤◌, ◌<◌, List, [], ◌∷◌, ◌++◌, length, take, drop, get_or, Some, None, Result, Ok, Err, All, Bool, true, false, ◌||◌, nat_eq, refl, sym, ap, subst, ◌∙◌, arith, ⊎_elim}
 use Rattle.std.specs.List.{slice_get, position, position_or_len, list_any}
 use Rattle.std.specs.Option.{is_some}

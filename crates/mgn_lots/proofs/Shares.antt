@@ -1,4 +1,4 @@
--- What single lots count for, and what a change of one of them does to the net and the gross of a contract.
+-- What single lots count for, and what a change of one does to the net and the gross of a contract: for rows.
 use Rattle.std.proofs.Common.{◌≡◌, ℕ, zero, suc, ◌+◌, ◌≤◌, ◌<◌, List, [], ◌∷◌, ◌++◌, length, set, get_or, refl, ap, ◌∙◌, arith, true, false, Bool}
 use Rattle.std.specs.Prelude.{pos, ◌+ℤ◌, unsigned_abs}
 use Rattle.std.specs.Str.{bytes_eq}

@@ -1,4 +1,4 @@
--- A history with one more entry, and under more sets.
+-- A history with one more entry, and under more sets: for the commits of a book and their replay.
 use Rattle.std.proofs.Common.{◌≡◌, ◌<◌, ◌≤◌, ◌∙◌, ℕ, suc, Bool, true, false, cond, Result, Ok, Err, List, [], ◌∷◌, ◌++◌, length, sym, ap, subst, refl, append_assoc, arith, length-append}
 use Rattle.std.specs.Prelude.{◌==◌}
 use Rattle.std.proofs.lemmas.List.{append-nil, get_or_append_left}

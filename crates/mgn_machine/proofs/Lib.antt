@@ -1,4 +1,4 @@
--- Laws of histories and steps.
+-- Laws of histories and steps, for books, ledgers and the world of sessions.
 pub mod Histories
 pub mod Items
 pub mod Names

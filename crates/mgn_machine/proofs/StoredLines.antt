@@ -1,4 +1,4 @@
--- Stored lines stay what they are where the list of wide lines grows.
+-- Stored lines stay what they are where the list of wide lines grows, as a push of one promises.
 use Rattle.std.proofs.Common.{◌≡◌, ◌∙◌, ◌++◌, ◌∷◌, [], List, length, map, ap, refl}
 use Rattle.std.specs.List.{All}
 use Rattle.std.proofs.lemmas.List.{get_or_append_left, map-append}

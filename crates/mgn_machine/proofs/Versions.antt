@@ -1,4 +1,4 @@
--- A command leaves the set in force.
+-- A command leaves the set in force: for commits, whose desks stay marked under it.
 use Rattle.std.proofs.Common.{◌≡◌, ℕ, Bool, true, false, refl, Result, Ok, Err, Option, None, Some, List, cond}
 use Rattle.std.specs.Prelude.{pos, int_lt}
 use Rattle.mgn_params.specs.Tables.{Tables}

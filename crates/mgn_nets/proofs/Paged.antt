@@ -1,4 +1,4 @@
--- Pages that are kept from now on, and quantities that are written in them.
+-- Pages that are kept from now on, and quantities written in them: why each call of `Nets` is the list's.
 use Rattle.std.proofs.Common.{◌≡◌, ◌≢◌, ◌∙◌, ◌+◌, ◌*◌, ◌/◌, ◌%◌, ◌<◌, ◌≤◌, ◌++◌, ℕ, zero, suc, ℤ, pos, List, length, length-append, set, take, get_or, replicate, ap, sym, refl, subst, arith, ⊎_elim, length-set, get_or-set_same, get_or-set_other}
 use Rattle.std.specs.Prelude.{IfSome, Option, None, Some}
 use Rattle.std.specs.List.{sum_by}
@@ -30,9 +30,6 @@ page-of page c from to = div-eq_of_lt-le 16 (omega (arith, from)) (omega (arith,
 
 pub page-from : (c : ℕ) → c / 16 * 16 ≤ c
 page-from c = omega (arith, div-add-mod' c 16)
-
-pub page-to : (c : ℕ) → c < c / 16 * 16 + 16
-page-to c = omega (arith, div-add-mod' c 16, offset c)
 
 -- a contract of the list has a page
 pub page-inside : (count : ℕ) (starts : List ℕ) → length starts ≡ div_ceil count 16 → (c : ℕ) → c < count → c / 16 < length starts
@@ -148,12 +145,6 @@ first-page count starts cells room are =
     (λ i inside.
     let small : i < 16 = omega (arith, inside, long) in
     get_or-take 16 cells i (pos 0) small ∙ are.zero i small ∙ sym (get_or-replicate 16 i (pos 0) (pos 0) small))
-
--- there is room for all cells of a list that is as long
-pub cells-room : (count other : ℕ) (starts other_starts : List ℕ) (cells others : List ℤ) (room other_room : ℕ) → ArePages count starts cells room → ArePages other other_starts others other_room → count ≡ other → length others ≤ room
-cells-room count other starts other_starts cells others room other_room are theirs same =
-    let long : length other_starts ≡ length starts = theirs.pages ∙ ap (λ (n : ℕ). div_ceil n 16) (sym same) ∙ sym are.pages in
-    omega (arith, are.room, theirs.fill, long)
 
 -- there is room for one page more
 pub page-room : (count : ℕ) (starts : List ℕ) (cells : List ℤ) (room page : ℕ) → ArePages count starts cells room → page < length starts → get_or starts page 0 ≡ 0 → length cells + 16 ≤ room

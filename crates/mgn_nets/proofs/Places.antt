@@ -1,4 +1,4 @@
--- Lists of the quantities at places.
+-- Lists of the quantities at places, for `at_places` and `are_at_places`.
 use Rattle.std.proofs.Common.{◌≡◌, ◌<◌, ◌∙◌, ℕ, List, length, map, get_or, sym, arith}
 use Rattle.std.specs.Prelude.{ℤ, pos, Option, None}
 use Rattle.std.proofs.lemmas.List.{ext_get_or, get_or-map, length-map}

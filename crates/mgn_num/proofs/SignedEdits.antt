@@ -1,4 +1,4 @@
--- Sums of signed numbers after one item is added to a list or taken out of it, and their size.
+-- Sums of signed numbers, one item more or less, and their size: for nets, and for rows of units.
 use Rattle.std.proofs.Common.{◌≡◌, ℕ, zero, suc, ◌≤◌, ◌<◌, List, [], ◌∷◌, ◌++◌, length, get_or, arith}
 use Rattle.std.specs.Prelude.{ℤ, pos, ◌+ℤ◌, unsigned_abs, remove}
 use Rattle.std.specs.List.{sum_by}

@@ -1,10 +1,8 @@
 -- Laws of sums and products of signed numbers, for the loops that add them up and for changes of one item.
 use Rattle.std.proofs.Common.{◌+◌, add-one, refl, ◌≡◌, ℕ, zero, suc, ◌*◌, ◌<◌, ◌≤◌, List, [], ◌∷◌, length, set, get_or, ◌∙◌, sym, ap, arith, fold}
 use Rattle.std.specs.Prelude.{ℤ, pos, negsuc, ◌+ℤ◌, ◌-ℤ◌, ◌*ℤ◌, unsigned_abs}
-use Rattle.std.specs.List.{AllByRecursion}
-use Rattle.std.proofs.Math.IntN.{pred_ℤ, suc_ℤ-*ℤ, pred_ℤ-*ℤ, +ℤ_idr, zero-*ℤ, +ℤ_assoc, +ℤ-suc_ℤ, +ℤ-pred_ℤ, *ℤ_comm}
-use Rattle.std.proofs.lemmas.Int.{ints, to_z-of_z, unsigned_abs-mul}
-use Rattle.std.proofs.lemmas.List.{get_or_default}
+use Rattle.std.proofs.Math.IntN.{pred_ℤ, suc_ℤ-*ℤ, pred_ℤ-*ℤ, +ℤ_idr, zero-*ℤ, +ℤ_assoc, +ℤ-suc_ℤ, +ℤ-pred_ℤ}
+use Rattle.std.proofs.lemmas.Int.{ints, unsigned_abs-mul}
 use Rattle.std.proofs.Math.Nat.{mul-le-mul}
 use Rattle.mgn_num.specs.Signed.{signed_sum_by, signed_sum_below, sum_below}
 
@@ -28,13 +26,6 @@ signed_sum_by-set f (x ∷ xs) zero y d inside =
 signed_sum_by-set f (x ∷ xs) (suc i) y d inside =
     omega (arith, ints, signed_sum_by-cons f x xs, signed_sum_by-cons f x (set xs i y), signed_sum_by-set f xs i y d (omega arith))
 
--- where each item counts for at most `most` in size
-pub signed_sum_by_size : {X : Type 0} (f : X → ℤ) → (most : ℕ) (xs : List X) → AllByRecursion (λ x. unsigned_abs (f x) ≤ most) xs → unsigned_abs (signed_sum_by f xs) ≤ length xs * most
-signed_sum_by_size f most [] small = omega arith
-signed_sum_by_size f most (x ∷ xs) small =
-    let first : unsigned_abs (f x) ≤ most = small.0 in
-    omega (arith, ints, signed_sum_by-cons f x xs, signed_sum_by_size f most xs small.1)
-
 -- sums over numbers below a bound, one number further
 pub signed_sum_below_more : (f : ℕ → ℤ) (n : ℕ) → signed_sum_below f (n + 1) ≡ signed_sum_below f n +ℤ f n
 signed_sum_below_more f n = rw add-one refl
@@ -55,19 +46,6 @@ sum-*ℤ a (negsuc zero) c =
 sum-*ℤ a (negsuc (suc n)) c =
     ap (λ x. x *ℤ c) (+ℤ-pred_ℤ a (negsuc n)) ∙ pred_ℤ-*ℤ (a +ℤ negsuc n) c ∙ ap (λ x. x -ℤ c) (sum-*ℤ a (negsuc n) c) ∙ sym (ap (λ x. a *ℤ c +ℤ x) (pred_ℤ-*ℤ (negsuc n) c) ∙ omega (arith, ints))
 
--- a number times a sum
-pub *ℤ-sum : (c a b : ℤ) → c *ℤ (a +ℤ b) ≡ c *ℤ a +ℤ c *ℤ b
-*ℤ-sum c a b = *ℤ_comm c (a +ℤ b) ∙ sum-*ℤ a b c ∙ ap (λ x. x +ℤ b *ℤ c) (*ℤ_comm a c) ∙ ap (λ x. c *ℤ a +ℤ x) (*ℤ_comm b c)
-
 -- a product of two numbers of bounded size
 pub size-*ℤ-le : (a b : ℤ) (m n : ℕ) → unsigned_abs a ≤ m → unsigned_abs b ≤ n → unsigned_abs (a *ℤ b) ≤ m * n
 size-*ℤ-le a b m n first second = rw (unsigned_abs-mul a b) (mul-le-mul first second)
-
--- reads
-
--- a read of a row of signed numbers, at the default that clauses write
-pub get_or_signed : (xs : List ℤ) (i : ℕ) (x : ℤ) → i < length xs → get_or xs i x ≡ get_or xs i (pos 0)
-get_or_signed xs i x inside = get_or_default xs i x (pos 0) inside
-
--- for the check: reads, and numbers that were passed through their bits
-pub ruleset signed_steps = (get_or_signed, to_z-of_z)

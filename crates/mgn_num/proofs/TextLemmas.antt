@@ -1,4 +1,4 @@
--- How long the text of a number is.
+-- How long the text of a number is, so that Cents and TenThousandths ask for enough room.
 use Rattle.std.proofs.Common.{◌+◌, ◌≡◌, ℕ, suc, ◌<◌, ◌≤◌, length, arith, add-one, refl}
 use Rattle.std.specs.Prelude.{ℤ, pos, negsuc, ◌^◌, unsigned_abs}
 use Rattle.std.specs.Fmt.{decimal, signed_decimal}

@@ -1,2 +1,2 @@
--- The sums after a change of one net.
+-- The sums of options after a change of one net.
 pub mod SumsLemmas

@@ -1,4 +1,4 @@
--- The sums of nets of 0, and those after a change of one net.
+-- The sums of nets of 0, and those after `add`, which changes one net.
 use Rattle.std.proofs.Common.{◌≡◌, ◌≢◌, ℕ, ◌+◌, ◌-◌, ◌<◌, ◌≤◌, ⊎_elim, ℤ, List, length, set, replicate, ap, ◌∙◌, sym, arith, pos, get_or-set_other, get_or-set_same, length-set}
 use Rattle.std.specs.Prelude.{◌+ℤ◌, slice_index}
 use Rattle.std.proofs.lemmas.Bool.{cases_eq}

@@ -1,4 +1,4 @@
--- Lemmas on limits, names and rows.
+-- For pushes into a set, for places by name, and for `==` on rows.
 pub mod LimitsLemmas
 pub mod NameLemmas
 pub mod RowGrowth

@@ -1,4 +1,4 @@
--- The limits, kept as tables grow.
+-- The limits, kept by each push into a set.
 use Rattle.std.proofs.Common.{◌≡◌, ◌≢◌, ℕ, ◌+◌, ◌<◌, ◌≤◌, ◌++◌, ◌∷◌, [], Bool, List, length, map, All, ap, ◌∙◌, ⊎_elim, arith, length-append, count_by, true, false, cond, refl, subst, get_or, Some, None}
 use Rattle.std.specs.Prelude.{◌==◌, ◌&&◌, is_some, nat_lt, position}
 use Rattle.std.specs.List.{IsDistinct, list_any, position_or_len}

@@ -1,4 +1,4 @@
--- Names that are all different: no name stands before its place.
+-- Names that are all different: none stands before its place, for the maps of copied sets.
 use Rattle.std.proofs.Common.{◌≡◌, ℕ, zero, suc, ◌<◌, false, List, [], ◌∷◌, length, map, take, get_or, refl, ◌∙◌, arith}
 use Rattle.std.specs.List.{AllByRecursion, IsDistinct, list_any}
 use Rattle.std.specs.Str.{bytes_eq}

@@ -1,4 +1,4 @@
--- The intercommodity spreads that name each commodity, kept as tables grow.
+-- The intercommodity spreads that name each commodity, kept by pushes of commodities and spreads.
 use Rattle.std.proofs.Common.{◌≡◌, ◌≢◌, ℕ, ◌+◌, ◌<◌, ◌≤◌, ◌++◌, ◌∷◌, [], true, false, List, length, slice_index, ap, ◌∙◌, refl, ⊎_elim, arith, All, length-append, ne_eqb}
 use Rattle.std.specs.Prelude.{◌==◌}
 use Rattle.std.specs.Int.{bit_at}

@@ -1,4 +1,4 @@
--- The rows of each commodity, kept as tables grow.
+-- The rows of each commodity, kept by pushes of commodities, spreads and spot charges.
 use Rattle.std.proofs.Common.{◌≡◌, ◌≢◌, ℕ, ◌+◌, ◌<◌, ◌++◌, ◌∷◌, [], Bool, true, false, List, ap, ◌∙◌, sym, ⊎_elim, arith, length-append, length-set, get_or-set_same, get_or-set_other, count_by, refl, All, Option, Some, None, zero, suc, eq-eqb, ne_eqb}
 use Rattle.std.specs.Prelude.{◌==◌, slice_set, if◌then◌else◌}
 use Rattle.std.specs.List.{filter, find}

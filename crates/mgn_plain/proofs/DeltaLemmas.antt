@@ -1,4 +1,4 @@
--- What deltas come to, and how large they are.
+-- What deltas come to, and how large they are: for `add_months` and `month_sums`.
 use Rattle.std.proofs.Common.{◌≡◌, ℕ, zero, suc, ◌+◌, ◌-◌, ◌*◌, ◌<◌, ◌≤◌, ◌^◌, List, length, take, pos, ℤ, ap, ◌∙◌, arith, take_all, add-one, eq-eqb, refl, unsigned_abs, ⊎_elim}
 use Rattle.std.specs.Prelude.{◌+ℤ◌, nat_lt}
 use Rattle.std.proofs.lemmas.Bool.{cases_lt}

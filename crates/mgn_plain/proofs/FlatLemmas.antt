@@ -1,4 +1,4 @@
--- A commodity in which each net is 0 risks nothing.
+-- A commodity in which each net is 0 risks nothing: why it may be passed over.
 use Rattle.std.proofs.Common.{◌≡◌, ◌≢◌, ℕ, Bool, false, refl, ◌-◌, ◌<◌, ◌≤◌, List, length, replicate, pos, ℤ, ap, ◌∙◌, sym, arith, unsigned_abs, ⊎_elim}
 use Rattle.std.specs.Prelude.{nat_lt}
 use Rattle.std.specs.Int.{int_max}

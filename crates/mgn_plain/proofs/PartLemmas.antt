@@ -1,4 +1,4 @@
--- From the rows that loops fill to the words of the definitions.
+-- From the rows that loops fill to the words of the definitions, for `figures_of` and `work_out_credits`.
 use Rattle.std.proofs.Common.{◌≡◌, ℕ, ◌*◌, ◌<◌, ◌≤◌, ◌^◌, List, [], length, replicate, ⊎_elim, ap, ◌∙◌, sym, arith, refl, map, pos, ℤ, unsigned_abs}
 use Rattle.std.specs.Int.{int_max}
 use Rattle.mgn_plain.specs.Figures.{commodity_figures}

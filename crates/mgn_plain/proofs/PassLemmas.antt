@@ -1,10 +1,9 @@
--- The pass over the positions: what one more counts for, and how large sums are.
-use Rattle.std.proofs.Common.{◌≡◌, ◌≢◌, ℕ, Bool, true, false, set, sym, get_or-set_same, get_or-set_other, zero, suc, ◌+◌, ◌-◌, ◌*◌, ◌<◌, ◌≤◌, ◌^◌, List, length, take, replicate, pos, ℤ, ap, ◌∙◌, arith, refl, add-one, eq-eqb, unsigned_abs, ⊎_elim}
+-- The pass over the positions, what one more counts for and how large sums are: for `add_position`.
+use Rattle.std.proofs.Common.{◌≡◌, ◌≢◌, ℕ, Bool, true, false, set, sym, get_or-set_same, get_or-set_other, zero, suc, ◌+◌, ◌-◌, ◌*◌, ◌<◌, ◌≤◌, ◌^◌, List, length, take, pos, ℤ, ap, ◌∙◌, arith, refl, add-one, eq-eqb, unsigned_abs, ⊎_elim}
 use Rattle.std.specs.Prelude.{◌+ℤ◌, ◌*ℤ◌, slice_index}
 use Rattle.std.specs.List.{sum_by}
 use Rattle.std.proofs.lemmas.Bool.{cases_eq, cases_lt, true≢false}
 use Rattle.std.proofs.lemmas.Int.{ints}
-use Rattle.std.proofs.lemmas.List.{get_or-replicate, length-replicate}
 use Rattle.mgn_params.specs.Limits.{IsWithinLimits}
 use Rattle.mgn_params.specs.declared.tables.Contract.{Contract}
 use Rattle.mgn_params.specs.Tables.{Tables, commodity_at, contract_at, no_commodity, no_contract}
@@ -18,23 +17,8 @@ use Rattle.mgn_span.proofs.PositionLemmas.{position_count_all, position_count_mo
 use Rattle.mgn_span.proofs.ShareLemmas.{scenario_share_in, scenario_total_small_to, share_sum_small, short_share_small, value_share_small}
 use Rattle.mgn_plain.specs.declared.sums.Sums.{Sums}
 use Rattle.mgn_plain.specs.Kept.{mark_at}
-use Rattle.mgn_plain.specs.Parts.{AreNets, AreSums}
+use Rattle.mgn_plain.specs.Parts.{AreSums}
 use Rattle.mgn_plain.specs.Sums.{AreSumsTo}
-
--- no position comes to nothing
-pub sums_none : (t : Tables) (nets : List ℤ) (sums : Sums) → AreNets t nets → sums.totals.items ≡ replicate (length t.commodities) (replicate 16 (pos 0)) → sums.deltas.items ≡ replicate (length t.months) (pos 0) → sums.minimums.items ≡ replicate (length t.commodities) 0 → length sums.held.items ≡ length t.commodities → sums.option_value ≡ pos 0 → AreSumsTo t nets 0 sums
-sums_none t nets sums of_nets totals deltas minimums marks value = record {
-  of_nets = of_nets;
-  one_row_each = ap length totals ∙ length-replicate {A = List ℤ} (length t.commodities) (replicate 16 (pos 0));
-  one_delta_each = ap length deltas ∙ length-replicate {A = ℤ} (length t.months) (pos 0);
-  one_minimum_each = ap length minimums ∙ length-replicate {A = ℕ} (length t.commodities) 0;
-  one_mark_each = marks;
-  totals = λ g s h k. rw (totals, get_or-replicate {A = List ℤ} (length t.commodities) g (replicate 16 (pos 0)) _ h) (get_or-replicate {A = ℤ} 16 s (pos 0) (pos 0) k);
-  deltas = λ m h. rw deltas (get_or-replicate {A = ℤ} (length t.months) m (pos 0) (pos 0) h);
-  minimums = λ g h. rw minimums (get_or-replicate {A = ℕ} (length t.commodities) g 0 0 h);
-  value = value;
-  flat = λ g k mark h same. absurd (omega (arith, h));
-}
 
 -- a net of 0 counts for nothing
 pub sums_flat : (t : Tables) (nets : List ℤ) (i : ℕ) (sums : Sums) → i < length t.contracts → value_at nets i ≡ pos 0 → AreSumsTo t nets i sums → AreSumsTo t nets (i + 1) sums

@@ -1,2 +1,2 @@
--- What a plan leaves of nets.
+-- What a plan leaves of nets, for desks and rows that follow it.
 pub mod Nets

@@ -1,4 +1,4 @@
--- The marks of all units, by those of each.
+-- The marks of all units, by those of each: for `mark_all` and `mark_alone`.
 use Rattle.std.proofs.Common.{◌≡◌, ◌<◌, ◌+◌, ◌∙◌, ℕ, zero, suc, All, List, [], ◌∷◌, ◌++◌, length, map, take, get_or, Option, Some, None, Result, Ok, Err, IfOk, IfSome, sym, ap, subst, arith, refl}
 use Rattle.std.specs.Prelude.{slice_index_or}
 use Rattle.std.proofs.lemmas.List.{get_or-map, length-map, map-append, take_more}

@@ -1,4 +1,4 @@
--- Desks that are given with a command.
+-- Desks that are given with a command: when one fits, and when one is older.
 use Rattle.std.proofs.Common.{pos, ◌≡◌, ◌<◌, ◌∙◌, ℕ, zero, suc, ℤ, Bool, true, false, List, [], ◌∷◌, length, ◌≤◌, get_or, set, map, sym, ap, refl, arith, cond, Option, Some, None}
 use Rattle.std.specs.Prelude.{◌||◌, ◌&&◌, ◌==◌, nat_lt, not}
 use Rattle.std.specs.Ordering.{int_eq}

@@ -1,4 +1,4 @@
--- Desks that move with rows.
+-- For desks that move with rows and are given with a command.
 pub mod Moved
 -- Desks by the numbers of their units.
 pub mod Numbered

@@ -1,4 +1,4 @@
--- A desk that moves as its row does.
+-- A desk that moves as its row does: for `foresee` and `take_back`.
 use Rattle.std.proofs.Common.{◌≡◌, ◌<◌, ◌∙◌, ℕ, zero, suc, ℤ, pos, All, List, [], ◌∷◌, ◌++◌, length, get_or, sym, ap, subst, refl, arith, Option, Some, None}
 use Rattle.std.specs.Prelude.{◌+ℤ◌, neg_ℤ}
 use Rattle.std.proofs.lemmas.Int.{ints}

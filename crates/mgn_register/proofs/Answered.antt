@@ -1,4 +1,4 @@
--- From a change to its answer.
+-- From a change to its answer: that each step is the machine's.
 use Rattle.std.proofs.Common.{sym, ap, ◌∙◌}
 use Rattle.std.specs.Prelude.{Result, Ok, Err}
 use Rattle.mgn_machine.specs.declared.reply.Refusal.{Refusal}

@@ -1,4 +1,4 @@
--- The nets of units after a command, by its plan.
+-- The nets of units after a command are those of its plan, as each change of the register promises.
 use Rattle.std.proofs.Common.{◌≡◌, ◌≢◌, ◌<◌, ◌∙◌, ⊎_elim, ℕ, List, [], ◌∷◌, ◌++◌, length, length-append, get_or, set, sym, ap, subst, refl, arith, eq-eqb, ne_eqb, OnOk, IfOk, Result, Ok, Err}
 use Rattle.std.proofs.lemmas.Bool.{cases_eq}
 use Rattle.std.proofs.lemmas.List.{get_or-set_same, get_or-set_other, get_or_append_left, get_or_default, length-set}

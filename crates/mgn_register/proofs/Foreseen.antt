@@ -1,4 +1,4 @@
--- What is known of a plan's units.
+-- Where nothing is known of a plan's units, nothing wrong is: for callers that have priced none.
 use Rattle.std.specs.Prelude.{List}
 use Rattle.mgn_params.specs.Tables.{Tables}
 use Rattle.mgn_unit.specs.declared.row.Row.{Row}

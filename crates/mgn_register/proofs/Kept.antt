@@ -1,4 +1,4 @@
--- Rows that are kept under a change of one account.
+-- Rows that are kept under a change of one account: for each change of the register.
 use Rattle.std.proofs.Common.{◌≡◌, ◌≢◌, ℕ, ◌<◌, ◌≤◌, ◌^◌, List, [], length, set, get_or, refl, sym, ap, ◌∙◌, subst, arith, All, Bool, true, false}
 use Rattle.std.specs.Prelude.{is_some, Err, ℤ, pos, ◌+ℤ◌, unsigned_abs, nat_eq, nat_lt, Some, None, Option, Ok, IfSome}
 use Rattle.std.specs.Str.{bytes_eq}

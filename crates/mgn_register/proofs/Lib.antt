@@ -1,4 +1,4 @@
--- What the register keeps after each change.
+-- What the register owes at each change, and what it keeps.
 pub mod Answered
 pub mod Busts
 pub mod Following

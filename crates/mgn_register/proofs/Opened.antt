@@ -1,4 +1,4 @@
--- Rows that are kept under a new account, a new origin or a new unit.
+-- Rows that are kept under a new account, origin or unit: for `open_in`, `open_own` and `originate`.
 use Rattle.std.proofs.Common.{◌≡◌, ℕ, suc, ◌+◌, ◌<◌, List, [], ◌∷◌, ◌++◌, length, map, replicate, get_or, refl, sym, ◌∙◌, subst, arith, All, Bool, true, false, length-append}
 use Rattle.std.specs.Prelude.{ℤ, pos, nat_eq, nat_lt, if◌then◌else◌, Option, Some, None, IfSome}
 use Rattle.std.specs.List.{sum_by}

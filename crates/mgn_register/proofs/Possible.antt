@@ -1,4 +1,4 @@
--- The changes of plans are within the limits.
+-- The changes of plans are within the limits: for the plans of all commands.
 use Rattle.std.proofs.Common.{◌≡◌, ◌<◌, ⊎_elim, ℕ, get_or, List, length, Ok, false, true, eq-eqb, ne_eqb, sym}
 use Rattle.std.proofs.lemmas.Bool.{cases_eq}
 use Rattle.std.proofs.lemmas.List.{get_or_default}

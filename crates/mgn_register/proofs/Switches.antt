@@ -1,4 +1,4 @@
--- Rows and refusals where another set comes into force.
+-- Rows and refusals where another set comes into force: for `rows_anew` and its refusals.
 use Rattle.std.proofs.Common.{IfSome, ◌≡◌, ◌+◌, ◌-◌, ◌<◌, ◌≤◌, ◌∙◌, ℕ, Bool, true, false, List, [], ◌∷◌, ◌++◌, length, get_or, sym, ap, arith, subst, filter, ⊎_elim}
 use Rattle.std.specs.Prelude.{◌&&◌, ℤ, IsSomeAnd, None, Option, Some}
 use Rattle.std.specs.List.{list_all}

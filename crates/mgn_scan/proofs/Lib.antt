@@ -1,2 +1,2 @@
--- The totals after a change of one net.
+-- The totals of the 16 scenarios after a change of one net.
 pub mod TotalsLemmas

@@ -1,4 +1,4 @@
--- Desks beside a book, over the ways that a command goes.
+-- Desks beside a book, over the ways that a command goes: for `commit_command`.
 use Rattle.std.proofs.Common.{◌≡◌, ◌∙◌, ℕ, true, false, List, sym, subst, true≢false}
 use Rattle.mgn_params.specs.Shelves.{set_at}
 use Rattle.mgn_params.specs.Tables.{Tables}

@@ -1,4 +1,4 @@
--- Lemmas of the crate.
+-- Why a script is a run of the machine.
 pub mod DeskCommits
 pub mod DeskFacts
 pub mod PlainFacts

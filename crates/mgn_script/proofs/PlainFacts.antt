@@ -1,4 +1,4 @@
--- A commit in a book of one session.
+-- A commit in a book of one session, as `Plain` makes it.
 use Rattle.std.proofs.Common.{◌≡◌, ◌+◌, ◌∙◌, ℕ, suc, List, [], ◌∷◌, ◌++◌, length, refl, sym, ap, arith, length-append, inl, inr}
 use Rattle.mgn_params.specs.Tables.{Tables}
 use Rattle.mgn_machine.specs.History.{calls, entry, item, items_of, recorded}

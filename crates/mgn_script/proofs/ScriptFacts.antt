@@ -1,4 +1,4 @@
--- A session over a book of one session is a run of the machine, under the sets that there are in the end.
+-- A session over a book of one session is a run of the machine: what `run_script` promises.
 use Rattle.std.proofs.Common.{◌≡◌, ◌+◌, ◌∙◌, ◌<◌, ℕ, List, [], length, Option, Some, None, Result, Ok, Err, IfOk, OnErr, refl, sym, ap, subst, arith, length-append, inl, inr}
 use Rattle.mgn_params.specs.Tables.{Tables}
 use Rattle.mgn_machine.specs.History.{entry, items_of, recorded, replay}

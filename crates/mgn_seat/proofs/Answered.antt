@@ -1,4 +1,4 @@
--- What a pass is answered, as what an executor adds to its list.
+-- What a pass is answered, as what `exec` and `switch` of a seat add to their list.
 use Rattle.std.proofs.Common.{ℕ, ap, Option, Some, None, inl, inr, ⊎_elim}
 use Rattle.mgn_machine.specs.declared.reply.Reply.{Reply}
 use Rattle.mgn_machine.specs.declared.request.Request.{Request}

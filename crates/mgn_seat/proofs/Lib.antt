@@ -1,2 +1,2 @@
--- Lemmas of the crate.
+-- For what the executor of a seat answers.
 pub mod Answered

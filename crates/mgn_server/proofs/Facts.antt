@@ -1,4 +1,4 @@
--- How a session ended, and what comes back from the places of seats.
+-- How a session ended, and what comes back from the places of seats: for `run` and `serve`.
 use Rattle.std.specs.Prelude.{true, ◌<◌, ◌≡◌, ◌+◌, ◌++◌, ◌⊎◌, ℕ, List, drop, length, map, [], ◌∷◌, Result, Ok, Err, IfOk, IfErr, OnErr, refl}
 use Rattle.std.specs.List.{AllZip}
 use Rattle.std.proofs.Common.{arith, ap, suc, zero, subst, sym, ◌∙◌, inl, inr}

@@ -1,2 +1,2 @@
--- Lemmas on sessions and on the places of seats.
+-- For sessions and the places of seats.
 mod Facts

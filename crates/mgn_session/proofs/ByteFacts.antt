@@ -1,4 +1,4 @@
--- The first byte that a search finds stands at its position.
+-- The first byte that a search finds stands at its position: for `find_end`.
 use Rattle.std.proofs.Common.{◌≡◌, ℕ, ◌<◌, Bool, true, false, List, length, get_or, Option, Some, None, refl, arith, le-ltb, lt-ltb}
 use Rattle.std.specs.Prelude.{◌==◌, position}
 use Rattle.std.specs.List.{position_or_len}

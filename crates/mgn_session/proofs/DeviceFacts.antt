@@ -1,4 +1,4 @@
--- What the devices tell, one call after another.
+-- What the devices tell, one call after another: for what a session reads and writes.
 use Rattle.std.proofs.Common.{◌+◌, ℕ, List, [], ◌++◌, take, take-add, drop, Option, Some, None, refl, sym, append_assoc}
 use Rattle.std.proofs.lemmas.List.{append-nil}
 use Rattle.std.specs.Io.KnownBytes.{Appends, Consumes, Keeps}

@@ -1,4 +1,4 @@
--- Lemmas of the crate.
+-- Why a session answers each of its lines once and in order, whatever its devices do.
 pub mod ByteFacts
 pub mod DeviceFacts
 pub mod LineFacts

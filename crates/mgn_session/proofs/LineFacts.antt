@@ -1,4 +1,4 @@
--- From piece to piece of a line, and from line to line of a session.
+-- From piece to piece of a line, and from line to line of a session: for `LineBuffer`.
 use Rattle.std.proofs.Common.{◌≡◌, ◌+◌, ◌-◌, ◌<◌, ◌≤◌, ℕ, Bool, true, false, List, [], ◌∷◌, ◌++◌, length, take, drop, get_or, Some, None, cond, refl, sym, ap, ◌∙◌, arith, append_assoc, length-append, drop-drop, length-drop, min}
 use Rattle.std.specs.Prelude.{◌==◌, ◌||◌, nat_lt, position}
 use Rattle.std.specs.List.{filter, list_any, position_or_len}

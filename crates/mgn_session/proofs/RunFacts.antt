@@ -1,4 +1,4 @@
--- From call to call of a session.
+-- From call to call of a session: for `answer_chunk` and `run_lines`.
 use Rattle.std.proofs.Common.{◌≡◌, ◌+◌, ◌<◌, ◌≤◌, ℕ, true, false, List, [], ◌∷◌, ◌++◌, length, take, Result, Ok, Err, IfOk, IfErr, OnOk, OnErr, refl, ap, ◌∙◌, arith, append_assoc, length-append, inl, inr}
 use Rattle.std.proofs.lemmas.List.{append-nil, take_all, take-append-le}
 use Rattle.std.proofs.Math.Seq.{take-append-add}
@@ -342,7 +342,3 @@ either (Err e) p q f g = g q
 pub if_ok : {X E : Type 0} {P Q : X → Type 0} (r : Result X E) → IfOk r P → ((x : X) → P x → Q x) → IfOk r Q
 if_ok (Ok x) p f = f x p
 if_ok (Err e) p f = tt
-
-pub by_outcome : {X E : Type 0} {P : X → Type 0} {Q R : Type 0} (r : Result X E) → IfOk r P → OnErr r Q → ((x : X) → P x → R) → (Q → R) → R
-by_outcome (Ok x) p q f g = f x p
-by_outcome (Err e) p q f g = g q

@@ -1,4 +1,4 @@
--- A session is a session of what is seen of it, where each of its steps is.
+-- A session is a session of what is seen of it, where each of its steps is: for scripts.
 use Rattle.std.proofs.Common.{ℕ, List, [], ◌∷◌, Result, Ok, Err, ap, inl, inr, subst, sym}
 use Rattle.mgn_params.specs.Tables.{Tables}
 use Rattle.mgn_setfile.specs.File.{outcome, records_of}

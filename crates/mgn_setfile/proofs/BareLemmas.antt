@@ -1,4 +1,4 @@
--- A text without quotes, carriage returns and byte order marks is plain.
+-- A text without quotes, carriage returns and byte order marks is plain: for `is_plain`.
 use Rattle.std.proofs.Common.{◌≡◌, ℕ, List, [], ◌∷◌, Bool, true, false, refl, sym, ap, ◌∙◌}
 use Rattle.std.specs.Prelude.{◌==◌, ◌&&◌, ◌||◌, not}
 use Rattle.std.specs.List.{list_all, list_any, onto_first, slice_split}

@@ -225,13 +225,6 @@ pub record IsBody (text bytes body : List ℕ) (done : List Fields) (rest : Opti
 abbrev pub Leads : List ℕ → List ℕ → Option (List ℕ) → Type 0
 Leads text bytes rest = (body : List ℕ) × (done : List Fields) × IsBody text bytes body done rest
 
-no_more_than : (n : ℕ) → 0 + n ≡ n
-no_more_than n = omega arith
-
-pub body_starts : (text : List ℕ) → Leads text (239 ∷ 187 ∷ 191 ∷ []) (Some text)
-body_starts text =
-    ([], [], record { marked = refl; records = refl; few = omega arith; first = λ n tail. ap (λ (k : ℕ). records_from default_config k st.StartRecord tail) (no_more_than n) })
-
 longer : (text bytes body line end left : List ℕ) (done found : List Fields) (more : Option (List ℕ)) → slice_split (λ b. b == 10) left ≡ line ∷ lines_left more
     → IsBody text bytes body done (Some left) → Given line end found → IsBody text (bytes ++ strip_bom line ++ end) (body ++ strip_bom line ++ end) (done ++ found) more
 longer text bytes body line end left done found more split is given =

@@ -1,4 +1,4 @@
--- From line to line of a file: what the records that are left give.
+-- From line to line of a file: what the records that are left give, for `close_lines` and for faults' lines.
 use Rattle.std.proofs.Common.{◌≡◌, ◌+◌, ◌<◌, ◌≤◌, ℕ, List, [], ◌∷◌, ◌++◌, length, map, drop, get_or, zero, suc, Option, Some, None, Result, Ok, Err, refl, ap, sym, ◌∙◌, arith, Bor}
 use Rattle.std.specs.Prelude.{◌-◌, ◌==◌, IfSome, slice_index_or}
 use Rattle.std.specs.List.{flat_map, slice_split}
@@ -6,7 +6,7 @@ use Rattle.std.proofs.lemmas.List.{get_or-drop}
 use Rattle.mgn_setfile.specs.declared.draft.Draft.{Draft}
 use Rattle.mgn_params.specs.Tables.{Tables}
 use Rattle.mgn_setfile.specs.Fields.{Fault, Fields}
-use Rattle.mgn_setfile.specs.File.{Record, drafted, judged, later_of, line_of_record, numbered, record_of_line, records_of, told, version_by, version_left}
+use Rattle.mgn_setfile.specs.File.{Record, drafted, judged, later_of, line_of_record, numbered, record_of_line, records_of, version_by, version_left}
 use Rattle.mgn_setfile.specs.Words.{numbered_record}
 use Rattle.mgn_setfile.specs.Lines.{lines_left}
 
@@ -71,11 +71,6 @@ pub record_is : (records rest : List Record) (count : ℕ) (r : Record) → drop
 record_is records rest count r e =
     let place : count + 1 - 1 ≡ count = omega arith in
     rw place (next_is records rest count r None e)
-
--- no line is left
-pub no_more : (count : ℕ) (draft : Option Draft) → told [] count draft ≡ told [] 0 draft
-no_more count None = refl
-no_more count (Some draft) = refl
 
 -- how much of a file is left, at most
 abbrev pub left_of : Option (Bor (List ℕ)) → ℕ

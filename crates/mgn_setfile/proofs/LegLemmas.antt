@@ -1,18 +1,17 @@
--- Reading the legs of a spread between commodities one after another.
-use Rattle.std.proofs.Common.{◌≡◌, ℕ, ◌⊎◌, ◌+◌, ◌-◌, ◌<◌, ◌≤◌, List, [], ◌∷◌, ◌++◌, Some, None, length, take, drop, set, get_or, replicate, Result, Ok, Err, All, Bool, true, false, refl, ap, ◌∙◌, arith, add-one, length-append, inr, map, Bor}
+-- Reading the legs of a spread between commodities one after another, for `credit_from` and `read_legs`.
+use Rattle.std.proofs.Common.{◌≡◌, ℕ, ◌⊎◌, ◌+◌, ◌-◌, ◌<◌, ◌≤◌, List, [], ◌∷◌, ◌++◌, Some, None, length, take, drop, get_or, replicate, Result, Ok, Err, All, Bool, true, false, refl, ap, ◌∙◌, arith, length-append, inr, map, Bor}
 use Rattle.std.specs.Prelude.{◌||◌, ◌==◌, if◌then◌else◌, IfOk, IfErr, Option}
 use Rattle.std.specs.List.{IsDistinct, AllByRecursion, list_any}
-use Rattle.std.proofs.Math.ListN.{take-append-drop}
-use Rattle.std.proofs.Math.Seq.{drop-cons, take-append_seam}
+use Rattle.std.proofs.Math.Seq.{take-append_seam}
 use Rattle.std.proofs.lemmas.Bool.Decides.{nat_tests}
-use Rattle.std.proofs.lemmas.List.{append-nil, drop_all, length-replicate, length-take-le, take_all, take_more, take_more_set}
+use Rattle.std.proofs.lemmas.List.{append-nil, length-replicate, take_all}
 use Rattle.std.proofs.lemmas.List.Elements.{All-from_recursion, recursion_from_All}
-use Rattle.mgn_setfile.specs.declared.fault.Cause.TheVariants.{Memory, Unknown}
+use Rattle.mgn_setfile.specs.declared.fault.Cause.TheVariants.{Memory}
 use Rattle.mgn_setfile.specs.declared.place.Field.TheVariants as field
 use Rattle.mgn_params.specs.declared.tables.Leg.{Leg}
 use Rattle.mgn_setfile.specs.Fields.{◌>>=◌, Fault, Fields, at, field_number, in_field}
 use Rattle.mgn_params.specs.Limits.{IsLeg, IsSidedSpread}
-use Rattle.mgn_setfile.specs.Records.{FoundLeg, IsFoundLeg, credit_from, credit_row, has_side_a, has_side_b, kept_legs, known_legs, commodity_field, leg_from, legs_from, padded, repeat_place}
+use Rattle.mgn_setfile.specs.Records.{FoundLeg, IsFoundLeg, credit_from, credit_row, has_side_a, has_side_b, kept_legs, known_legs, leg_from, legs_from, padded, repeat_place}
 use Rattle.mgn_params.specs.Tables.{Tables, is_side_a, is_side_b, no_leg}
 use Rattle.mgn_setfile.proofs.RecordLemmas.{fronted, fronted-more}
 
@@ -30,33 +29,11 @@ legs_step t n k front (a ∷ b ∷ c ∷ more) d leg h len e =
     let all : take k more ≡ more = take_all k more (omega arith) in
     rw all (legs_more t n front a.now b.now c.now (map (λ (s : Bor (List ℕ)). s.now) more) leg e)
 
-pub legs_fail : (t : Tables) (n : ℕ) (front : List FoundLeg) (a b c : List ℕ) (more : Fields) (fault : Fault) → leg_from t n a b c ≡ Err fault → fronted front (legs_from t n (a ∷ b ∷ c ∷ more)) ≡ Err fault
-legs_fail t n front a b c more fault e = rw e refl
-
 pub legs_end : (t : Tables) (n : ℕ) (front : List FoundLeg) (rest : Fields) → length rest < 3 → fronted front (legs_from t n rest) ≡ Ok front
 legs_end t n front [] h = ap Ok (append-nil front)
 legs_end t n front (a ∷ []) h = ap Ok (append-nil front)
 legs_end t n front (a ∷ b ∷ []) h = ap Ok (append-nil front)
 legs_end t n front (a ∷ b ∷ c ∷ more) h = absurd (omega arith)
-
--- a leg of a known commodity, and one of an unknown one
-pub known_more : (legs : List FoundLeg) (i g : ℕ) (leg d : FoundLeg) (row : List Leg) → i < length legs → i < length row → get_or legs i d ≡ leg → leg.0 ≡ Some g → fronted (take i row) (known_legs i (drop i legs)) ≡ fronted (take (i + 1) (set row i (record { commodity = g; side = leg.1; ratio = leg.2 }))) (known_legs (i + 1) (drop (i + 1) legs))
-unfolding in_field
-known_more legs i g leg d row h k is e =
-    let here : drop i legs ≡ leg ∷ drop (i + 1) legs = rw (add-one, ← is) (drop-cons legs i d h) in
-    rw (here, e, take_more_set row i (record { commodity = g; side = leg.1; ratio = leg.2 }) k) (fronted-more (take i row) (record { commodity = g; side = leg.1; ratio = leg.2 }) (known_legs (i + 1) (drop (i + 1) legs)))
-
-pub known_fail : (legs : List FoundLeg) (i : ℕ) (leg d : FoundLeg) (row : List Leg) → i < length legs → get_or legs i d ≡ leg → leg.0 ≡ None → fronted (take i row) (known_legs i (drop i legs)) ≡ Err (at (commodity_field i) Unknown)
-unfolding in_field
-known_fail legs i leg d row h is e =
-    let here : drop i legs ≡ leg ∷ drop (i + 1) legs = rw (add-one, ← is) (drop-cons legs i d h) in
-    rw (here, e) refl
-
-pub known_end : (legs : List FoundLeg) (row : List Leg) (i : ℕ) → length legs ≤ i → i ≤ 4 → length row ≡ 4 → drop i row ≡ replicate (4 - i) no_leg → known_legs 0 legs ≡ fronted (take i row) (known_legs i (drop i legs)) → Ok row ≡ kept_legs legs
-known_end legs row i h few all rest e =
-    let known : known_legs 0 legs ≡ Ok (take i row) = e ∙ rw (drop_all i legs h, append-nil (take i row)) refl in
-    let len : length (take i row) ≡ i = length-take-le i row (omega (arith, all)) in
-    rw (known, len, ← rest, take-append-drop i row) refl
 
 -- no commodity twice
 or_false : (a b : Bool) → (a || b) ≡ false → (a ≡ false) × (b ≡ false)
@@ -100,20 +77,6 @@ all_differ before (g ∷ gs) e =
     (last_before before g gs (none_before (before ++ g ∷ []) gs here.1), all_differ (before ++ g ∷ []) gs here.1)
 
 -- looking for the first leg of a commodity that came before
-
-pub repeat_here : (gs : List ℕ) (i : ℕ) → i < length gs → list_any (λ h. get_or gs i 0 == h) (take i gs) ≡ true → repeat_place (take i gs) (drop i gs) ≡ Some i
-repeat_here gs i h e =
-    let here : drop i gs ≡ get_or gs i 0 ∷ drop (i + 1) gs = rw add-one (drop-cons gs i 0 h) in
-    let len : length (take i gs) ≡ i = length-take-le i gs (omega arith) in
-    rw (here, e, len) refl
-
-pub repeat_later : (gs : List ℕ) (i : ℕ) → i < length gs → list_any (λ h. get_or gs i 0 == h) (take i gs) ≡ false → repeat_place (take i gs) (drop i gs) ≡ repeat_place (take (i + 1) gs) (drop (i + 1) gs)
-repeat_later gs i h e =
-    let here : drop i gs ≡ get_or gs i 0 ∷ drop (i + 1) gs = rw add-one (drop-cons gs i 0 h) in
-    rw (here, e, take_more gs i 0 h) refl
-
-pub repeat_none : (gs : List ℕ) (i : ℕ) → length gs ≤ i → repeat_place (take i gs) (drop i gs) ≡ None
-repeat_none gs i h = rw (drop_all i gs h) refl
 
 -- what known legs are
 

@@ -1,4 +1,4 @@
--- Lemmas on records, lines and files.
+-- Why a file that is read is the set, or has the first fault, that the definitions say.
 pub mod RecordLemmas
 pub mod LineLemmas
 pub mod FileLemmas

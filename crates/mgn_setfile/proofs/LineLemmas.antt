@@ -1,4 +1,4 @@
--- Lines without a record, and the lines of a text.
+-- Lines without a record, and the lines of a text: for `cut_line`, and for readers of whole texts.
 use Rattle.std.proofs.Common.{All, ◌≡◌, ◌==◌, ◌+◌, ◌<◌, ◌≤◌, ℕ, zero, suc, List, [], ◌∷◌, length, take, drop, Bool, true, false, Option, Some, None, refl, ⊎_elim, arith}
 use Rattle.std.specs.Prelude.{position}
 use Rattle.std.specs.List.{slice_split, position_or_len}

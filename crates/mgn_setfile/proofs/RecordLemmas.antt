@@ -1,4 +1,4 @@
--- Reading a record's words one after another.
+-- Reading a record's words one after another, for contracts and for spreads between commodities.
 use Rattle.std.proofs.Common.{◌≡◌, ℕ, ◌+◌, ◌<◌, ◌≤◌, List, [], ◌∷◌, ◌++◌, length, take, drop, set, get_or, Result, Ok, Err, refl, sym, ap, arith, append_assoc, add-one, take_all, Bor, map}
 use Rattle.std.specs.Prelude.{ℤ, ◌^◌}
 use Rattle.std.proofs.Math.Seq.{drop-cons}

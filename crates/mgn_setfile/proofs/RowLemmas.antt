@@ -1,4 +1,4 @@
--- Counts of rows by commodity, as rows and commodities come.
+-- Counts of rows by commodity, as rows and commodities come: for the limits that `Rows` keeps.
 use Rattle.std.proofs.Common.{◌≡◌, ◌≢◌, ℕ, ◌+◌, ◌<◌, ◌≤◌, ◌++◌, ◌∷◌, [], List, length, map, set, get_or, All, ap, sym, subst, ◌∙◌, ⊎_elim, arith, length-append, length-set, count_by, cond, true, false, Bool, refl, suc, Option, Some, None, Result, Ok, Err}
 use Rattle.std.specs.Prelude.{◌==◌, ◌&&◌, not, if◌then◌else◌, is_some, nat_lt, position, IfSome, IsOk, OnOk}
 use Rattle.std.specs.List.{list_any, position_or_len}

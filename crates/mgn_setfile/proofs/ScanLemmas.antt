@@ -1,4 +1,4 @@
--- A line without a quote, and with no carriage return but one at its end, is closed.
+-- A line without a quote, and with no carriage return but one at its end, is closed: for `shape_of`.
 use Rattle.std.proofs.Common.{◌≡◌, ◌-◌, ℕ, List, [], ◌∷◌, ◌++◌, length, Bool, true, false, refl, sym, ap, take, get_or, ◌∙◌, arith}
 use Rattle.std.specs.Prelude.{◌==◌, ◌&&◌, if◌then◌else◌, not}
 use Rattle.std.specs.List.{list_all}

@@ -1,4 +1,4 @@
--- The active scenario is the lowest with the largest total, and no other is.
+-- The active scenario is the lowest with the largest total, and no other is: for `active_scenario` and its law.
 use Rattle.std.proofs.Common.{◌≡◌, ℕ, zero, suc, ◌<◌, ◌≤◌, ⊎_elim, ap, arith}
 use Rattle.std.specs.Prelude.{ℤ, ◌≤ℤ◌, ◌<ℤ◌}
 use Rattle.std.proofs.lemmas.Bool.{cases_lt}

@@ -1,4 +1,4 @@
--- The legs of one spread between commodities: what they use, and how much they are credited.
+-- The legs of one spread between commodities, what they use and are credited: for both ways of forming spreads.
 use Rattle.std.proofs.Common.{◌≡◌, ℕ, ◌+◌, ◌*◌, ◌/◌, ◌<◌, ◌≤◌, ◌^◌, Bool, true, false, List, [], ◌∷◌, length, get_or, slice_index, slice_set, min, pos, negsuc, ℤ, unsigned_abs, ◌∙◌, arith, refl, All, length-set}
 use Rattle.std.specs.List.{AllByRecursion, fold, list_all}
 use Rattle.std.specs.Prelude.{◌||◌}

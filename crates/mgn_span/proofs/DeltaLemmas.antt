@@ -1,4 +1,4 @@
--- How large the deltas of months and of commodities are, where each net is within its limit.
+-- How large the deltas of months and of commodities are, each net within its limit: that sums do not wrap.
 use Rattle.std.proofs.Common.{◌≡◌, ◌≢◌, ℕ, ◌<◌, ◌≤◌, ◌^◌, true, false, List, [], ◌∷◌, length, take, pos, ℤ, unsigned_abs, ap, ◌∙◌, sym, arith, refl, All, eq-eqb, ne_eqb, ⊎_elim}
 use Rattle.std.specs.Prelude.{◌+ℤ◌, ◌*ℤ◌, ◌==◌, if◌then◌else◌, nat_lt}
 use Rattle.std.proofs.lemmas.Bool.{cases_lt, le-ltb, lt-ltb}

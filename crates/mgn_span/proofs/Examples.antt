@@ -1,4 +1,4 @@
--- Worked examples, by computation of the definitions.
+-- Worked examples, by computation of the definitions. Nothing cites them: that they hold is what they are for.
 use Rattle.std.proofs.Common.{◌≡◌, ℕ, pos, List, [], ◌∷◌, map, refl, replicate, codes, ℤ}
 use Rattle.std.specs.Prelude.{neg_ℤ}
 use Rattle.mgn_params.specs.declared.tables.Contract.{Contract}

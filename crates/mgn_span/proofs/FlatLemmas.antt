@@ -1,4 +1,4 @@
--- Nets of 0 give a requirement of 0.
+-- Nets of 0 give a requirement of 0: for what starts empty, and for what is flattened.
 use Rattle.std.proofs.Common.{◌≡◌, ℕ, zero, suc, ◌-◌, ◌*◌, Option, Some, None, List, [], ◌∷◌, ◌==◌, length, map, replicate, set, refl, ap, arith}
 use Rattle.std.specs.Prelude.{ℤ, pos, ◌*ℤ◌, slice_index, slice_set, if◌then◌else◌, ◌&&◌, Bool, true, false, nat_lt}
 use Rattle.std.specs.Int.{int_max}
@@ -20,7 +20,7 @@ use Rattle.mgn_span.specs.Positions.{AreFlat, Position, positions}
 use Rattle.mgn_span.specs.Requirement.{intra_charge, requirement, risk, scan_of, spot_charge}
 use Rattle.mgn_span.specs.Scan.{active, scenario_total, value_at}
 use Rattle.mgn_span.specs.Spot.{spot_charge_from, spot_of}
-use Rattle.mgn_span.specs.Stages.{amount_of, charges_of, left_after, left_by, long_leg, short_leg, stages_of, used}
+use Rattle.mgn_span.specs.Stages.{amount_of, charges_of, left_after, left_by, long_leg, short_leg, stages_of}
 use Rattle.mgn_span.specs.Words.{charge_of, long_delta, long_share, month_share, scenario_share, short_delta, short_share, short_share_of, start_of, starts_of, value_share}
 use Rattle.mgn_params.specs.Tables.{Tables, commodity_at, is_option, is_premium}
 
@@ -119,9 +119,6 @@ zero_write (n ∷ row) (suc i) x e h = (h.0, zero_write row i x e h.1)
 
 amount_zero : (row : List ℕ) → IsZeroRow row → (s : Stage) → amount_of row s ≡ 0
 amount_zero row h s = rw (zero_read row h s.first_leg, zero_read row h s.second_leg, zero-div s.first_ratio, zero-div s.second_ratio) refl
-
-used_zero : (amount ratio : ℕ) → amount ≡ 0 → used amount ratio ≡ 0
-used_zero amount ratio e = rw e (omega arith)
 
 left_zero : (row : List ℕ) → IsZeroRow row → (s : Stage) → IsZeroRow (left_after row s)
 left_zero row h s =

@@ -1,4 +1,4 @@
--- Laws of the definitions, and worked examples.
+-- Laws of the definitions, for both ways of the calculation and for the laws about it, and worked examples.
 pub mod Examples
 pub mod ProductLemmas
 pub mod FlatLemmas

@@ -1,4 +1,4 @@
--- Sums over positions: as they grow position by position, and as one net changes.
+-- Sums over positions, as the pass from scratch grows them and as a kept sum follows a change of one net.
 use Rattle.std.proofs.Common.{◌≡◌, ℕ, zero, suc, ◌+◌, ◌<◌, ◌≤◌, List, [], ◌∷◌, length, take, set, get_or, refl, ap, ◌∙◌, arith, take_all, ⊎_elim}
 use Rattle.std.specs.Prelude.{ℤ, pos, ◌+ℤ◌, unsigned_abs, All}
 use Rattle.std.specs.List.{sum_by}

@@ -1,4 +1,4 @@
--- How large what a quantity counts for is.
+-- How large what a quantity counts for is: that the products of a total fit.
 use Rattle.std.proofs.Common.{◌≤◌, ◌^◌, ◌*◌, ℤ, unsigned_abs, arith}
 use Rattle.std.specs.Prelude.{◌*ℤ◌}
 use Rattle.mgn_num.proofs.SignedLemmas.{size-*ℤ-le}

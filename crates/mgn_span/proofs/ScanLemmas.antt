@@ -1,4 +1,4 @@
--- Scan figures of totals that agree in the 16 scenarios, and their size.
+-- Scan figures of totals that agree in the 16 scenarios, and their size: for the scan risk of both ways.
 use Rattle.std.proofs.Common.{◌≡◌, ℕ, zero, suc, ◌*◌, ◌<◌, ◌≤◌, ap, ◌∙◌, arith, refl, pos, ℤ, unsigned_abs}
 use Rattle.std.specs.Int.{int_max}
 use Rattle.std.proofs.lemmas.Int.{ints}

@@ -1,4 +1,4 @@
--- How large the sums over the positions of a set are.
+-- How large the sums over the positions of a set are: that totals, deltas and minimums do not wrap.
 use Rattle.std.proofs.Common.{◌≡◌, ◌≢◌, ℕ, zero, suc, ◌*◌, ◌<◌, ◌≤◌, ◌^◌, cond, List, length, take, pos, ℤ, ⊎_elim, ap, arith, take_all, add-one, eq-eqb, ne_eqb, unsigned_abs}
 use Rattle.std.specs.Prelude.{◌*ℤ◌, ◌==◌, All}
 use Rattle.std.specs.List.{count_by, sum_by}

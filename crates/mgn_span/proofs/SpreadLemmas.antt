@@ -1,4 +1,4 @@
--- The spreads and the spot month charge of one commodity: their limits, and stages spread by spread.
+-- The spreads and the spot charge of one commodity: their limits, and stage by stage what `form_spreads` forms.
 use Rattle.std.proofs.Common.{◌≡◌, ℕ, ◌+◌, ◌<◌, true, false, List, [], ◌∷◌, ◌++◌, length, take, get_or, ap, ◌∙◌, arith, zero, suc, All, Some, rules}
 use Rattle.std.specs.Prelude.{◌==◌, if◌then◌else◌, IfSome, Bool}
 use Rattle.std.specs.List.{filter, find, flat_map}

@@ -1,4 +1,4 @@
--- A stage never uses more than its legs have, and what is left of a leg is its start less all earlier uses.
+-- A stage never uses more than its legs have: for credits, and for the laws of stages.
 use Rattle.std.proofs.Common.{ℕ, ◌*◌, ◌/◌, ◌<◌, ◌≤◌, List, slice_index, arith}
 use Rattle.std.proofs.Math.Nat.{mul-le-mul_right}
 use Rattle.mgn_span.specs.declared.stage.Stage.{Stage}

@@ -1,4 +1,4 @@
--- Stages, one after the other, and those that form nothing.
+-- Stages, one after the other, and those that form nothing: for `form_spreads`, and for runs that are kept.
 use Rattle.std.proofs.Common.{◌≡◌, ℕ, zero, suc, ◌+◌, ◌-◌, ◌≤◌, List, [], ◌∷◌, ◌++◌, slice_index, replicate, arith, refl, Option, Some, None}
 use Rattle.std.proofs.lemmas.List.{set-get_or}
 use Rattle.std.proofs.Math.Nat.{zero-div}

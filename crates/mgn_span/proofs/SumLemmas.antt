@@ -1,4 +1,4 @@
--- Sums over the numbers below a bound.
+-- Sums over the numbers below a bound, for the sums over months and commodities of the definitions.
 use Rattle.std.proofs.Common.{◌≡◌, ◌≢◌, ℕ, zero, suc, ◌+◌, ◌*◌, ◌<◌, ◌≤◌, Bool, true, false, pos, ℤ, unsigned_abs, ⊎_elim, ap, arith, refl}
 use Rattle.std.specs.Prelude.{◌+ℤ◌, if◌then◌else◌}
 use Rattle.std.proofs.lemmas.Bool.{cases_eq}

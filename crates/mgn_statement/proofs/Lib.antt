@@ -1,3 +1,3 @@
--- Lemmas on the lists of a statement.
+-- For the lists of a statement, and for the statement by a row.
 pub mod ByRow
 pub mod Lists

@@ -1,4 +1,4 @@
--- Lists of what passes a test, as loops grow them.
+-- Lists of what passes a test, as the loops of a statement grow them.
 use Rattle.std.proofs.Common.{◌≡◌, ℕ, zero, suc, ◌+◌, ◌-◌, ◌<◌, ◌≤◌, Bool, true, false, List, [], ◌∷◌, ◌++◌, length, take, map, filter, count_by, set, get_or, cond, replicate, ⊎_elim, refl, ap, sym, ◌∙◌, arith, append-nil, take_all}
 use Rattle.std.specs.Prelude.{ℤ, pos, unsigned_abs, nat_lt, ◌==◌, ◌&&◌, ◌||◌}
 use Rattle.std.specs.List.{range_with_len}

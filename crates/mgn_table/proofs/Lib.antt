@@ -1,2 +1,2 @@
--- One token more.
+-- For the tokens of a table.
 pub mod Pushed

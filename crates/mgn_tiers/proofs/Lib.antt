@@ -1,3 +1,3 @@
--- Why the kept rows are those of the definitions.
+-- Why the kept rows of deltas, net deltas and runs are those of the definitions.
 pub mod StartLemmas
 pub mod TierLemmas

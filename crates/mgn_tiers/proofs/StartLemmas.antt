@@ -1,4 +1,4 @@
--- What legs start with, and net deltas, after the delta of one month changes.
+-- What legs start with, and net deltas, after the delta of one month changes: for `TierStages::add` and desks.
 use Rattle.std.proofs.Common.{add-one, take, take_all, eq-eqb, ne_eqb, zero, suc, ◌≡◌, ◌≢◌, ℕ, ◌+◌, ◌-◌, ◌*◌, ◌<◌, ◌≤◌, ◌^◌, Bool, true, false, List, length, slice_index, slice_set, pos, ℤ, ⊎_elim, ap, ◌∙◌, sym, arith, refl, All, length-set, get_or-set_same, get_or-set_other, unsigned_abs, replicate}
 use Rattle.mgn_num.specs.Signed.{sum_below}
 use Rattle.std.specs.Prelude.{count_by, ◌+ℤ◌, ◌==◌, if◌then◌else◌}

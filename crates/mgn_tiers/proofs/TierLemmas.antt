@@ -1,4 +1,4 @@
--- All rows after the delta of one month changes.
+-- All rows after the delta of one month changes, as `TierStages::add` promises, and those of nets of 0.
 use Rattle.std.proofs.Common.{◌≡◌, ◌≢◌, ℕ, ◌+◌, ◌<◌, List, length, slice_set, pos, ℤ, ⊎_elim, ap, ◌∙◌, sym, arith, refl, length-set, get_or-set_same, get_or-set_other, eq-eqb, ne_eqb, replicate}
 use Rattle.std.specs.Prelude.{◌+ℤ◌}
 use Rattle.std.proofs.lemmas.Bool.{cases_eq}
@@ -17,11 +17,7 @@ use Rattle.mgn_tiers.proofs.StartLemmas.{long_moved, long_there, net_moved, net_
 use Rattle.mgn_span.proofs.StageSteps.{charges_of_nothing, left_by_nothing, spot_charge_of_nothing}
 use Rattle.mgn_span.specs.Sizes.{IsDelta}
 
--- the run of the month's commodity is formed of what its legs start with
-pub is_formed : (set' : Tables) (t : Tiers) (g : ℕ) → AreTiersOf set' t → g < length set'.commodities → run_at t.runs g ≡ run_of set' g (run_at t.runs g).starts
-is_formed set' t g are low = rw (are.runs_are g low) refl
-
--- and has room for another delta
+-- the run of the month's commodity has room for another delta
 pub has_room : (set' : Tables) (t : Tiers) (m : ℕ) (d : ℤ) → IsWithinLimits set' → AreTiersOf set' t → m < length set'.months → IsDelta d → HasRoom (run_at t.runs (month_at set'.months m).commodity) (month_at set'.months m).tier (value_at t.deltas m) d
 has_room set' t m d limits are h small =
     let month : Month = month_at set'.months m in

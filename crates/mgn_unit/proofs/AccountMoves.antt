@@ -1,4 +1,4 @@
--- What happens to one account, as a change of the rows.
+-- What happens to one account, as a change of the rows: for trades, busts and postings.
 use Rattle.std.proofs.Common.{◌≡◌, ℕ, ◌+◌, ◌<◌, List, [], ◌∷◌, length, Bool, true, false, set, get_or, refl, sym, ap, ◌∙◌, arith, length-append}
 use Rattle.std.specs.Prelude.{ℤ, pos, neg_ℤ, ◌+ℤ◌, ◌*ℤ◌, if◌then◌else◌, unsigned_abs}
 use Rattle.std.specs.Str.{bytes_eq}

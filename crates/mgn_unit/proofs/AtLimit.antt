@@ -1,4 +1,4 @@
--- A fill at the limit of its hold.
+-- A fill at the limit of its hold keeps the room, as the law of holding says.
 use Rattle.std.proofs.Common.{◌≡◌, ℕ, ◌<◌, List, length, map, set, Bool, true, false, refl, arith, subst}
 use Rattle.std.specs.Prelude.{ℤ, pos, neg_ℤ, ◌+ℤ◌, ◌*ℤ◌, if◌then◌else◌}
 use Rattle.std.specs.Str.{bytes_eq}

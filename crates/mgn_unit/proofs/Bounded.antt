@@ -1,4 +1,4 @@
--- How large the numbers of a row can be.
+-- How large the nets and the worth of a row can be: that rows stay within their limits.
 use Rattle.std.proofs.Common.{ℕ, ◌+◌, ◌-◌, ◌*◌, ◌^◌, ◌<◌, ◌≤◌, List, [], ◌∷◌, length, Bool, true, false, not, get_or, sym, subst, arith, All}
 use Rattle.std.specs.Prelude.{ℤ, pos, ◌*ℤ◌, ◌≤ℤ◌, nat_eq, if◌then◌else◌, unsigned_abs}
 use Rattle.std.specs.Str.{bytes_eq}

@@ -1,4 +1,4 @@
--- Rows under a set that comes into force during the day.
+-- Rows under a set that comes into force during the day: for `Switch::carry`.
 use Rattle.std.proofs.Common.{◌≡◌, ℕ, ◌+◌, ◌<◌, ◌≤◌, ◌^◌, cond, List, [], ◌∷◌, length, map, take, Bool, true, false, get_or, refl, sym, ap, ◌∙◌, subst, arith, position, All, ⊎_elim}
 use Rattle.std.specs.Prelude.{ℤ, pos, ◌+ℤ◌, ◌-ℤ◌, nat_eq, if◌then◌else◌, unsigned_abs, Option, None, Some, is_some}
 use Rattle.std.specs.List.{count_by, range_with_len}

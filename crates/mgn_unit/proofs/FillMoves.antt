@@ -1,4 +1,4 @@
--- What a fill does to one account, as a change of the rows.
+-- What a fill does to one account, as a change of the rows: for fills of a register.
 use Rattle.std.proofs.Common.{◌≡◌, ◌≢◌, ℕ, ◌+◌, ◌<◌, ◌≤◌, List, [], ◌∷◌, length, set, get_or, Bool, true, false, refl, sym, ap, ◌∙◌, subst, arith, length-append, length-set, All}
 use Rattle.std.specs.Prelude.{ℤ, pos, neg_ℤ, ◌+ℤ◌, ◌-ℤ◌, ◌*ℤ◌, if◌then◌else◌, unsigned_abs, remove}
 use Rattle.std.specs.Ordering.{int_eq}

@@ -1,4 +1,4 @@
--- Rows of units that have nothing.
+-- Rows of units that have nothing: for a new unit.
 use Rattle.std.proofs.Common.{◌≡◌, ℕ, ◌≤◌, ◌^◌, length, replicate, unsigned_abs, arith, All, ℤ, pos, ⊎_elim}
 use Rattle.std.proofs.lemmas.Bool.{cases_lt}
 use Rattle.std.proofs.lemmas.Int.{ints}

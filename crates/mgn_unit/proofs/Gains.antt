@@ -1,4 +1,4 @@
--- What the accounts of each unit gain, account by account.
+-- What the accounts of each unit gain, account by account: for `Switch::add_gains`.
 use Rattle.std.proofs.Common.{◌≡◌, ◌≢◌, ℕ, ◌+◌, ◌*◌, ◌<◌, ◌≤◌, List, length, take, get_or, set, refl, sym, ap, ◌∙◌, subst, arith, ⊎_elim}
 use Rattle.std.specs.Prelude.{ℤ, pos, ◌+ℤ◌, unsigned_abs}
 use Rattle.std.proofs.Math.IntN.{+ℤ_idr}

@@ -1,4 +1,4 @@
--- What happens to the holds of one account, as a change of the rows.
+-- What happens to the holds of one account, as a change of the rows: for holds, fills and releases.
 use Rattle.std.proofs.Common.{◌≡◌, ℕ, suc, ◌<◌, List, [], ◌∷◌, ◌++◌, length, get_or, take, drop, Bool, true, false, not, refl, ap, ◌∙◌, arith, length-append, All}
 use Rattle.std.specs.Prelude.{ℤ, pos, neg_ℤ, ◌+ℤ◌, ◌-ℤ◌, ◌*ℤ◌, if◌then◌else◌, unsigned_abs, remove}
 use Rattle.std.specs.Str.{bytes_eq}

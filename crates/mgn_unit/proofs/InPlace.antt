@@ -1,4 +1,4 @@
--- Contracts that stand in the new set where they stood in the old one.
+-- Contracts that stand in the new set where they stood in the old one: for `are_own_places` and `carry`.
 use Rattle.std.proofs.Common.{◌≡◌, position, ℕ, ◌<◌, List, length, map, get_or, refl, sym, ◌∙◌, ap, arith}
 use Rattle.std.specs.Prelude.{ℤ, pos, Option, None, Some}
 use Rattle.std.specs.List.{range_with_len}

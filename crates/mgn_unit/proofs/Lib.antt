@@ -1,4 +1,4 @@
--- Lemmas on rows and their changes.
+-- Why the row of a unit, changed account by account, is that of its accounts.
 pub mod Sums
 pub mod Moved
 pub mod Bounded

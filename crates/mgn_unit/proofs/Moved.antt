@@ -1,4 +1,4 @@
--- What a change of one account does to the rows of margin units.
+-- What a change of one account does to the rows of margin units: for each change of a register.
 use Rattle.std.proofs.Common.{◌≡◌, ◌≢◌, ℕ, ◌<◌, List, length, map, set, get_or, sym, subst, position, All}
 use Rattle.std.specs.Prelude.{ℤ, pos, ◌+ℤ◌, if◌then◌else◌, Some}
 use Rattle.std.specs.List.{IsDistinct}

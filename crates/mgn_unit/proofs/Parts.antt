@@ -1,4 +1,4 @@
--- What was prepared of a unit, portfolio by portfolio.
+-- What was prepared of a unit, portfolio by portfolio: for `Row::under`.
 use Rattle.std.proofs.Common.{◌≡◌, List, subst, sym}
 use Rattle.std.specs.Prelude.{IfSome, IsSomeAnd, None, Option, Some, ℤ}
 use Rattle.std.specs.Option.{option_map}

@@ -1,4 +1,4 @@
--- Nets that are carried over.
+-- Nets that are carried over are nets of the new set: for `taking`, and for what is still prepared.
 use Rattle.std.proofs.Common.{All, List}
 use Rattle.std.specs.Prelude.{ℤ}
 use Rattle.mgn_params.specs.Tables.{Tables}

@@ -1,4 +1,4 @@
--- The nets of a row.
+-- The nets of a row, for desks that are marked with them.
 use Rattle.mgn_params.specs.Tables.{Tables}
 use Rattle.mgn_nets.specs.Portfolios.{AreUnitNets}
 use Rattle.mgn_unit.specs.declared.row.Row.{Row}

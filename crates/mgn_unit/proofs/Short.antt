@@ -1,4 +1,4 @@
--- The least room is below 0 where one of the four is.
+-- The least room is below 0 where one of the four is: for `lacks_room_with`.
 use Rattle.std.proofs.Common.{◌≡◌, Bool, true, false, refl, ap, ◌∙◌, arith}
 use Rattle.std.specs.Prelude.{pos, int_lt, ◌||◌, if◌then◌else◌}
 use Rattle.std.proofs.lemmas.Int.{ints}

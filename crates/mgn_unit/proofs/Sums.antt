@@ -1,4 +1,4 @@
--- Rows of numbers, one for each contract, and sums over the accounts of a unit, where one account changes.
+-- Rows of one number for each contract, and sums over a unit's accounts, where one account changes: for rows.
 use Rattle.std.proofs.Common.{◌≡◌, ◌≢◌, ℕ, ◌<◌, List, [], length, map, Bool, true, false, set, get_or, refl, sym, ap, ◌∙◌, subst, arith, position}
 use Rattle.std.specs.Prelude.{ℤ, pos, neg_ℤ, ◌+ℤ◌, ◌==◌, if◌then◌else◌, nat_eq, nat_lt, Some}
 use Rattle.std.specs.List.{IsDistinct}

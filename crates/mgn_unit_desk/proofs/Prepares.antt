@@ -1,4 +1,4 @@
--- What was prepared of units is for the nets that their stamps show.
+-- What was prepared of units is for the nets that their stamps show: for the three ways to prepare.
 use Rattle.std.proofs.Common.{◌≡◌, ◌<◌, ◌≤◌, ◌∙◌, ℕ, Bool, List, [], true, false, ap, get_or, length, map, refl, subst, sym, ⊎_elim}
 use Rattle.std.specs.Prelude.{None, Option, Some, if◌then◌else◌}
 use Rattle.std.proofs.lemmas.Bool.{cases_lt}

@@ -1,4 +1,4 @@
--- Desks in step with what their stamps show.
+-- Desks in step with what their stamps show: for `apply`, `priced` and `take_back`.
 use Rattle.std.proofs.Common.{◌≡◌, ◌∙◌, ◌<◌, ℕ, ℤ, List, length, refl, sym, ap, subst, Option, Some, None, IfSome}
 use Rattle.std.specs.Prelude.{◌+ℤ◌}
 use Rattle.std.proofs.lemmas.List.{length-set}
@@ -24,14 +24,6 @@ use Rattle.mgn_day.specs.Changes.{SameUnit}
 use Rattle.mgn_day.specs.Days.{Day, nets_of, set_of, version_of}
 use Rattle.mgn_unit_desk.specs.declared.sight.UnitMove.{UnitMove}
 use Rattle.mgn_unit_desk.specs.UnitDesks.{IsInStep, IsOfDay, IsSight, SameMoves, moved_in}
-
-abbrev version_or : ℕ → Option MarkedNets → ℕ
-version_or d None = d
-version_or d (Some m) = m.version
-
-abbrev nets_or : UnitNets → Option MarkedNets → UnitNets
-nets_or d None = d
-nets_or d (Some m) = m.nets
 
 -- what a moved desk showed before
 moved-shown : (t : Tables) (version : ℕ) (nets : UnitNets) (change : Change) (now : DeskRows) → IsReady t version (moved_nets change nets) now.marked → shown now ≡ moved_desk (moves_of change) (marked_with now.unit version nets)

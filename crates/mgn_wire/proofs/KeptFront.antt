@@ -1,4 +1,4 @@
--- What was there stays in front of what is written later.
+-- What was there stays in front of what is written later: for the parts of a statement's reply.
 use Rattle.std.proofs.Common.{◌≡◌, ◌∙◌, ℕ, List, ◌++◌, length, take, drop, sym, ap, arith}
 use Rattle.std.proofs.Math.Seq.{take-append_seam}
 use Rattle.std.proofs.lemmas.List.{length-append, take-append-drop, take-append-le}

@@ -1,4 +1,4 @@
--- The words of a line: cutting them, and which lines they make.
+-- The words of a line: how `split_words` cuts them, and which lines `read_line` makes of them.
 use Rattle.std.proofs.Common.{◌≡◌, ℕ, ◌+◌, ◌-◌, ◌<◌, ◌≤◌, List, [], ◌∷◌, ◌++◌, length, take, drop, get_or, Result, Err, Bool, true, false, cond, refl, arith, inl, inr, lt-ltb, append_assoc, append-nil, length-append, length-drop, map, Bor}
 use Rattle.std.specs.Prelude.{nat_lt, ◌⊎◌, ◌==◌, ◌&&◌}
 use Rattle.std.specs.List.{position_or_len}
