@@ -1,4 +1,4 @@
--- What a commodity adds in which nothing is held.
+-- What a commodity adds in which nothing is held: nothing, as its law says.
 use Rattle.std.proofs.Common.{◌≡◌, ◌≢◌, ℕ, ◌-◌, ◌*◌, ◌<◌, ◌≤◌, ◌==◌, Bool, true, false, Option, Some, None, List, [], ◌∷◌, length, get_or, ⊎_elim, ap, ◌∙◌, refl, arith, eq-eqb, ne_eqb, sym, take_all}
 use Rattle.std.specs.Prelude.{ℤ, pos, ◌*ℤ◌, ◌&&◌, nat_lt, if◌then◌else◌, slice_index}
 use Rattle.std.specs.Int.{int_max}
@@ -14,9 +14,9 @@ use Rattle.std.proofs.lemmas.List.Sums.{sum_by-cons}
 use Rattle.mgn_laws.proofs.AbsentCredits.{nothing_credited}
 use Rattle.mgn_laws.proofs.CreditLemmas.{delta_of}
 use Rattle.mgn_laws.proofs.StageLemmas.{charges_by_turns, left_and_used, stages_in_limits, start_length}
-use Rattle.mgn_laws.proofs.SumLemmas.{signed_sum_below_none, sum_below_none}
 use Rattle.mgn_laws.specs.Absent.{HoldsNone}
 use Rattle.mgn_laws.specs.Turns.{charge_at, left_at, stages_in, starts_in}
+use Rattle.mgn_span.proofs.SumLemmas.{signed_sum_below_none, sum_below_none}
 use Rattle.mgn_span.specs.Words.{long_delta, long_share, month_share, net_delta, net_share, scenario_share, short_delta, short_share, short_share_of, stage_at, start_of}
 use Rattle.mgn_laws.specs.Uses.{deltas_in, risks_in}
 use Rattle.mgn_num.proofs.SignedLemmas.{signed_sum_by-cons}
@@ -95,8 +95,8 @@ month_none set nets g m limits none of =
 
 pub net_none : (set : Tables) (nets : List ℤ) (g : ℕ) → IsWithinLimits set → HoldsNone (positions set.contracts nets) g → net_delta set.months (positions set.contracts nets) g ≡ pos 0
 net_none set nets g limits none =
-    signed_sum_below_none (net_share set.months (positions set.contracts nets) g)
-    (λ m. chosen (month_at set.months m).commodity g (month_delta (positions set.contracts nets) m) (month_none set nets g m limits none)) (length set.months)
+    signed_sum_below_none (net_share set.months (positions set.contracts nets) g) (length set.months)
+    (λ m h. chosen (month_at set.months m).commodity g (month_delta (positions set.contracts nets) m) (month_none set nets g m limits none))
 
 tier_none : (set : Tables) (nets : List ℤ) (g tier m : ℕ) (part : ℤ → ℕ) → part (pos 0) ≡ 0 → IsWithinLimits set → HoldsNone (positions set.contracts nets) g → (if is_in_tier set.months g tier m then part (month_delta (positions set.contracts nets) m) else 0) ≡ 0
 tier_none set nets g tier m part empty limits none =
@@ -109,8 +109,8 @@ start_none : (set : Tables) (nets : List ℤ) (g leg : ℕ) → IsWithinLimits s
 unfolding starts_from
 start_none set nets g leg limits none =
     let held : List Position = positions set.contracts nets in
-    let long = sum_below_none (long_share set.months held g leg) (λ m. tier_none set nets g leg m positive_part refl limits none) (length set.months) in
-    let short = sum_below_none (short_share set.months held g (leg - 8)) (λ m. tier_none set nets g (leg - 8) m negative_part refl limits none) (length set.months) in
+    let long = sum_below_none (long_share set.months held g leg) (length set.months) (λ m h. tier_none set nets g leg m positive_part refl limits none) in
+    let short = sum_below_none (short_share set.months held g (leg - 8)) (length set.months) (λ m h. tier_none set nets g (leg - 8) m negative_part refl limits none) in
     ⊎_elim
     (λ (there : leg < 16). get_or-map-range_with_len (start_of set.months held g) 0 16 leg leg 0 there (omega arith) ∙ elim (nat_lt leg 8) as (λ b. (if b then long_delta set.months held g leg else short_delta set.months held g (leg - 8)) ≡ 0) [ true ↦ long | false ↦ short ])
     (λ (past : 16 ≤ leg). get_or_past (starts_in set nets g) leg 0 (omega (arith, start_length set nets g)))
@@ -128,7 +128,7 @@ intra_none set nets g limits none =
     let charge : (j : ℕ) → charge_at starts stages j ≡ 0 = λ j.
     let s : Stage = stage_at stages j in
     rw (left s.first_leg j, left s.second_leg j, zero-div s.first_ratio, zero-div s.second_ratio) (omega arith) in
-    charges_by_turns starts stages ∙ sum_below_none (charge_at starts stages) charge (length stages)
+    charges_by_turns starts stages ∙ sum_below_none (charge_at starts stages) (length stages) (λ j h. charge j)
 
 spot_nothing : (starts left : List ℕ) (spot : Option SpotCharge) → ((leg : ℕ) → slice_index starts leg ≡ 0) → ((leg : ℕ) → slice_index left leg ≡ 0) → spot_charge_from starts left spot ≡ 0
 spot_nothing starts left None start rest = refl

@@ -1,4 +1,4 @@
--- The credit of a commodity as a sum over the spreads.
+-- The credit of a commodity as a sum over the spreads, as the law of credits says it.
 use Rattle.std.proofs.Common.{◌≡◌, ◌≢◌, ℕ, zero, suc, ◌+◌, ◌<◌, ◌≤◌, ◌==◌, true, false, List, [], ◌∷◌, length, take, ⊎_elim, ap, ◌∙◌, refl, arith, add-one, length-set, replicate, take_all}
 use Rattle.std.specs.Prelude.{ℤ, if◌then◌else◌, slice_index, slice_set}
 use Rattle.std.specs.List.{fold, sum_by}

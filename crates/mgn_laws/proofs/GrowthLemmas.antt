@@ -1,4 +1,4 @@
--- A record that passes after the first adds one row at the end of one table.
+-- A record that passes adds one row at the end of one table: for the law of files of that name.
 use Rattle.std.proofs.Common.{◌≡◌, ℕ, Bool, true, false, List, [], ◌∷◌, ◌++◌, Some, Result, Ok, Err}
 use Rattle.std.specs.Prelude.{◌==◌, codes, if◌then◌else◌}
 use Rattle.std.specs.Str.{bytes_eq}

@@ -1,4 +1,4 @@
--- Lemmas of the laws.
+-- Lemmas of the laws of the calculation and of sets' files.
 pub mod AbsentCredits
 pub mod AbsentLemmas
 pub mod CreditLemmas
@@ -7,6 +7,5 @@ pub mod GrowthLemmas
 pub mod PassingLemmas
 pub mod RequirementLemmas
 pub mod StageLemmas
-pub mod SumLemmas
 pub mod NegatedLemmas
 pub mod WithoutLemmas

@@ -1,4 +1,4 @@
--- Laws of the calculation in the subject's own words.
+-- What is owed is never below 0, and a scan never above the worst cases: for the laws of requirements.
 use Rattle.std.proofs.Common.{ℕ, ◌<◌, List, [], ◌∷◌, arith}
 use Rattle.std.specs.Prelude.{ℤ, pos, ◌≤ℤ◌}
 use Rattle.std.proofs.lemmas.Int.{clamps, ints}

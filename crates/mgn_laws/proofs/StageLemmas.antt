@@ -1,4 +1,4 @@
--- Stages in their turns: what is left of a leg, and what all earlier stages used of it.
+-- Stages in their turns, what is left of a leg and what earlier ones used of it: for the laws of stages.
 use Rattle.std.proofs.Common.{◌≡◌, ℕ, zero, suc, ◌+◌, ◌-◌, ◌<◌, ◌≤◌, ◌==◌, true, false, List, [], ◌∷◌, length, take, All, ⊎_elim, ap, ◌∙◌, refl, arith, add-one, length-set, take_all}
 use Rattle.std.specs.Prelude.{ℤ, slice_index, if◌then◌else◌}
 use Rattle.std.specs.List.{AllByRecursion, filter, flat_map}

@@ -9,11 +9,11 @@ use Rattle.std.proofs.lemmas.List.Elements.{recursion_from_All}
 use Rattle.std.proofs.lemmas.List.Sums.{sum_by-cons}
 use Rattle.mgn_laws.proofs.AbsentCredits.{HasNothing, no_credits, nothing_more, others}
 use Rattle.mgn_laws.proofs.AbsentLemmas.{delta_none, intra_none, spot_none}
-use Rattle.mgn_laws.proofs.SumLemmas.{signed_sum_below_along}
 use Rattle.mgn_laws.specs.Absent.{HoldsNone, other_nets, without}
 use Rattle.mgn_laws.specs.Uses.{deltas_in, risks_in}
 use Rattle.mgn_num.proofs.SignedLemmas.{signed_sum_by-cons}
 use Rattle.mgn_num.specs.Signed.{signed_sum_below, signed_sum_by}
+use Rattle.mgn_span.proofs.SumLemmas.{signed_sum_below_same}
 use Rattle.mgn_span.proofs.FlatLemmas.{month_share_flat, share_flat, short_share_flat, value_share_flat}
 use Rattle.mgn_params.specs.declared.tables.Contract.{Contract}
 use Rattle.mgn_params.specs.declared.tables.CreditSpread.{CreditSpread}
@@ -226,6 +226,6 @@ pub requirement_left : (set : Tables) (nets : List ℤ) (g : ℕ) → IsWithinLi
 unfolding requirement
 requirement_left set nets g limits none =
     let held : List Position = positions set.contracts nets in
-    let risks = signed_sum_below_along (risk (without g set) (left g held)) (risk set held) (λ h. risk_left set nets h g limits none) (length set.commodities) in
+    let risks = signed_sum_below_same (risk (without g set) (left g held)) (risk set held) (length set.commodities) (λ h inside. risk_left set nets h g limits none) in
     let value = value_left g held (flat_held held g none) in
     rw (left_positions g set.contracts nets) (rw (risks, value) refl)
