@@ -4,6 +4,7 @@ use crate::image::Image;
 use mgn_ids::SessionNo;
 use mgn_machine::{Answer, Refusal, Reply};
 use mgn_slots::{SlotNames, Stamp};
+use thiserror::Error;
 
 /// What a commit under the lock did.
 #[derive(Drop)]
@@ -33,10 +34,12 @@ impl<'a, T: Image, J: SlotNames> Entered<'a, T, J> {
 }
 
 /// Why an audit fails.
-#[derive(Clone, Copy, PartialEq, Eq, Debug)]
+#[derive(Clone, Copy, PartialEq, Eq, Debug, Error)]
 pub enum AuditFault {
     /// The passes are not those that were made, each once.
+    #[error("the passes are not those that were made, each once")]
     Passes,
     /// The history has not just the calls of the pass of this session, the lowest of which that holds.
+    #[error("the history has not just the calls of session {}", .0.number())]
     Unmatched(SessionNo),
 }

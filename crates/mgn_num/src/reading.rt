@@ -2,12 +2,16 @@ ghost use Rattle.std.specs.Prelude.{◌≡◌, ◌≢◌, ◌+◌, ◌*◌, ◌^
 ghost use Rattle.mgn_num.specs.Text.{capped_number, is_positive, number_from};
 ghost use Rattle.mgn_num.specs.Reading.{number_of, unsigned_in, signed_in};
 
+use thiserror::Error;
+
 /// Why a text is not a number in its range.
-#[derive(Clone, Copy, PartialEq, Eq, Debug)]
+#[derive(Clone, Copy, PartialEq, Eq, Debug, Error)]
 pub enum NumFault {
     /// It is not spelled as a number.
+    #[error("not spelled as a number")]
     Syntax,
     /// It is a number outside the range.
+    #[error("outside its range")]
     Range,
 }
 

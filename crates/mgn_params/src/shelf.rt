@@ -4,6 +4,7 @@ ghost use Rattle.mgn_params.specs.Shelves.{set_at};
 use crate::set::ParamSet;
 use std::alloc::{AllocError, Global};
 use std::marker::Model;
+use thiserror::Error;
 
 /// How many sets a shelf holds at most: the first, and 64 put after it.
 const MOST_SETS: usize = 65;
@@ -49,11 +50,13 @@ impl Version {
 }
 
 /// Why a set is not put on a shelf.
-#[derive(Clone, Copy, PartialEq, Eq, Debug)]
+#[derive(Clone, Copy, PartialEq, Eq, Debug, Error)]
 pub enum PutFault {
     /// The shelf holds the first set and 64 more.
+    #[error("the first set and 64 more are held")]
     Sets,
     /// Memory could not be had.
+    #[error("memory could not be had")]
     Memory,
 }
 

@@ -3,13 +3,16 @@ ghost use Rattle.mgn_register.specs.declared.fault.Fault.TheVariants.{Memory, Re
 
 use mgn_machine::Refusal;
 use std::alloc::AllocError;
+use thiserror::Error;
 
 /// Why a command has changed nothing.
-#[derive(Clone, Copy, PartialEq, Eq, Debug)]
+#[derive(Clone, Copy, PartialEq, Eq, Debug, Error)]
 pub enum Fault {
     /// It is refused.
+    #[error("the command is refused")]
     Refused(Refusal),
     /// Memory was refused.
+    #[error("memory was refused")]
     Memory,
 }
 

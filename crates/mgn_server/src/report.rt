@@ -1,13 +1,17 @@
 use mgn_session::SessionFault;
+use thiserror::Error;
 
 /// Why a connection was closed before the end of its input.
-#[derive(Clone, Copy, PartialEq, Eq, Debug)]
+#[derive(Clone, Copy, PartialEq, Eq, Debug, Error)]
 pub enum ConnectionFault {
     /// Its session ended by a fault.
+    #[error("{0}")]
     Session(SessionFault),
     /// No thread could be had for its session, and nothing was read.
+    #[error("no thread could be had for its session")]
     NoThread,
     /// There was no seat for it, and nothing was read.
+    #[error("there was no seat for it")]
     NoSeat,
 }
 

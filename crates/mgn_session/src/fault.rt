@@ -1,15 +1,20 @@
 use mgn_wire::Memory;
+use thiserror::Error;
 
 /// Why a session ended before the end of its input.
-#[derive(Clone, Copy, PartialEq, Eq, Debug)]
+#[derive(Clone, Copy, PartialEq, Eq, Debug, Error)]
 pub enum SessionFault {
     /// A read failed.
+    #[error("a read failed")]
     Read,
     /// A write or a flush failed.
+    #[error("a write or a flush failed")]
     Write,
     /// Memory could not be had.
+    #[error("memory could not be had")]
     Memory,
     /// There are more than 1,000,000 lines or 268,435,456 bytes.
+    #[error("more than 1,000,000 lines or 268,435,456 bytes")]
     Lines,
 }
 

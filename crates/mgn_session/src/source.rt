@@ -3,17 +3,22 @@ ghost use Rattle.mgn_session.specs.Session.{Fetch};
 
 use mgn_ids::SetName;
 use std::alloc::AllocError;
+use thiserror::Error;
 
 /// Why a source gives no file.
-#[derive(Clone, Copy, PartialEq, Eq, Debug)]
+#[derive(Clone, Copy, PartialEq, Eq, Debug, Error)]
 pub enum SourceFault {
     /// There is no file of that name.
+    #[error("no file of that name")]
     Missing,
     /// The file could not be read.
+    #[error("the file could not be read")]
     Failed,
     /// The file holds more bytes than a set's file may.
+    #[error("more bytes than a set's file may hold")]
     Long,
     /// Memory could not be had.
+    #[error("memory could not be had")]
     Memory,
 }
 

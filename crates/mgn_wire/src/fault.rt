@@ -1,14 +1,18 @@
 use mgn_ids::IdFault;
 use std::alloc::AllocError;
+use thiserror::Error;
 
 /// Why a line asks for nothing.
-#[derive(Clone, Copy, PartialEq, Eq, Debug)]
+#[derive(Clone, Copy, PartialEq, Eq, Debug, Error)]
 pub enum LineFault {
     /// It has more than 256 bytes.
+    #[error("more than 256 bytes")]
     Long,
     /// It is not spelled as a command, nor as a switch.
+    #[error("not spelled as a command, nor as a switch")]
     Syntax,
     /// A name on it is too long, or a number outside its range.
+    #[error("a name too long, or a number outside its range")]
     Range,
 }
 
@@ -28,7 +32,8 @@ impl From<IdFault> for LineFault {
 }
 
 /// Memory could not be had.
-#[derive(Clone, Copy, PartialEq, Eq, Debug)]
+#[derive(Clone, Copy, PartialEq, Eq, Debug, Error)]
+#[error("memory could not be had")]
 pub struct Memory;
 
 impl From<AllocError> for Memory {
