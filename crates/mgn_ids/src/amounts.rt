@@ -2,7 +2,7 @@ ghost use Rattle.std.specs.Prelude.{◌≡◌, ◌≤◌, ◌^◌, unsigned_abs}
 ghost use Rattle.mgn_ids.specs.Amounts.{quantity_in, premium_in, units_in};
 
 use crate::fault::IdFault;
-use mgn_num::{NumFault, Quantity, read_signed, read_unsigned};
+use mgn_num::{Quantity, read_signed, read_unsigned};
 use std::marker::Model;
 
 /// How many contracts a command trades, holds or moves: 1 to 1,000,000 in size, above 0 bought and below 0 sold.
@@ -34,14 +34,13 @@ impl LotQuantity {
     pub fn read(word: &[u8]) -> Result<LotQuantity, IdFault>
         ensures { result ≡ quantity_in word.now }
     {
-        match read_signed(word, 1_000_000) {
-            Ok(0) => Err(IdFault::Range),
-            Ok(contracts) => Ok(LotQuantity {
-                contracts: contracts as i32,
-            }),
-            Err(NumFault::Syntax) => Err(IdFault::Syntax),
-            Err(NumFault::Range) => Err(IdFault::Range),
+        let contracts = read_signed(word, 1_000_000)?;
+        if contracts == 0 {
+            return Err(IdFault::Range);
         }
+        Ok(LotQuantity {
+            contracts: contracts as i32,
+        })
     }
 
     /// The number of contracts.
@@ -78,13 +77,10 @@ impl Premium {
     pub fn read(word: &[u8]) -> Result<Premium, IdFault>
         ensures { result ≡ premium_in word.now }
     {
-        match read_unsigned(word, 0, 100_000_000) {
-            Ok(cents) => Ok(Premium {
-                cents: cents as u32,
-            }),
-            Err(NumFault::Syntax) => Err(IdFault::Syntax),
-            Err(NumFault::Range) => Err(IdFault::Range),
-        }
+        let cents = read_unsigned(word, 0, 100_000_000)?;
+        Ok(Premium {
+            cents: cents as u32,
+        })
     }
 
     /// The number of cents.
@@ -124,11 +120,8 @@ impl Units {
     pub fn read(word: &[u8]) -> Result<Units, IdFault>
         ensures { result ≡ units_in word.now }
     {
-        match read_unsigned(word, 1, 1_000_000_000_000_000) {
-            Ok(number) => Ok(Units { number }),
-            Err(NumFault::Syntax) => Err(IdFault::Syntax),
-            Err(NumFault::Range) => Err(IdFault::Range),
-        }
+        let number = read_unsigned(word, 1, 1_000_000_000_000_000)?;
+        Ok(Units { number })
     }
 
     /// The number of units or cents.

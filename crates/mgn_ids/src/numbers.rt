@@ -2,7 +2,7 @@ ghost use Rattle.std.specs.Prelude.{◌≡◌, ◌≤◌, ◌^◌, IfOk};
 ghost use Rattle.mgn_ids.specs.Number.{number_in};
 
 use crate::fault::IdFault;
-use mgn_num::{NumFault, read_unsigned};
+use mgn_num::read_unsigned;
 use std::marker::Model;
 
 // The number from 1 to 10^12 that a word spells.
@@ -12,11 +12,7 @@ fn read_number(word: &[u8]) -> Result<u64, IdFault>
     ensures low { IfOk result (λ n. 1 ≤ n) }
     ensures high { IfOk result (λ n. n ≤ 10 ^ 12) }
 {
-    match read_unsigned(word, 1, 1_000_000_000_000) {
-        Ok(number) => Ok(number),
-        Err(NumFault::Syntax) => Err(IdFault::Syntax),
-        Err(NumFault::Range) => Err(IdFault::Range),
-    }
+    Ok(read_unsigned(word, 1, 1_000_000_000_000)?)
 }
 
 /// The number of a lot, within its account: 1 to 10^12. Contracts see the number.
