@@ -1,4 +1,4 @@
--- Steps that go through the book.
+-- Commands, commits and switches keep the world good, and what is known at a Commit: for the laws of commits.
 use Rattle.std.proofs.Common.{◌≡◌, ◌≢◌, ◌<◌, ◌≤◌, ◌+◌, ◌∙◌, ◌⊎◌, inl, inr, ⊎_elim, ℕ, Bool, true, false, All, Option, None, Some, List, [], ◌∷◌, ◌++◌, length, length-append, map, sym, ap, subst, refl, arith, Result, Ok, Err}
 use Rattle.std.specs.Cmp.Lexicographic.{pointwise}
 use Rattle.std.specs.Ordering.{int_eq}

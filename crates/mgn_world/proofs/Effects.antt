@@ -1,4 +1,4 @@
--- What a command does to the accounts and nets of margin units.
+-- What a command does to accounts and nets, by its units and its plan: that commits keep the world good.
 use Rattle.std.proofs.Common.{◌≡◌, ◌≢◌, ◌<◌, ◌≤◌, ◌+◌, ◌∙◌, inl, inr, ⊎_elim, ℕ, Bool, true, false, All, Option, None, Some, List, [], ◌∷◌, length, set, sym, ap, subst, refl, arith, Result, Ok, Err, eq-eqb, ne_eqb, IfSome}
 use Rattle.std.specs.Prelude.{◌==◌, if◌then◌else◌, int_lt, ℤ, pos, neg_ℤ, ◌+ℤ◌, slice_index_or}
 use Rattle.std.specs.Str.{bytes_eq}

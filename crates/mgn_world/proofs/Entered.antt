@@ -1,4 +1,4 @@
--- The world after commits of the kept one.
+-- The world after commits of the kept one, as `commit_call` and `commit_set` leave it.
 use Rattle.std.proofs.Common.{◌≡◌, ◌≢◌, ◌<◌, ◌+◌, ◌∙◌, ◌++◌, ℕ, Bool, true, false, Option, None, Some, List, [], ◌∷◌, length, length-append, map, replicate, sym, ap, subst, refl, arith}
 use Rattle.std.specs.Prelude.{◌&&◌, if◌then◌else◌, nat_lt, slice_index_or, slice_set}
 use Rattle.std.specs.List.{range_with_len}

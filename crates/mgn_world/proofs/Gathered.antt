@@ -1,4 +1,4 @@
--- What was gathered and prepared.
+-- What was gathered and prepared, as the stages of a switch keep it.
 use Rattle.std.proofs.Common.{◌≡◌, ◌≢◌, ◌<◌, ◌∙◌, arith, ap, All, length, List, ◌∷◌, Option, map, None, Some, replicate, take, ℕ, zero, suc, sym, subst, refl, Bool, false, true, ⊎_elim}
 use Rattle.std.specs.Prelude.{◌&&◌, if◌then◌else◌, is_some, nat_lt, slice_index_or, slice_set}
 use Rattle.std.proofs.lemmas.Bool.{cases_eq}

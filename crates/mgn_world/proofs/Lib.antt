@@ -1,4 +1,4 @@
--- The law of the world, step by step.
+-- The law of the world, step by step, and the kept world that follows it.
 pub mod Replays
 pub mod Twins
 pub mod Places

@@ -1,4 +1,4 @@
--- What is known where nothing but want of room refuses a command.
+-- Where a command takes place that nothing but want of room refuses: its accounts and contracts are there.
 use Rattle.std.proofs.Common.{◌≡◌, ◌≢◌, ◌<◌, ◌∙◌, ℕ, Bool, true, false, Some, List, length, subst, refl, arith, Ok}
 use Rattle.std.specs.Prelude.{◌==◌, not, nat_eq}
 use Rattle.std.proofs.lemmas.Bool.Decides.{nat_tests}

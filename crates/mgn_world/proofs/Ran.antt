@@ -1,4 +1,4 @@
--- The world after one step more.
+-- The world after one step more: for `run`, and for ends of sessions.
 use Rattle.std.proofs.Common.{◌≡◌, ◌<◌, ◌∙◌, ◌++◌, ℕ, suc, ◌≤◌, Bool, false, true, List, [], ◌∷◌, length, sym, ap, refl, arith}
 use Rattle.std.specs.Prelude.{if◌then◌else◌, nat_lt}
 use Rattle.std.proofs.lemmas.Bool.Decides.{nat_tests}

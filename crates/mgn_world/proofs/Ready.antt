@@ -1,4 +1,4 @@
--- Desks that can take a plan, and give it back.
+-- Desks that can take a plan, and give it back: for `apply` and `back`.
 use Rattle.std.proofs.Common.{◌≡◌, ◌≢◌, ◌<◌, ◌∙◌, inl, ⊎_elim, ℕ, zero, suc, Bool, true, All, Option, None, Some, List, [], ◌∷◌, length, map, sym, ap, subst, refl, arith, ne_eqb}
 use Rattle.std.specs.Prelude.{if◌then◌else◌, nat_lt}
 use Rattle.std.proofs.lemmas.Bool.{cases_eq, eq-eqb}

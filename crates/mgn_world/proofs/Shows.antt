@@ -1,4 +1,4 @@
--- What desks show once one of them has moved.
+-- What desks show once one of them has moved: for `apply_one` and `take_back_one`.
 use Rattle.std.proofs.Common.{◌≡◌, ◌<◌, ◌+◌, ◌++◌, ◌∙◌, ℕ, zero, suc, arith, drop, take, refl, Option, None, List, [], ◌∷◌, length, map, get_or, sym, ap, subst, Some}
 use Rattle.std.specs.Prelude.{slice_index_or, slice_set}
 use Rattle.std.proofs.lemmas.List.{get_or-map, map-set}

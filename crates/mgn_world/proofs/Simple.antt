@@ -1,4 +1,4 @@
--- Steps that change the stage of one session, its desks or its locks, and leave the book alone.
+-- Steps that leave the book alone, and change one session's stage, desks or locks: that the world stays good.
 use Rattle.std.proofs.Common.{◌≡◌, ◌≢◌, ◌<◌, ◌∙◌, inl, ⊎_elim, ℕ, true, Option, None, Some, List, [], ◌∷◌, length, sym, subst, refl, arith, Result, Ok, Err}
 use Rattle.std.specs.Prelude.{slice_index_or, slice_set}
 use Rattle.std.proofs.lemmas.List.{get_or-set_same, get_or-set_other, length-map}

@@ -1,4 +1,4 @@
--- Units and plans of commands, and how they stay while the accounts' units are left alone.
+-- Units and plans of commands stay while the accounts' units are left alone: for calls that hold them.
 use Rattle.std.proofs.Common.{◌≡◌, ◌≢◌, ◌∙◌, ◌⊎◌, inl, inr, ⊎_elim, ℕ, Bool, true, false, List, [], ◌∷◌, sym, ap, subst, refl, Result, Ok, Err}
 use Rattle.std.specs.Prelude.{◌==◌, ◌^◌, if◌then◌else◌, not, nat_lt, int_lt, pos, ◌+ℤ◌, unsigned_abs, neg_ℤ, ℤ}
 use Rattle.mgn_params.specs.Tables.{Tables}

@@ -1,4 +1,4 @@
--- What a step does to the book: nothing, or one step of the machine.
+-- What a step does to the book, nothing or one step of the machine: for the law of switches.
 use Rattle.std.proofs.Common.{◌≡◌, ◌∙◌, ◌⊎◌, inl, inr, ⊎_elim, ℕ, zero, suc, Bool, true, false, Option, None, List, [], ◌∷◌, length, ap, refl, Result, Ok, Err}
 use Rattle.std.specs.Prelude.{if◌then◌else◌, nat_lt, slice_index_or}
 use Rattle.mgn_params.specs.Tables.{Tables}

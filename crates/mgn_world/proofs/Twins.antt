@@ -1,4 +1,4 @@
--- Accounts that a step of another leaves alone.
+-- Accounts that count for what they did, in the units that a step leaves alone: for what others then see.
 use Rattle.std.proofs.Common.{◌≡◌, ◌≢◌, ◌<◌, ◌+◌, ◌∙◌, ⊎_elim, ℕ, zero, suc, Bool, true, false, cond, eqb, Option, Some, None, List, [], ◌∷◌, ◌++◌, length, length-append, map, get_or, set, sym, ap, subst, refl, arith, ne_eqb, position}
 use Rattle.std.specs.Prelude.{◌==◌, if◌then◌else◌, nat_lt, not, ℤ, pos, ◌+ℤ◌, Ok}
 use Rattle.std.specs.List.{position_or_len}

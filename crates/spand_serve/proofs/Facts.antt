@@ -1,4 +1,4 @@
--- What a server did, from what its sessions left and what the audit found.
+-- What a server did, from what its sessions left and what the audit found: for `serve`.
 use Rattle.std.specs.Prelude.{◌≡◌, ℕ, List, Result, Ok, Err, IfOk}
 use Rattle.std.specs.List.{All}
 use Rattle.std.proofs.Common.{subst, sym}

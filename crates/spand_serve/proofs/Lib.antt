@@ -1,2 +1,2 @@
--- Lemmas on a served day.
+-- For what a served day tells in the end.
 mod Facts

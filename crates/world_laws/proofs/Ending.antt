@@ -1,4 +1,4 @@
--- A session comes to its end by steps of its own.
+-- A session comes to its end by steps of its own: for the laws of progress.
 use Rattle.std.proofs.Common.{◌≡◌, ◌≢◌, ◌<◌, ◌≤◌, ◌+◌, ◌∙◌, ◌⊎◌, inl, inr, ⊎_elim, ℕ, suc, Bool, true, false, None, Some, List, [], ◌∷◌, ◌++◌, length, map, sym, ap, subst, refl, arith}
 use Rattle.std.specs.Prelude.{if◌then◌else◌, slice_index_or, slice_set}
 use Rattle.std.proofs.lemmas.List.{get_or-set_same}

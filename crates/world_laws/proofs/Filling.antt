@@ -1,4 +1,4 @@
--- Answers and entries, up to a full history.
+-- Answers and entries, up to a full history: for the law that only a full one takes nothing.
 use Rattle.std.proofs.Common.{◌≡◌, ◌<◌, ◌≤◌, ◌+◌, ◌∙◌, ℕ, suc, Bool, true, false, List, [], ◌∷◌, length, ap, refl, arith}
 use Rattle.std.specs.Prelude.{if◌then◌else◌}
 use Rattle.mgn_params.specs.Tables.{Tables}

@@ -1,4 +1,4 @@
--- Lemmas of the laws.
+-- Lemmas of the laws of sessions side by side.
 pub mod Places
 pub mod Turning
 pub mod Once

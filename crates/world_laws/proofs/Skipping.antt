@@ -1,4 +1,4 @@
--- Steps out of turn.
+-- Steps out of turn change nothing, as their law says.
 use Rattle.std.proofs.Common.{◌≡◌, ◌∙◌, ℕ, Bool, true, false, length, ap, refl}
 use Rattle.std.specs.Prelude.{if◌then◌else◌, nat_lt}
 use Rattle.mgn_params.specs.Tables.{Tables}
