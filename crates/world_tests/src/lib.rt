@@ -4,6 +4,8 @@
 #[cfg(test)]
 mod commands;
 #[cfg(test)]
+mod commits;
+#[cfg(test)]
 mod drawing;
 #[cfg(test)]
 mod lists;
