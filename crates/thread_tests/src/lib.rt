@@ -1,5 +1,4 @@
-//! Tests on threads: which types may cross them, sessions that call one service at the same time, and what threads do
-//! for a service: workers of a switch, and readers of the sets.
+//! Tests on threads: which types may cross them, and sessions that call one service at the same time.
 #![tactic(auto)]
 
 #[cfg(test)]
@@ -7,12 +6,8 @@ mod crossing;
 #[cfg(test)]
 mod lent;
 #[cfg(test)]
-mod marks;
-#[cfg(test)]
 mod meeting;
 #[cfg(test)]
 mod player;
 #[cfg(test)]
 mod sessions;
-#[cfg(test)]
-mod table;
