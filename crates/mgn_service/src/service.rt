@@ -13,7 +13,6 @@ use crate::looks::{Looked, look};
 use crate::orders::{keep_order, order_of};
 use crate::units::{Units, keep_unit, known_unit, units_of};
 use crate::waits::hold;
-use crossbeam_utils::CachePadded;
 use mgn_ids::SessionNo;
 use mgn_ledger::{AuditFault, Image, Ledger, Pass};
 use mgn_machine::{Answer, Command, Refusal, Reply};
@@ -38,9 +37,8 @@ pub(crate) const MOST_LOOKS: u8 = 65;
 #[derive(Drop)]
 pub struct Service<'a, T: Image, J: TableName + SlotNames> {
     pub(crate) alloc: Global,
-    // On lines of memory of their own, the book and each desk: calls that wait for a lock write to its line.
-    pub(crate) ledger: Mutex<CachePadded<Ledger<'a, T, J>>>,
-    pub(crate) desks: Vec<Mutex<CachePadded<UnitDesk<'a, T, J>>>>,
+    pub(crate) ledger: Mutex<Ledger<'a, T, J>>,
+    pub(crate) desks: Vec<Mutex<UnitDesk<'a, T, J>>>,
     marks: AtomicU64,
     pub(crate) workers: usize,
     ghost some: { 0 < workers },
@@ -83,10 +81,10 @@ fn begin<'a, R: Wait, T: Image, J: TableName + SlotNames>(
 // An empty desk for each unit that there can be.
 fn empty_desks<'a, T: Image, J: SlotNames>(
     alloc: Global,
-) -> Result<Vec<Mutex<CachePadded<UnitDesk<'a, T, J>>>>, AllocError> {
+) -> Result<Vec<Mutex<UnitDesk<'a, T, J>>>, AllocError> {
     let mut desks = Vec::with_capacity(alloc, MOST_DESKS)?;
     for unit in 0..MOST_DESKS {
-        desks.push(Mutex::new(CachePadded::new(UnitDesk::empty(unit))))?;
+        desks.push(Mutex::new(UnitDesk::empty(unit)))?;
     }
     Ok(desks)
 }
@@ -111,7 +109,7 @@ impl<'a, T: Image, J: TableName + SlotNames> Service<'a, T, J> {
         let ledger = Ledger::new(rt, alloc, slots, table, first)?;
         Ok(Service {
             alloc,
-            ledger: Mutex::new(CachePadded::new(ledger)),
+            ledger: Mutex::new(ledger),
             desks,
             marks: AtomicU64::new(0),
             workers,
@@ -365,7 +363,7 @@ impl<'a, T: Image, J: TableName + SlotNames> Service<'a, T, J> {
             marks: _,
             workers: _,
         } = self;
-        let ledger = ledger.into_inner().into_inner();
+        let ledger = ledger.into_inner();
         let audited = ledger.audit(&passes);
         // Dropped by one call each: a proof goes through each field of what a function lets go.
         drop(ledger);
