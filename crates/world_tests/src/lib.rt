@@ -4,8 +4,6 @@
 #[cfg(test)]
 mod commands;
 #[cfg(test)]
-mod commits;
-#[cfg(test)]
 mod drawing;
 #[cfg(test)]
 mod lists;
