@@ -223,16 +223,42 @@ def sizes_asked(text):
     return found
 
 
+def crate_of(file):
+    """Returns the crate that a file of code is of."""
+    found = re.search(r"crates/(\w+)/src/", file)
+    return found[1] if found else ""
+
+
+def constants_of(text):
+    """Yields the constants of a file that are no arrays, each with the words of its value."""
+    for at, word in enumerate(text.words):
+        if word == "const" and text.words[at + 2] == ":" and "=" in text.words[at:]:
+            equals = text.words.index("=", at)
+            value = text.words[equals + 1 : text.words.index(";", equals)]
+            if value[:1] != ["["]:
+                yield text.words[at + 1], value
+
+
+def names_seen(file, text, small):
+    """Returns which of the small constants a file names: those of its own crate, and those that a `use` brings from another."""
+    seen = {name for crate, name in small if crate == crate_of(file)}
+    for at, word in enumerate(text.words):
+        if word == "use":
+            path = text.words[at + 1 : text.words.index(";", at)]
+            seen |= {name for name in path[1:] if (path[0], name) in small}
+    return seen
+
+
 def small_constants(texts):
-    """Returns the names of constants that are all numbers up to MOST_ASKED where they are numbers."""
+    """Returns for each file the names of constants that are numbers up to MOST_ASKED, or such a constant as another type."""
     values = {}
-    for text in texts:
-        for at, word in enumerate(text.words):
-            if word == "const" and text.words[at + 2] == ":" and "=" in text.words[at:]:
-                equals = text.words.index("=", at)
-                values.setdefault(text.words[at + 1], []).append(text.words[equals + 1 : text.words.index(";", equals)])
-    numbers = {name: [it for it in found if it[:1] != ["["]] for name, found in values.items()}
-    return {name for name, found in numbers.items() if found and all(len(it) == 1 and is_small_number(it[0]) for it in found)}
+    for file, text in texts.items():
+        for name, value in constants_of(text):
+            values.setdefault((crate_of(file), name), []).append((file, value))
+    numbers = {it for it, found in values.items() if all(len(value) == 1 and is_small_number(value[0]) for _, value in found)}
+    seen = {file: names_seen(file, text, numbers) for file, text in texts.items()}
+    casts = {it for it, found in values.items() if all(value[1:2] == ["as"] and value[0] in seen[file] for file, value in found)}
+    return {file: names_seen(file, text, numbers | casts) for file, text in texts.items()}
 
 
 def is_small_number(word):
@@ -251,6 +277,8 @@ def is_small_term(text, at, words, function, constants):
     if words[-2:] == ["(", ")"]:
         return bool(re.fullmatch(r"len|count|\w+_count", words[-3])) and not {"MAX", "*", "<"} & {*words}
     word = words[-1] if words else ""
+    if words[:5] == ["usize", ":", ":", "from", "("] and words[6:] == [")"]:
+        return words[5] in constants
     if len(words) != 1:
         return words[-3:-1] == [":", ":"] and word in constants
     if is_small_number(word) or word in constants:
@@ -305,10 +333,10 @@ def fails_for_memory(texts):
 def wrong_places(files):
     """Returns how many places were looked at, and those that are wrong, as (file, line, function, why, text)."""
     texts = {file: Text(rows or []) for file, rows in source.tokens(files).items()}
-    names, constants = fails_for_memory(texts.values()), small_constants(texts.values())
+    names, constants = fails_for_memory(texts.values()), small_constants(texts)
     looked, wrong = 0, []
     for file, text in texts.items():
-        rules = {"makes a fault of memory": makers(text, names), "asks for more than is sure to be small": growths(text, constants)}
+        rules = {"makes a fault of memory": makers(text, names), "asks for more than is sure to be small": growths(text, constants[file])}
         for why, places in rules.items():
             for at, function, is_right in places:
                 looked += 1
@@ -349,6 +377,7 @@ fn asks_by_name(alloc: Global) -> Result<Vec<u8>, AllocError> { Vec::with_capaci
 fn asks_by_let(alloc: Global) -> Result<Vec<u8>, AllocError> { let count = u64::MAX as usize; Vec::with_capacity(alloc, count) }
 fn asks_by_product(v: &mut Vec<u8>, n: usize) -> Result<(), AllocError> { v.resize(n * 1_000_000, 0)?; Ok(()) }
 fn asks_by_macro(alloc: Global) -> Result<Vec<u8>, AllocError> { vec![in alloc; 0u8; 1 << 40] }
+fn asks_by_cast(alloc: Global) -> Result<Vec<u8>, AllocError> { Vec::with_capacity(alloc, usize::from(LARGE)) }
 fn asks_by_sum(v: &mut Vec<u8>, w: &[u8]) -> Result<(), AllocError> { v.reserve(w.len() + LARGE)?; Ok(()) }
 """
 GOOD = """
@@ -371,11 +400,14 @@ fn typed(v: &mut Vec<u8>) -> Result<(), Memory> { let done: Result<(), AllocErro
 impl From<AllocError> for Fault { fn from(_e: AllocError) -> Fault { Fault::Memory } }
 const LARGE: usize = 1_000_000_000;
 const CHUNK: usize = 65_536;
+const BYTE: u8 = 255;
+const BYTES: usize = BYTE as usize;
 fn two_of_memory(e: Cause) -> Reply { match e { Cause::Memory | Cause::OutOfMemory => Reply::Memory, Cause::Line => Reply::Line, } }
 fn field_read(a: Answer) -> bool { match a { Answer { reply: Refusal::Memory, .. } => true, _ => false } }
 fn nested_read(a: Answer) -> bool { match a { Answer { reply: Reply::Refused(Refusal::Memory), place: None } => true, _ => false } }
 fn field_handed(v: &mut Vec<u8>) -> Answer { match v.push(1) { Ok(()) => Answer::done(), Err(_) => Answer { place: None, reply: Refusal::Memory }, } }
 fn asks_for_some(alloc: Global, v: &mut Vec<u8>, n: usize) -> Result<Vec<u8>, AllocError> { v.reserve(1)?; v.reserve(n)?; v.resize(1_000_000, 0)?; Vec::with_capacity(alloc, CHUNK) }
+fn asks_for_a_byte(alloc: Global) -> Result<Vec<u8>, AllocError> { let all = Vec::with_capacity(alloc, BYTES)?; Vec::with_capacity(alloc, usize::from(BYTE)) }
 fn asks_for_as_many(alloc: Global, set: &ParamSet, w: &[u8]) -> Result<Vec<u8>, AllocError> { let count = set.contract_count(); let all = Vec::with_capacity(alloc, count + 1)?; vec![in alloc; 0u8; w.len()] }
 """
 

@@ -25,7 +25,7 @@ ALLOWED = {
     ("crates/mgn_unit_desk/src/unit_desk.rt", "take_back"),
     ("crates/mgn_world/src/deciding.rt", "decide"),
     ("crates/mgn_world/src/gathering.rt", "prepare"),
-    ("crates/mgn_world/src/kept.rt", "enter"),
+    ("crates/mgn_world/src/state.rt", "enter"),
     ("crates/mgn_world/src/switches.rt", "commit_set"),
     ("crates/mgn_world/src/unit_desks.rt", "apply_one"),
     ("crates/mgn_world/src/unit_desks.rt", "take_back_one"),

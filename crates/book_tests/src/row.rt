@@ -5,7 +5,7 @@ ghost use Rattle.mgn_unit.specs.NewSets.{IsPrepared, IsPreparedPortfolio};
 ghost use Rattle.mgn_unit.specs.Rows.{IsChange, IsRow, IsPortfolioRow, no_row, no_portfolio};
 
 use mgn_ids::{LotQuantity, Premium};
-use mgn_machine::Figures;
+use mgn_machine::UnitFigures;
 use mgn_nets::Nets;
 use mgn_num::{Cents, Quantity};
 use mgn_params::{ParamSet, Work};
@@ -55,12 +55,12 @@ fn row(alloc: Global, set: &ParamSet) -> Result<Row, AllocError>
     })
 }
 
-fn figures(alloc: Global, set: &ParamSet) -> Result<Figures, AllocError> {
+fn figures(alloc: Global, set: &ParamSet) -> Result<UnitFigures, AllocError> {
     let row = row(alloc, set)?;
     Ok(row.figures(set))
 }
 
-fn amounts(figures: &Figures) -> [i128; 5] {
+fn amounts(figures: &UnitFigures) -> [i128; 5] {
     [
         figures.requirement.amount(),
         figures.exposure_requirement.amount(),

@@ -33,7 +33,7 @@ pub struct ServerOptions {
 
 /// What the command line asks for.
 #[derive(Drop)]
-pub enum Request {
+pub enum Invocation {
     /// `script`: lines on standard input are answered on standard output, under a set.
     Script(SetPath),
     /// `serve`: the lines of several connections are answered, each a session.
@@ -144,16 +144,16 @@ fn server_options(alloc: Global, found: &ArgMatches<'_>) -> Result<ServerOptions
 }
 
 // What the words that were found ask for.
-fn request_in(alloc: Global, matches: &ArgMatches<'_>) -> Result<Request, Error> {
+fn request_in(alloc: Global, matches: &ArgMatches<'_>) -> Result<Invocation, Error> {
     match matches.subcommand() {
-        Some(("script", found)) => Ok(Request::Script(set_path(alloc, found)?)),
-        Some(("serve", found)) => Ok(Request::Serve(server_options(alloc, found)?)),
-        Some(("check", found)) => Ok(Request::Check(set_path(alloc, found)?)),
+        Some(("script", found)) => Ok(Invocation::Script(set_path(alloc, found)?)),
+        Some(("serve", found)) => Ok(Invocation::Serve(server_options(alloc, found)?)),
+        Some(("check", found)) => Ok(Invocation::Check(set_path(alloc, found)?)),
         _ => Err(error_of(alloc, ErrorKind::MissingSubcommand, "no command is given")?),
     }
 }
 
-fn request_of(alloc: Global, words: &[String]) -> Result<Request, Error> {
+fn request_of(alloc: Global, words: &[String]) -> Result<Invocation, Error> {
     let matches = command(alloc)?.try_get_matches_from(words)?;
     request_in(alloc, &matches)
 }
@@ -169,7 +169,7 @@ fn words<R: Env + AllocGlobal>(rt: &R) -> Result<Vec<String>, Error> {
 
 /// What the command line asks for. An error of kind `OutOfMemory` says that memory could not be had; any other is told
 /// to the caller of the program.
-pub fn read<R: Env + AllocGlobal>(rt: &R) -> Result<Request, Error> {
+pub fn read<R: Env + AllocGlobal>(rt: &R) -> Result<Invocation, Error> {
     let words = words(rt)?;
     request_of(rt.alloc(), words.as_slice())
 }

@@ -1,6 +1,6 @@
 -- What a FILL at the limit of its hold leaves as it was: for the law of that name.
 use Rattle.std.proofs.Common.{◌≡◌, ℕ, refl, sym, ap, ◌∙◌, arith, Bool, true, false}
-use Rattle.std.specs.Prelude.{ℤ, nat_eq, not, Some, Result, Ok, Err}
+use Rattle.std.specs.Prelude.{ℤ, nat_eq, Some, Result, Ok, Err}
 use Rattle.std.proofs.lemmas.Int.{ints}
 use Rattle.std.proofs.lemmas.List.Quantifiers.{position-Some}
 use Rattle.mgn_params.specs.Tables.{Tables}

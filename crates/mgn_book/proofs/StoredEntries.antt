@@ -5,7 +5,7 @@ use Rattle.std.proofs.lemmas.List.Elements.{All-push}
 use Rattle.mgn_params.specs.Tables.{Tables, no_tables}
 use Rattle.mgn_machine.specs.declared.entry.Entry.{Entry}
 use Rattle.mgn_machine.specs.declared.reply.Reply.{Reply}
-use Rattle.mgn_machine.specs.declared.reply.Figures.{Figures}
+use Rattle.mgn_machine.specs.declared.reply.UnitFigures.{UnitFigures}
 use Rattle.mgn_machine.specs.declared.reply.Reply.TheVariants as Answer
 use Rattle.mgn_machine.specs.declared.request.Recorded.{Recorded}
 use Rattle.mgn_machine.specs.declared.command.Command.TheVariants as command
@@ -23,7 +23,7 @@ use Rattle.mgn_book.specs.Replies.{AreFewReplies, Grows, IsKept, KeepsReplies, R
 reply_of-grown : (old new : ReplyLists) (reply : StoredReply) → KeepsReplies old new → IsKept old reply → reply_of new reply ≡ reply_of old reply
 reply_of-grown old new reply.Done grown h = refl
 reply_of-grown old new (reply.Figures place) grown h =
-    ap (λ (fs : List Figures). Answer.Figures (get_or fs place no_figures)) grown.0.1
+    ap (λ (fs : List UnitFigures). Answer.Figures (get_or fs place no_figures)) grown.0.1
     ∙ ap Answer.Figures (get_or_append_left old.figures grown.0.0 no_figures place h)
 reply_of-grown old new (reply.At place) grown h =
     ap (λ (rs : List Reply). get_or rs place Answer.Done) grown.1.1

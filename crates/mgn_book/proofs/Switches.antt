@@ -6,7 +6,7 @@ use Rattle.mgn_params.specs.Tables.{Tables, no_tables}
 use Rattle.mgn_machine.specs.declared.origin.Origin.{Origin}
 use Rattle.mgn_machine.specs.declared.reply.Refusal.{Refusal}
 use Rattle.mgn_machine.specs.declared.reply.Reply.{Reply}
-use Rattle.mgn_machine.specs.declared.reply.Reply.TheVariants.{NewSet, Refused as Not}
+use Rattle.mgn_machine.specs.declared.reply.Reply.TheVariants.{NewSet}
 use Rattle.mgn_machine.specs.declared.request.Request.TheVariants.{Switch}
 use Rattle.mgn_machine.specs.NewSet.{covers, on_call, set_fits}
 use Rattle.mgn_machine.specs.Step.{switched}
@@ -20,7 +20,7 @@ use Rattle.mgn_register.specs.BookStates.{BookState, IsKept, IsUnitRow, book_sta
 use Rattle.mgn_register.specs.UnderSets.{AreNewRows}
 use Rattle.mgn_book.specs.Switches.{IsSwitched}
 use Rattle.mgn_register.proofs.Switches.{on_call-counted}
-use Rattle.mgn_register.specs.declared.fault.Fault.{Fault}
+use Rattle.mgn_register.specs.declared.step_fault.StepFault.{StepFault}
 
 -- the set of the version after those that there are
 pub last-set : (sets : List Tables) (t : Tables) (version : ℕ) → length sets ≡ version → set_at (sets ++ t ∷ []) version ≡ t
@@ -64,7 +64,7 @@ switched-in_force sets t f rows shown kept fits covered long are =
     told units same = λ i. (record { origins = f.state.origins; accounts = f.state.accounts; units = units i; closed = f.state.closed; version = f.state.version + 1 }, NewSet record { version = f.state.version + 1; on_call = same i })
 
 -- where the set was put and the rows became those under it
-pub switched-entered : (sets now : List Tables) (t : Tables) (f new : BookState) (rows : NewRows) (result : Result Reply Fault) → length sets ≡ f.state.version + 1 → IsKept (set_at sets f.state.version) f → set_fits t f.state ≡ Ok tt
+pub switched-entered : (sets now : List Tables) (t : Tables) (f new : BookState) (rows : NewRows) (result : Result Reply StepFault) → length sets ≡ f.state.version + 1 → IsKept (set_at sets f.state.version) f → set_fits t f.state ≡ Ok tt
     → covers t f.state.accounts ≡ true → AreNewRows t f rows → OnOk result (AreAfter rows f.rows new.rows) → OnOk result (now ≡ sets ++ t ∷ [])
     → OnOk result (new ≡ book_state f.state.origins f.state.accounts new.rows f.state.closed (f.state.version + 1)) → IfOk result (λ reply. reply ≡ NewSet record { version = f.state.version + 1; on_call = length (filter row_on_call new.rows) })
     → IfOk result (λ reply. IsSwitched sets now f new t reply)

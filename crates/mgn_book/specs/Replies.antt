@@ -2,7 +2,7 @@
 -- others in another.
 use Rattle.std.specs.Prelude.{◌≡◌, ℕ, pos, ◌+◌, ◌++◌, ◌<◌, ◌≤◌, Bool, List, length, slice_index_or, FitsSigned}
 use Rattle.std.specs.Int.{w64}
-use Rattle.mgn_machine.specs.declared.reply.Figures.{Figures}
+use Rattle.mgn_machine.specs.declared.reply.UnitFigures.{UnitFigures}
 use Rattle.mgn_machine.specs.declared.reply.Reply.{Reply}
 use Rattle.mgn_machine.specs.declared.reply.Reply.TheVariants as reply
 use Rattle.mgn_book.specs.declared.replies.StoredReply.{StoredReply}
@@ -14,12 +14,12 @@ Grows {X = X} old new = (more : List X) × (new ≡ old ++ more)
 
 -- what contracts see of the replies: whether there is room for one more in each list, too
 pub record ReplyLists : Type 0 where
-  pub figures : List Figures
+  pub figures : List UnitFigures
   pub others : List Reply
   pub has_room : Bool
 
 -- stand for the figures past the end of a list, which no one asks for
-abbrev pub no_figures : Figures
+abbrev pub no_figures : UnitFigures
 no_figures = record { requirement = pos 0; exposure_requirement = pos 0; value = pos 0; exposure_value = pos 0; room = pos 0 }
 
 -- the reply that is stored
@@ -50,7 +50,7 @@ AddsFewReplies old new =
     (length new.figures ≤ length old.figures + 1) × (length new.others ≤ length old.others + 1)
 
 -- 64 bits hold each of the amounts
-abbrev pub AreNarrow : Figures → Type 0
+abbrev pub AreNarrow : UnitFigures → Type 0
 AreNarrow f =
     FitsSigned w64 f.requirement × (FitsSigned w64 f.exposure_requirement
     × (FitsSigned w64 f.value × (FitsSigned w64 f.exposure_value × FitsSigned w64 f.room)))

@@ -12,13 +12,13 @@ ghost use Rattle.mgn_plan.specs.Plans.{Foresees, IsIdle, IsPossible, plan_of};
 ghost use Rattle.mgn_book.specs.BookViews.{Committed, Leaves, LeavesRows, Shelves, Stands, command_at, opening, reply_at, session_at};
 
 use crate::history::History;
-use crate::in_force::{Call, switch_set};
+use crate::in_force::{SwitchCall, switch_set};
 use crate::names::Likely;
 use mgn_ids::{AccountName, SessionNo};
 use mgn_machine::{Command, Reply, Statement};
 use mgn_params::{ParamSet, Shelf, Version, Work};
 use mgn_plan::{Known, Plan};
-use mgn_register::{Fault, Register, step};
+use mgn_register::{Register, StepFault, step};
 use mgn_unit::{PreparedUnits, Row};
 use std::alloc::{AllocError, Global};
 use std::marker::Model;
@@ -238,8 +238,8 @@ impl Book {
         };
         let reply = match step(&mut self.register, alloc, set, command, plan, known, work) {
             Ok(reply) => reply,
-            Err(Fault::Memory) => return Outcome::Memory,
-            Err(Fault::Refused(_)) => unreachable!(),
+            Err(StepFault::Memory) => return Outcome::Memory,
+            Err(StepFault::Refused(_)) => unreachable!(),
         };
         let Ok(kept) = reply.copy() else {
             return Outcome::Memory;
@@ -309,7 +309,7 @@ impl Book {
             alloc,
             &mut self.register,
             &mut self.history,
-            Call { session, number },
+            SwitchCall { session, number },
             set,
             shelf,
             prepared,
@@ -317,8 +317,8 @@ impl Book {
         );
         let reply = match switched {
             Ok(reply) => reply,
-            Err(Fault::Memory) => return Outcome::Memory,
-            Err(Fault::Refused(_)) => unreachable!(),
+            Err(StepFault::Memory) => return Outcome::Memory,
+            Err(StepFault::Refused(_)) => unreachable!(),
         };
         let own = count_place(session);
         self.counts[own] = number;

@@ -15,13 +15,13 @@ use crate::history::History;
 use mgn_ids::SessionNo;
 use mgn_machine::{NewSet, Refusal, Reply};
 use mgn_params::{ParamSet, PutFault, Shelf, Work};
-use mgn_register::{Fault, Register};
+use mgn_register::{Register, StepFault};
 use mgn_unit::{NewRows, PreparedUnits, Row};
 use std::alloc::Global;
 
 /// A call that asks for a switch: its session, and its number among the calls of that session.
 #[derive(Clone, Copy)]
-pub(crate) struct Call {
+pub(crate) struct SwitchCall {
     pub session: SessionNo,
     pub number: u64,
 }
@@ -30,12 +30,12 @@ pub(crate) struct Call {
 fn enter_set<S: Shelf>(
     register: &mut Register,
     history: &mut History,
-    call: Call,
+    call: SwitchCall,
     set: ParamSet,
     rows: NewRows,
     spent: &mut Vec<Row>,
     shelf: &mut S,
-) -> Result<Reply, Fault>
+) -> Result<Reply, StepFault>
     requires reserved { history.old.reserved ≡ true }
     requires few_entries { length history.old.entries < 1000000 }
     requires number { call.number ≤ 1000000 }
@@ -56,14 +56,14 @@ fn enter_set<S: Shelf>(
         let old = register.old.state in
         register.new ≡ book_state old.origins old.accounts register.new.rows old.closed (old.version + 1)) }
     ensures rows { OnOk result (AreAfter rows register.old.rows register.new.rows) }
-    ensures fault { IfErr result (λ fault. fault ≡ Fault.Memory) }
+    ensures fault { IfErr result (λ fault. fault ≡ StepFault.Memory) }
     ensures same_register { OnErr result (register.new ≡ register.old) }
     ensures same_history { OnErr result (history.new.entries ≡ history.old.entries) }
     ensures same_sets { OnErr result (S.sets shelf.new ≡ S.sets shelf.old) }
 {
     let version = match shelf.put(set) {
         Ok(version) => version,
-        Err((PutFault::Memory, _)) => return Err(Fault::Memory),
+        Err((PutFault::Memory, _)) => return Err(StepFault::Memory),
         Err((PutFault::Sets, _)) => unreachable!(),
     };
     let told = NewSet {
@@ -77,17 +77,17 @@ fn enter_set<S: Shelf>(
 // Keeps a set that may not come into force.
 fn refuse_set(
     history: &mut History,
-    call: Call,
+    call: SwitchCall,
     set: ParamSet,
     why: Refusal,
-) -> Result<Reply, Fault>
+) -> Result<Reply, StepFault>
     requires reserved { history.old.reserved ≡ true }
     requires few_entries { length history.old.entries < 1000000 }
     requires number { call.number ≤ 1000000 }
     ensures reply { IfOk result (λ reply. reply ≡ Reply.Refused why) }
     ensures entry { IfOk result (λ reply.
         history.new.entries ≡ history.old.entries ++ entry call.session call.number (SetRefused set) reply ∷ []) }
-    ensures fault { IfErr result (λ fault. fault ≡ Fault.Memory) }
+    ensures fault { IfErr result (λ fault. fault ≡ StepFault.Memory) }
     ensures same_history { OnErr result (history.new.entries ≡ history.old.entries) }
 {
     history.push_refused(call.session, call.number, set, why)?;
@@ -100,12 +100,12 @@ pub(crate) fn switch_set<S: Shelf>(
     alloc: Global,
     register: &mut Register,
     history: &mut History,
-    call: Call,
+    call: SwitchCall,
     set: ParamSet,
     shelf: &mut S,
     prepared: &mut PreparedUnits,
     work: &mut Work,
-) -> Result<Reply, Fault>
+) -> Result<Reply, StepFault>
     requires reserved { history.old.reserved ≡ true }
     requires few_entries { length history.old.entries < 1000000 }
     requires number { call.number ≤ 1000000 }
@@ -120,7 +120,7 @@ pub(crate) fn switch_set<S: Shelf>(
     ensures entry { IfOk result (λ reply.
         let request = recorded (Switch set) reply in
         history.new.entries ≡ history.old.entries ++ entry call.session call.number request reply ∷ []) }
-    ensures fault { IfErr result (λ fault. fault ≡ Fault.Memory) }
+    ensures fault { IfErr result (λ fault. fault ≡ StepFault.Memory) }
     ensures same_register { OnErr result (register.new ≡ register.old) }
     ensures same_history { OnErr result (history.new.entries ≡ history.old.entries) }
     ensures same_sets { OnErr result (S.sets shelf.new ≡ S.sets shelf.old) }
@@ -140,7 +140,7 @@ pub(crate) fn switch_set<S: Shelf>(
             &mut prepared.spent,
             shelf,
         ),
-        Err(Fault::Refused(why)) => refuse_set(history, call, set, why),
-        Err(Fault::Memory) => Err(Fault::Memory),
+        Err(StepFault::Refused(why)) => refuse_set(history, call, set, why),
+        Err(StepFault::Memory) => Err(StepFault::Memory),
     }
 }

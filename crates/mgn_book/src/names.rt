@@ -4,11 +4,9 @@ ghost use Rattle.mgn_book.specs.Replies.{Grows};
 
 use indexmap::IndexSet;
 use mgn_ids::{AccountName, ClassName, ContractName};
+use mgn_params::MOST_CONTRACTS;
 use std::alloc::{AllocError, Global};
 use std::marker::Model;
-
-// How many contracts a set has at most.
-const MOST_CONTRACTS: usize = 4096;
 
 /// Where the names of a command may be found without a hash. Nothing rests on it.
 #[derive(Clone, Copy)]

@@ -6,7 +6,7 @@ ghost use Rattle.mgn_machine.specs.Brief.{is_brief};
 ghost use Rattle.mgn_book.specs.Replies.{AddsFewReplies, AreNarrow, IsKept, KeepsReplies, TakesLittle, reply_of};
 
 use crate::numbers::ThreeBytes;
-use mgn_machine::{Figures, Refusal, Reply};
+use mgn_machine::{Refusal, Reply, UnitFigures};
 use mgn_num::Cents;
 use std::alloc::{AllocError, Global};
 use std::marker::Model;
@@ -22,9 +22,9 @@ pub(crate) struct NarrowFigures {
 }
 
 impl Model for NarrowFigures {
-    ghost use Rattle.mgn_machine.specs.declared.reply.Figures.{Figures};
+    ghost use Rattle.mgn_machine.specs.declared.reply.UnitFigures.{UnitFigures};
 
-    ghost Value = { Figures };
+    ghost Value = { UnitFigures };
 
     ghost view = { λ n. record {
       requirement = n.requirement;
@@ -52,7 +52,7 @@ fn narrowed(amount: Cents) -> Option<i64>
 
 impl NarrowFigures {
     /// The figures, none where one does not fit.
-    fn of(figures: &Figures) -> Option<NarrowFigures>
+    fn of(figures: &UnitFigures) -> Option<NarrowFigures>
         ensures same { IfSome result (λ narrow. narrow ≡ figures.now) }
         ensures fits { AreNarrow figures.now → IsSome result }
     {
@@ -65,10 +65,10 @@ impl NarrowFigures {
         })
     }
 
-    fn figures(&self) -> Figures
+    fn figures(&self) -> UnitFigures
         ensures { result ≡ self.now }
     {
-        Figures {
+        UnitFigures {
             requirement: Cents::new(i128::from(self.requirement)),
             exposure_requirement: Cents::new(i128::from(self.exposure_requirement)),
             value: Cents::new(i128::from(self.value)),
@@ -150,7 +150,7 @@ impl Replies {
         }
     }
 
-    fn store_figures(&mut self, figures: &Figures) -> StoredReply
+    fn store_figures(&mut self, figures: &UnitFigures) -> StoredReply
         requires room { self.old.has_room ≡ true }
         requires few_figures { length self.old.figures ≤ 1000000 }
         requires few_others { length self.old.others ≤ 1000000 }

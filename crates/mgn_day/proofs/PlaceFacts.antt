@@ -1,8 +1,8 @@
 -- The places since which units have their nets, with one entry more: for `renew` and for entries.
-use Rattle.std.proofs.Common.{◌≡◌, ◌<◌, ◌≤◌, ◌+◌, ◌-◌, ◌∙◌, ◌⊎◌, inl, inr, ℕ, Bool, true, false, List, [], ◌∷◌, ◌++◌, length, sym, ap, subst, refl, arith, length-append, ⊎_elim, true≢false, ◌≢◌, get_or, set, ne_eqb}
+use Rattle.std.proofs.Common.{◌≡◌, ◌<◌, ◌≤◌, ◌+◌, ◌-◌, ◌∙◌, ◌⊎◌, inl, inr, ℕ, Bool, true, false, List, [], ◌∷◌, ◌++◌, length, sym, ap, subst, refl, arith, length-append, ⊎_elim, true≢false, ◌≢◌}
 use Rattle.std.specs.Prelude.{◌==◌, ◌||◌, slice_index_or}
-use Rattle.std.proofs.lemmas.Bool.{cases_eq, cases_lt}
-use Rattle.std.proofs.lemmas.List.{get_or_append_left, get_or_push, get_or-set_other, get_or-set_same, length-set}
+use Rattle.std.proofs.lemmas.Bool.{cases_lt}
+use Rattle.std.proofs.lemmas.List.{get_or_append_left, get_or_push}
 use Rattle.mgn_params.specs.Tables.{Tables}
 use Rattle.mgn_nets.specs.Portfolios.{UnitNets}
 use Rattle.mgn_machine.specs.declared.reply.Reply.{Reply}
@@ -11,7 +11,6 @@ use Rattle.mgn_unit.specs.declared.row.Row.{Row}
 use Rattle.mgn_unit.specs.Rows.{nets_in}
 use Rattle.mgn_plan.specs.declared.plans.Plan.{Plan}
 use Rattle.mgn_plan.specs.declared.plans.Plan.TheVariants.{Nothing, One, Two}
-use Rattle.mgn_plan.specs.declared.plans.UnitChange.{UnitChange}
 use Rattle.mgn_plan.specs.Plans.{IsPossible, LeavesNets, planned_nets, row_at}
 use Rattle.mgn_pricing.specs.Desks.{is_planned}
 use Rattle.mgn_day.specs.Changes.{AreNoted, AreRenewed, AreThere, AreUnchangedSince, IsUnchangedSince, Leads, SameUnit, settled}

@@ -150,6 +150,9 @@ impl UnitNo {
     }
 }
 
+/// How many sessions a day has at most.
+pub const MOST_SESSIONS: u8 = 16;
+
 /// The number of a session, 1 to 16. Contracts see the number.
 #[derive(Clone, Copy, PartialEq, Eq, PartialOrd, Ord, Hash, Debug)]
 pub struct SessionNo {

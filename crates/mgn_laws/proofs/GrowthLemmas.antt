@@ -5,22 +5,22 @@ use Rattle.std.specs.Str.{bytes_eq}
 use Rattle.mgn_laws.specs.Growth.{AddsRow, class, commodity, contract, credit_spread, month, spot, spread}
 use Rattle.mgn_setfile.specs.declared.fault.Cause.TheVariants.{Fields as WrongFields, Header}
 use Rattle.mgn_setfile.specs.declared.place.Field.TheVariants as field
-use Rattle.mgn_setfile.specs.Fields.{◌>>=◌, Fault, Fields, at, whole}
+use Rattle.mgn_setfile.specs.Fields.{◌>>=◌, Fields, Flaw, at, whole}
 use Rattle.mgn_setfile.specs.File.{SoFar, drafted, judged, later_of, with_class, with_commodity, with_contract, with_credit_spread, with_month, with_other, with_record, with_spot, with_spot_of, with_spread}
 use Rattle.mgn_setfile.specs.Records.{class_of, commodity_of, contract_of, credit_of, month_of, spot_charge_of_record, spread_of}
 use Rattle.mgn_params.specs.Tables.{Tables}
 
 -- what a row that was read gives
-row_of : {A B : Type 0} (r : Result A Fault) (f : A → B) (y : B) → (r >>= λ x. Ok (f x)) ≡ Ok y → (x : A) × (y ≡ f x)
+row_of : {A B : Type 0} (r : Result A Flaw) (f : A → B) (y : B) → (r >>= λ x. Ok (f x)) ≡ Ok y → (x : A) × (y ≡ f x)
 row_of (Ok x) f y e = (x, cc)
 row_of (Err c) f y e = cc
 
 -- whichever way it came
-chosen : {B G : Type 0} (b : Bool) (r s : Result B Fault) (y : B) → (r ≡ Ok y → G) → (s ≡ Ok y → G) → (if b then r else s) ≡ Ok y → G
+chosen : {B G : Type 0} (b : Bool) (r s : Result B Flaw) (y : B) → (r ≡ Ok y → G) → (s ≡ Ok y → G) → (if b then r else s) ≡ Ok y → G
 chosen true r s y p q e = p e
 chosen false r s y p q e = q e
 
-no_way : {B : Type 0} (c : Fault) (y : B) {G : Type 0} → Err c ≡ Ok y → G
+no_way : {B : Type 0} (c : Flaw) (y : B) {G : Type 0} → Err c ≡ Ok y → G
 no_way c y e = cc
 
 spot_row : (version : ℕ) (t after : Tables) (fields : Fields) → with_spot_of version t fields ≡ Ok after → AddsRow t after
@@ -59,7 +59,7 @@ unfolding later_of
 later_row version t after [] e = no_way (whole WrongFields) after e
 later_row version t after (kind ∷ fields) e = record_row version t after kind fields e
 
-drafted_set : (version : ℕ) (r : Result Tables Fault) (after : SoFar) → drafted version r ≡ Ok after → r ≡ Ok after.set
+drafted_set : (version : ℕ) (r : Result Tables Flaw) (after : SoFar) → drafted version r ≡ Ok after → r ≡ Ok after.set
 drafted_set version (Ok t) after e = cc
 drafted_set version (Err c) after e = cc
 

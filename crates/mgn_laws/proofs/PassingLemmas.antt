@@ -6,13 +6,13 @@ use Rattle.std.specs.Result.{result_ok}
 use Rattle.std.proofs.lemmas.Bool.{cases_order}
 use Rattle.mgn_laws.specs.Passing.{IsAccepted, IsFault, IsRefusedAt, given, given_by, record_at}
 use Rattle.mgn_setfile.specs.declared.fault.Cause.TheVariants.{Header}
-use Rattle.mgn_setfile.specs.Fields.{Fault, whole}
+use Rattle.mgn_setfile.specs.Fields.{Flaw, whole}
 use Rattle.mgn_setfile.specs.File.{Record, SoFar, goes_on, judged, outcome, told}
 use Rattle.mgn_params.specs.Tables.{Tables}
 
 -- the same from what earlier records gave on
 
-abbrev judgement_at : Option SoFar → List Record → ℕ → Result SoFar Fault
+abbrev judgement_at : Option SoFar → List Record → ℕ → Result SoFar Flaw
 judgement_at before rs k = judged (fold given before (take k rs)) (record_at rs k)
 
 -- a first record that passes: the later ones go on from what it gave
@@ -20,17 +20,17 @@ later : (before : Option SoFar) (r : Record) (rs : List Record) (draft : SoFar) 
 later before r rs draft k e = ap (λ (now : Option SoFar). judged (fold given now (take k rs)) (record_at rs k)) (ap result_ok e)
 
 goes : (before : Option SoFar) (r : Record) (rs : List Record) (count : ℕ) (draft : SoFar) → judged before r ≡ Ok draft → told (r ∷ rs) count before ≡ told rs (count + 1) (Some draft)
-goes before r rs count draft e = ap (λ (d : Result SoFar Fault). goes_on d (λ k. told rs (count + 1) (Some k)) (count + 1)) e
+goes before r rs count draft e = ap (λ (d : Result SoFar Flaw). goes_on d (λ k. told rs (count + 1) (Some k)) (count + 1)) e
 
-halts : (before : Option SoFar) (r : Record) (rs : List Record) (count : ℕ) (fault : Fault) → judged before r ≡ Err fault → told (r ∷ rs) count before ≡ Err (count + 1, fault)
-halts before r rs count fault e = ap (λ (d : Result SoFar Fault). goes_on d (λ k. told rs (count + 1) (Some k)) (count + 1)) e
+halts : (before : Option SoFar) (r : Record) (rs : List Record) (count : ℕ) (fault : Flaw) → judged before r ≡ Err fault → told (r ∷ rs) count before ≡ Err (count + 1, fault)
+halts before r rs count fault e = ap (λ (d : Result SoFar Flaw). goes_on d (λ k. told rs (count + 1) (Some k)) (count + 1)) e
 
 -- how a list of records ends: all pass, or the first fault
 
 data Ends (before : Option SoFar) (rs : List Record) (count : ℕ) : Type 0 where
   none : length rs ≡ 0 → before ≡ None → told rs count before ≡ Err (1, whole Header) → Ends before rs count
   all : (draft : SoFar) → ((k : ℕ) → k < length rs → IsOk (judgement_at before rs k)) → fold given before rs ≡ Some draft → told rs count before ≡ Ok draft.set → Ends before rs count
-  first : (k : ℕ) (fault : Fault) → k < length rs → ((j : ℕ) → j < k → IsOk (judgement_at before rs j)) → judgement_at before rs k ≡ Err fault → told rs count before ≡ Err (count + k + 1, fault) → Ends before rs count
+  first : (k : ℕ) (fault : Flaw) → k < length rs → ((j : ℕ) → j < k → IsOk (judgement_at before rs j)) → judgement_at before rs k ≡ Err fault → told rs count before ≡ Err (count + k + 1, fault) → Ends before rs count
 
 is_err : {A B : Type 0} (r : Result A B) (e : B) → r ≡ Err e → IsOk r → ⊥
 is_err (Ok x) e q h = cc
@@ -56,7 +56,7 @@ passes_first before r rs count draft e (first k fault there earlier refused end)
     let place : count + 1 + k + 1 ≡ count + suc k + 1 = omega arith in
     first (suc k) fault (omega arith) (earlier_ones before r rs draft k e earlier) (later before r rs draft k e ∙ refused) (goes before r rs count draft e ∙ end ∙ ap (λ (n : ℕ). Err (n, fault)) place)
 
-ends_after : (before : Option SoFar) (r : Record) (rs : List Record) (count : ℕ) (judgement : Result SoFar Fault) → judged before r ≡ judgement → ((draft : SoFar) → Ends (Some draft) rs (count + 1)) → Ends before (r ∷ rs) count
+ends_after : (before : Option SoFar) (r : Record) (rs : List Record) (count : ℕ) (judgement : Result SoFar Flaw) → judged before r ≡ judgement → ((draft : SoFar) → Ends (Some draft) rs (count + 1)) → Ends before (r ∷ rs) count
 ends_after before r rs count (Ok draft) e rest = passes_first before r rs count draft e (rest draft)
 ends_after before r rs count (Err fault) e rest =
     first 0 fault (omega arith) (λ j h. absurd (omega arith)) e (halts before r rs count fault e ∙ ap (λ (n : ℕ). Err (n, fault)) (omega arith))
@@ -106,33 +106,33 @@ set_given rs = set_along rs (ends None rs 0)
 
 -- the fault of a list that is not accepted
 
-same_fault : (o : Result Tables (ℕ × Fault)) (m n : ℕ) (a b : Fault) → o ≡ Err (m, a) → o ≡ Err (n, b) → (m ≡ n) × (a ≡ b)
+same_fault : (o : Result Tables (ℕ × Flaw)) (m n : ℕ) (a b : Flaw) → o ≡ Err (m, a) → o ≡ Err (n, b) → (m ≡ n) × (a ≡ b)
 same_fault o m n a b e f =
-    let one : ℕ × Fault = (m, a) in
-    let other : ℕ × Fault = (n, b) in
+    let one : ℕ × Flaw = (m, a) in
+    let other : ℕ × Flaw = (n, b) in
     let same : one ≡ other = cc in
-    (ap (λ (p : ℕ × Fault). p.0) same, ap (λ (p : ℕ × Fault). p.1) same)
+    (ap (λ (p : ℕ × Flaw). p.0) same, ap (λ (p : ℕ × Flaw). p.1) same)
 
-one_fault : {A : Type 0} (r : Result A Fault) (a b : Fault) → r ≡ Err a → r ≡ Err b → a ≡ b
+one_fault : {A : Type 0} (r : Result A Flaw) (a b : Flaw) → r ≡ Err a → r ≡ Err b → a ≡ b
 one_fault r a b e f = cc
 
-fault_from : (rs : List Record) (n : ℕ) (c : Fault) → Whole rs → told rs 0 None ≡ Err (n, c) → IsFault rs n c
+fault_from : (rs : List Record) (n : ℕ) (c : Flaw) → Whole rs → told rs 0 None ≡ Err (n, c) → IsFault rs n c
 fault_from rs n c (none empty missing end) e =
     let same = same_fault (told rs 0 None) n 1 c (whole Header) e end in
     inl (empty, same.0, same.1)
 fault_from rs n c (all draft each gave end) e = absurd (is_err (told rs 0 None) (n, c) e (ap is_ok end))
 fault_from rs n c (first k fault there earlier refused end) e =
     let same = same_fault (told rs 0 None) n (0 + k + 1) c fault e end in
-    inr (k, omega (arith, same.0), record { there = there; earlier = earlier; refused = refused ∙ ap (λ (x : Fault). Err x) (sym same.1) })
+    inr (k, omega (arith, same.0), record { there = there; earlier = earlier; refused = refused ∙ ap (λ (x : Flaw). Err x) (sym same.1) })
 
 -- there is one first fault alone
-one_place : (rs : List Record) (j k : ℕ) (a b : Fault) → IsRefusedAt rs j a → IsRefusedAt rs k b → j ≡ k
+one_place : (rs : List Record) (j k : ℕ) (a b : Flaw) → IsRefusedAt rs j a → IsRefusedAt rs k b → j ≡ k
 one_place rs j k a b one two =
     ⊎_elim (λ same. same)
     (⊎_elim (λ (less : j < k). absurd (is_err (judgement_at None rs j) a one.refused (two.earlier j less))) (λ (more : k < j). absurd (is_err (judgement_at None rs k) b two.refused (one.earlier k more))))
     (cases_order j k)
 
-fault_to : (rs : List Record) (n : ℕ) (c : Fault) → Whole rs → IsFault rs n c → told rs 0 None ≡ Err (n, c)
+fault_to : (rs : List Record) (n : ℕ) (c : Flaw) → Whole rs → IsFault rs n c → told rs 0 None ≡ Err (n, c)
 fault_to rs n c (none empty missing end) (inl is) = end ∙ rw (is.1, is.2) refl
 fault_to rs n c (none empty missing end) (inr is) = let there = is.2.there in absurd (omega arith)
 fault_to rs n c (all draft each gave end) (inl is) = absurd (no_record rs draft is.0 gave)
@@ -144,6 +144,6 @@ fault_to rs n c (first k fault there earlier refused end) (inr is) =
     let own : fault ≡ c = one_fault (judgement_at None rs k) fault c refused (ap (judgement_at None rs) (sym same) ∙ is.2.refused) in
     end ∙ rw (number, own) refl
 
-pub fault_is : (rs : List Record) (n : ℕ) (c : Fault) → (outcome rs ≡ Err (n, c)) ↔ IsFault rs n c
+pub fault_is : (rs : List Record) (n : ℕ) (c : Flaw) → (outcome rs ≡ Err (n, c)) ↔ IsFault rs n c
 unfolding outcome
 fault_is rs n c = (fault_from rs n c (ends None rs 0), fault_to rs n c (ends None rs 0))

@@ -3,7 +3,7 @@ use Rattle.std.specs.Prelude.{◌≡◌, ◌⊎◌, ℕ, ◌+◌, ◌<◌, List,
 use Rattle.std.specs.List.{fold}
 use Rattle.std.specs.Result.{result_ok}
 use Rattle.mgn_setfile.specs.declared.fault.Cause.TheVariants.{Header}
-use Rattle.mgn_setfile.specs.Fields.{Fault, whole}
+use Rattle.mgn_setfile.specs.Fields.{Flaw, whole}
 use Rattle.mgn_setfile.specs.File.{Record, SoFar, judged}
 
 -- the record at a place, from 0
@@ -27,12 +27,12 @@ pub record IsAccepted (records : List Record) : Type 0 where
   pub each : (k : ℕ) → k < length records → Passes records k
 
 -- the record at a place is the first that does not pass, with its first fault
-pub record IsRefusedAt (records : List Record) (k : ℕ) (fault : Fault) : Type 0 where
+pub record IsRefusedAt (records : List Record) (k : ℕ) (fault : Flaw) : Type 0 where
   pub there : k < length records
   pub earlier : (j : ℕ) → j < k → Passes records j
   pub refused : judged (given_by (take k records)) (record_at records k) ≡ Err fault
 
 -- the number of that record, from 1, with its fault; or there is no record
-abbrev pub IsFault : List Record → ℕ → Fault → Type 0
+abbrev pub IsFault : List Record → ℕ → Flaw → Type 0
 IsFault records number fault =
     ((length records ≡ 0) × (number ≡ 1) × (fault ≡ whole Header)) ⊎ ((k : ℕ) × (number ≡ k + 1) × IsRefusedAt records k fault)

@@ -3,7 +3,7 @@
 ghost use Rattle.std.specs.Prelude.{◌≡◌, ◌↔◌, ℕ, option_map, Some, Ok, Err, IfOk, IsOk};
 ghost use Rattle.mgn_laws.specs.Growth.{AddsRow};
 ghost use Rattle.mgn_laws.specs.Passing.{IsAccepted, IsFault, given_by};
-ghost use Rattle.mgn_setfile.specs.Fields.{Fault, Fields};
+ghost use Rattle.mgn_setfile.specs.Fields.{Fields, Flaw};
 ghost use Rattle.mgn_setfile.specs.File.{SoFar, judged, outcome, records_of};
 
 /// A file is accepted exactly where it has a record and each record passes its tests against the records before it.
@@ -19,7 +19,7 @@ pub fn sets_what_records_give(text: &[u8])
 /// A file is refused with the number of its first record that does not pass, from 1, and that record's first fault;
 /// a file without a record with 1 and `Header`.
 pub fn refuses_first_faulty_record(text: &[u8])
-    ensures { (number : ℕ) → (fault : Fault)
+    ensures { (number : ℕ) → (fault : Flaw)
         → (outcome (records_of text.now) ≡ Err (number, fault)) ↔ IsFault (records_of text.now) number fault }
 {}
 

@@ -19,22 +19,17 @@ use crate::image::Image;
 use crate::pass::Pass;
 use mgn_book::{Book, Outcome};
 use mgn_day::places::{renew, settled, switch};
-use mgn_ids::{AccountName, SessionNo};
+use mgn_ids::{AccountName, MOST_SESSIONS, SessionNo};
 use mgn_machine::{Answer, Command, Refusal, Reply};
 use mgn_params::{ParamSet, Shelf, Version, Work};
 use mgn_plan::{Known, Plan};
+use mgn_register::MOST_UNITS;
 use mgn_slots::{SlotNames, Slots, Stamp, Stamps};
 use mgn_table::{SetTable, TableName, TableShelf, Tokens};
 use mgn_unit::{PreparedUnits, Row};
 use std::alloc::{AllocError, Global};
 use std::marker::Model;
 use std::sync::Wait;
-
-/// How many margin units a book has at most.
-const MOST_ROWS: usize = 1024;
-
-/// How many sessions a service has at most.
-const MOST_SESSIONS: u8 = 16;
 
 /// What lies under the lock: the book, the tokens of its sets, and for each entry what shows the day up to it.
 /// Contracts see the sets and the book.
@@ -86,7 +81,7 @@ impl<'a, T: Image, J: TableName + SlotNames> Ledger<'a, T, J> {
         ensures { IfOk result (λ ledger. ledger.book ≡ opening) }
     {
         let stamps = Stamps::new(alloc, slots)?;
-        let places = Vec::with_capacity(alloc, MOST_ROWS)?;
+        let places = Vec::with_capacity(alloc, MOST_UNITS)?;
         let mut tokens = Tokens::open(rt, alloc, table, first)?;
         let book = open(alloc, &TableShelf::new(rt, table, &mut tokens));
         Ok(Ledger {

@@ -2,7 +2,7 @@
 use Rattle.std.specs.Prelude.{ℕ, ℤ, List}
 use Rattle.mgn_holds.specs.declared.held.Held.{Held}
 use Rattle.mgn_holds.specs.Holds.{held_net, premium}
-use Rattle.mgn_machine.specs.State.{State, AccountState}
+use Rattle.mgn_machine.specs.State.{State}
 use Rattle.mgn_machine.specs.Portfolios.{Portfolio, over_sides, account_size, unit_sum}
 
 -- what the holds of a portfolio hold of a contract

@@ -2,7 +2,7 @@
 use Rattle.std.specs.Prelude.{ℕ, ℤ, ◌-ℤ◌, int_lt, if◌then◌else◌, List}
 use Rattle.mgn_params.specs.Tables.{Tables}
 use Rattle.mgn_span.specs.Requirement.{requirement}
-use Rattle.mgn_machine.specs.declared.reply.Figures.{Figures}
+use Rattle.mgn_machine.specs.declared.reply.UnitFigures.{UnitFigures}
 use Rattle.mgn_machine.specs.Portfolios.{Portfolio, OnlyLots, WithBuys, WithSales, WithAll, unit_sum, account_worth, nets_of}
 use Rattle.mgn_machine.specs.State.{AccountState}
 
@@ -35,7 +35,7 @@ abbrev pub unit_room : Tables → List AccountState → ℕ → ℤ
 unit_room set accounts u = room_of set accounts u (least_of set accounts u)
 
 -- the figures of a unit
-abbrev pub figures_of : Tables → List AccountState → ℕ → Figures
+abbrev pub figures_of : Tables → List AccountState → ℕ → UnitFigures
 figures_of set accounts u = record {
   requirement = requirement_of set accounts u OnlyLots;
   exposure_requirement = requirement_of set accounts u (least_of set accounts u);

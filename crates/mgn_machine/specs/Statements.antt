@@ -1,5 +1,5 @@
 -- What the statement of an account tells, by which its requirement can be worked out again (own profile).
-use Rattle.std.specs.Prelude.{ℕ, ◌+◌, Bool, ◌==◌, ◌&&◌, not, nat_lt, pos, unsigned_abs, Option, None, Some, List, [], length, map, filter, slice_index_or}
+use Rattle.std.specs.Prelude.{ℕ, ◌+◌, Bool, ◌==◌, ◌&&◌, nat_lt, pos, unsigned_abs, Option, None, Some, List, [], length, map, filter, slice_index_or}
 use Rattle.std.specs.List.{list_any, range_with_len}
 use Rattle.mgn_params.specs.declared.tables.Class.{Class}
 use Rattle.mgn_params.specs.Tables.{Tables, commodity_at}
@@ -7,7 +7,7 @@ use Rattle.mgn_span.specs.Options.{net_option_value}
 use Rattle.mgn_span.specs.Positions.{Position, positions}
 use Rattle.mgn_span.specs.Requirement.{credit, intra_charge, minimum, risk, scan_of, spot_charge}
 use Rattle.mgn_span.specs.Scan.{active, scenario_total}
-use Rattle.mgn_coll.specs.Posted.{Posted, class_value, units_of}
+use Rattle.mgn_coll.specs.Posted.{class_value, units_of}
 use Rattle.mgn_lots.specs.declared.lot.Lot.{Lot}
 use Rattle.mgn_lots.specs.Lots.{is_live}
 use Rattle.mgn_holds.specs.declared.held.Held.{Held}
@@ -17,7 +17,7 @@ use Rattle.mgn_machine.specs.declared.origin.Origin.{Origin}
 use Rattle.mgn_machine.specs.declared.statement.ClassLine.{ClassLine}
 use Rattle.mgn_machine.specs.declared.statement.CommodityLine.{CommodityLine}
 use Rattle.mgn_machine.specs.declared.statement.Heading.{Heading}
-use Rattle.mgn_machine.specs.State.{State, AccountState, account_at}
+use Rattle.mgn_machine.specs.State.{State, AccountState}
 use Rattle.mgn_machine.specs.Portfolios.{OnlyLots, nets_of}
 use Rattle.mgn_machine.specs.Room.{figures_of}
 use Rattle.mgn_machine.specs.Totals.{shortfall}

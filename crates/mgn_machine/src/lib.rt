@@ -14,6 +14,6 @@ pub use command::{Command, Fill, Hold, Mode, Trade, Transfer};
 pub use commodity_lines::CommodityLines;
 pub use entry::{Entry, Item};
 pub use origin::Origin;
-pub use reply::{Answer, Figures, NewSet, Refusal, Reply, Totals};
+pub use reply::{Answer, NewSet, Refusal, Reply, Totals, UnitFigures};
 pub use request::{Recorded, Request};
 pub use statement::{ClassLine, CommodityLine, Heading, SharedStatement, Statement};

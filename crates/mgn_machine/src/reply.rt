@@ -49,7 +49,7 @@ pub enum Refusal {
 
 /// The figures of a margin unit, in cents.
 #[derive(Clone, Copy, PartialEq, Eq, Debug)]
-pub struct Figures {
+pub struct UnitFigures {
     /// What the positions must have deposited.
     pub requirement: Cents,
     /// What the portfolio with the least room must have deposited.
@@ -92,7 +92,7 @@ pub enum Reply {
     /// It is done.
     Done,
     /// The figures asked for.
-    Figures(Figures),
+    Figures(UnitFigures),
     /// The totals asked for.
     Totals(Totals),
     /// The set is in force.

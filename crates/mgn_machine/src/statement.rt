@@ -2,7 +2,7 @@ ghost use Rattle.std.specs.Prelude.{◌≡◌, IfOk};
 
 use crate::command::Mode;
 use crate::commodity_lines::CommodityLines;
-use crate::reply::Figures;
+use crate::reply::UnitFigures;
 use mgn_holds::Held;
 use mgn_ids::{AccountName, ClassName, CommodityName, OriginName, SetName};
 use mgn_lots::Lot;
@@ -26,7 +26,7 @@ pub struct Heading {
     /// The version of the set in force.
     pub version: Version,
     /// The figures of the account's margin unit.
-    pub figures: Figures,
+    pub figures: UnitFigures,
     /// What the unit must have deposited above what is there for its lots; 0 where there is enough.
     pub call: Cents,
     /// The net option value of the unit's positions: what long options of the premium style are worth, less what short

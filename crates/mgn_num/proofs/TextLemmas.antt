@@ -1,8 +1,7 @@
 -- How long the text of a number is, so that Cents and TenThousandths ask for enough room.
-use Rattle.std.proofs.Common.{◌+◌, ◌≡◌, ℕ, suc, ◌<◌, ◌≤◌, length, arith, add-one, refl}
+use Rattle.std.proofs.Common.{suc, ◌≤◌, length, arith}
 use Rattle.std.specs.Prelude.{ℤ, pos, negsuc, ◌^◌, unsigned_abs}
-use Rattle.std.specs.Fmt.{decimal, signed_decimal}
-use Rattle.std.proofs.lemmas.Int.{ints}
+use Rattle.std.specs.Fmt.{signed_decimal}
 use Rattle.std.proofs.lemmas.Fmt.{length-decimal-le_wide}
 
 -- at most 37 digits and a sign

@@ -4,6 +4,7 @@
 mod array;
 mod commodity_rows;
 mod kinds;
+mod limits;
 mod naming;
 pub mod rows;
 mod set;
@@ -12,6 +13,10 @@ mod tables;
 mod work;
 
 pub use array::RiskArray;
+pub use limits::{
+    MOST_CLASSES, MOST_COMMODITIES, MOST_CONTRACTS, MOST_CONTRACTS_EACH, MOST_CREDIT_SPREADS,
+    MOST_MONTHS, MOST_MONTHS_EACH, MOST_SETS, MOST_SPREADS, MOST_SPREADS_EACH,
+};
 pub use set::ParamSet;
 pub use shelf::{PutFault, SetList, Shelf, Version};
 pub use tables::{

@@ -1,13 +1,11 @@
 ghost use Rattle.std.specs.Prelude.{◌≡◌, ◌<◌, ◌≤◌, ◌++◌, ◌∷◌, [], length, IfOk, IfErr, OnErr, OnOk, IsSomeAnd};
 ghost use Rattle.mgn_params.specs.Shelves.{set_at};
 
+use crate::limits::MOST_SETS;
 use crate::set::ParamSet;
 use std::alloc::{AllocError, Global};
 use std::marker::Model;
 use thiserror::Error;
-
-/// How many sets a shelf holds at most: the first, and 64 put after it.
-const MOST_SETS: usize = 65;
 
 /// The number of a set among those of a shelf: 0 for the first, then one more with each that is put. What it shows is
 /// the set at that place of the shelf. Shelves alone make versions.

@@ -1,5 +1,5 @@
 -- Desks that are given with a command: when one fits, and when one is older.
-use Rattle.std.proofs.Common.{pos, ◌≡◌, ◌<◌, ◌∙◌, ℕ, zero, suc, ℤ, Bool, true, false, List, [], ◌∷◌, length, ◌≤◌, get_or, set, map, sym, ap, refl, arith, cond, Option, Some, None}
+use Rattle.std.proofs.Common.{pos, ◌≡◌, ◌<◌, ◌∙◌, ℕ, zero, suc, ℤ, Bool, true, false, List, [], ◌∷◌, length, ◌≤◌, get_or, map, sym, ap, refl, arith, cond, Option, Some, None}
 use Rattle.std.specs.Prelude.{◌||◌, ◌&&◌, ◌==◌, nat_lt, not}
 use Rattle.std.specs.Ordering.{int_eq}
 use Rattle.std.specs.Bool.{Decides}
@@ -10,7 +10,7 @@ use Rattle.std.proofs.lemmas.List.Folds.{find_at}
 use Rattle.std.proofs.lemmas.List.Quantifiers.{position-Some}
 use Rattle.std.proofs.lemmas.Option.{slice_get_past}
 use Rattle.std.proofs.lemmas.Bool.{ltb-false}
-use Rattle.std.proofs.lemmas.List.{ext_get_or, length-set}
+use Rattle.std.proofs.lemmas.List.{ext_get_or}
 use Rattle.mgn_params.specs.Tables.{Tables}
 use Rattle.mgn_nets.specs.Portfolios.{UnitNets}
 use Rattle.mgn_desk.specs.declared.desk.Marked.{Marked}

@@ -1,5 +1,5 @@
 -- Each desk keeps the number of its unit where `grow` adds one.
-use Rattle.std.proofs.Common.{◌≡◌, ◌∙◌, ◌++◌, ◌∷◌, [], ℕ, zero, suc, List, length, get_or, set, ap, refl}
+use Rattle.std.proofs.Common.{◌≡◌, ◌∙◌, ◌++◌, ◌∷◌, [], ℕ, zero, suc, List, length, get_or, ap, refl}
 use Rattle.mgn_desk.specs.Desks.{DeskRows}
 use Rattle.mgn_pricing.specs.Desks.{AreNumbered}
 

@@ -3,14 +3,13 @@ use Rattle.std.proofs.Common.{◌≡◌, ◌≢◌, ◌<◌, ◌∙◌, ⊎_elim
 use Rattle.std.proofs.lemmas.Bool.{cases_eq}
 use Rattle.std.proofs.lemmas.List.{get_or-set_same, get_or-set_other, get_or_append_left, get_or_default, length-set}
 use Rattle.mgn_params.specs.Tables.{Tables}
-use Rattle.mgn_nets.specs.Portfolios.{UnitNets}
 use Rattle.mgn_machine.specs.declared.reply.Refusal.{Refusal}
 use Rattle.mgn_machine.specs.State.{AccountState, State, account_at, no_account}
 use Rattle.mgn_unit.specs.declared.change.Change.{Change}
 use Rattle.mgn_unit.specs.declared.row.Row.{Row}
 use Rattle.mgn_unit.specs.Rows.{nets_in, no_row, row_with}
-use Rattle.mgn_register.specs.declared.fault.Fault.{Fault}
-use Rattle.mgn_register.specs.declared.fault.Fault.TheVariants.{Refused, Memory}
+use Rattle.mgn_register.specs.declared.step_fault.StepFault.{StepFault}
+use Rattle.mgn_register.specs.declared.step_fault.StepFault.TheVariants.{Refused, Memory}
 use Rattle.mgn_plan.specs.declared.plans.Plan.{Plan}
 use Rattle.mgn_plan.specs.declared.plans.Plan.TheVariants.{Nothing, One, Two}
 use Rattle.mgn_plan.specs.declared.plans.UnitChange.{UnitChange}
@@ -95,7 +94,7 @@ follows-planned set' f g plan k n a change was row same there found unit inside 
     own = planned ∙ (λ j. One record { account = k; unit = unit_is j; change = change })
 
 -- from a change to its answer
-pub leaves_by : {X : Type 0} (set' : Tables) (plan : Plan) (want : Result State Refusal) (done : Result X Fault) (old new : BookState) → Steps want done old new → OnOk done (FollowsPlan set' plan old.rows new.rows) → IfOk (answer_of done) (λ reply. LeavesNets set' plan reply old.rows new.rows)
+pub leaves_by : {X : Type 0} (set' : Tables) (plan : Plan) (want : Result State Refusal) (done : Result X StepFault) (old new : BookState) → Steps want done old new → OnOk done (FollowsPlan set' plan old.rows new.rows) → IfOk (answer_of done) (λ reply. LeavesNets set' plan reply old.rows new.rows)
 leaves_by set' plan want (Ok done) old new steps follows = follows
 leaves_by set' plan want (Err (Refused why)) old new steps follows = ap (λ (f : BookState). f.rows) steps.1
 leaves_by set' plan want (Err Memory) old new steps follows = tt
@@ -108,7 +107,7 @@ both-none u v same = rw (eq-eqb u.unit v.unit same) refl
 pub both-two : (u v : UnitChange) → u.unit ≢ v.unit → both_plan u v ≡ Two u v
 both-two u v apart = rw (ne_eqb u.unit v.unit apart) refl
 
-pub within-follows : (set' : Tables) (accounts now : List AccountState) (rows after : List Row) (giver taker : Party) (plan : Plan) (result : Result (Unit {0}) Fault) → plan ≡ Nothing → giver.unit < length rows
+pub within-follows : (set' : Tables) (accounts now : List AccountState) (rows after : List Row) (giver taker : Party) (plan : Plan) (result : Result (Unit {0}) StepFault) → plan ≡ Nothing → giver.unit < length rows
     → EnteredWithin set' accounts rows giver taker result now after → OnOk result (FollowsPlan set' plan rows after)
 within-follows set' accounts now rows after giver taker plan (Ok done) none inside entered =
     subst (λ (x : Plan × List Row). FollowsPlan set' x.0 rows x.1) (λ j. (sym none j, sym entered.rows_are j)) (follows-kept set' rows giver.unit _ inside refl)
@@ -117,7 +116,7 @@ within-follows set' accounts now rows after giver taker plan (Err why) none insi
 abbrev pub change_of : Party → UnitChange
 change_of p = record { account = p.place; unit = p.unit; change = p.change }
 
-pub across-follows : (set' : Tables) (accounts now : List AccountState) (rows after : List Row) (giver taker : Party) (plan : Plan) (result : Result (Unit {0}) Fault) → plan ≡ Two (change_of giver) (change_of taker) → giver.unit < length rows → taker.unit < length rows → taker.unit ≢ giver.unit
+pub across-follows : (set' : Tables) (accounts now : List AccountState) (rows after : List Row) (giver taker : Party) (plan : Plan) (result : Result (Unit {0}) StepFault) → plan ≡ Two (change_of giver) (change_of taker) → giver.unit < length rows → taker.unit < length rows → taker.unit ≢ giver.unit
     → EnteredAcross set' accounts rows giver taker result now after → OnOk result (FollowsPlan set' plan rows after)
 across-follows set' accounts now rows after giver taker plan (Ok done) two inside inside_too apart entered =
     subst (λ (x : Plan × List Row). FollowsPlan set' x.0 rows x.1) (λ j. (sym two j, sym entered.rows_are j))

@@ -309,7 +309,7 @@ bust-found s account lot at done =
     × (is_busted (lot_at (account_at s.accounts p.0).lots p.1).mark ≡ false)) same
     (place-inside s account k.0 k.1.0, j.1.0, b.0)
 
-live_mark : (mark : Mark) → is_busted mark ≡ false → is_live mark ≡ true
+pub live_mark : (mark : Mark) → is_busted mark ≡ false → is_live mark ≡ true
 live_mark Traded h = refl
 live_mark Moved h = refl
 live_mark Busted h = cc

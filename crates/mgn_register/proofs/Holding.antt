@@ -33,8 +33,8 @@ use Rattle.mgn_unit.proofs.FillMoves.{fill-moves, fill-limits, All-filled}
 use Rattle.mgn_unit.proofs.Moved.{Stands, row-moved}
 use Rattle.mgn_unit.proofs.Sums.{row_by-at}
 use Rattle.mgn_unit.proofs.Least.{room_of_row}
-use Rattle.mgn_register.specs.declared.fault.Fault.{Fault}
-use Rattle.mgn_register.specs.declared.fault.Fault.TheVariants.{Refused, Memory}
+use Rattle.mgn_register.specs.declared.step_fault.StepFault.{StepFault}
+use Rattle.mgn_register.specs.declared.step_fault.StepFault.TheVariants.{Refused, Memory}
 use Rattle.mgn_register.specs.BookStates.{BookState, book_state, IsKept, IsUnitRow, AsksMemory, Steps}
 use Rattle.mgn_register.specs.RoomAsked.{AsksRoom}
 use Rattle.mgn_register.proofs.Kept.{contract-stands, stands-inside, row-there, room-by, sizes-more, own-moved, kept-changed, account-limits, account-known, stands-known}
@@ -288,7 +288,7 @@ hold-done set' origins accounts rows closed version at u a now r row h reads pla
     entered-done set' f.state at h places (held-short set' f at a r h false reads room)
     ∙ ap (λ (s : State). Ok s) (new-state origins accounts rows closed version at.0 u row (with_hold (account_at accounts at.0) x) now (ap (λ (y : AccountState). with_hold y x) (sym (account-read set' f at.0 at.1 a r h.contract reads)) ∙ sym added))
 
-pub hold-refused : (set' : Tables) (f new : BookState) (at : ℕ × ℕ) (a : AccountState) (r : Row) (h : Hold) (why : Fault) → Reads set' f at.0 at.1 a r h.contract → hold_places set' f.state h ≡ Ok at → AsksRoom {X = Unit {0}} (row_with set' (hold_change at.1 h.quantity h.limit) r) (Err why) → new ≡ f → Steps {X = Unit {0}} (entered set' f.state h) (Err why) f new
+pub hold-refused : (set' : Tables) (f new : BookState) (at : ℕ × ℕ) (a : AccountState) (r : Row) (h : Hold) (why : StepFault) → Reads set' f at.0 at.1 a r h.contract → hold_places set' f.state h ≡ Ok at → AsksRoom {X = Unit {0}} (row_with set' (hold_change at.1 h.quantity h.limit) r) (Err why) → new ≡ f → Steps {X = Unit {0}} (entered set' f.state h) (Err why) f new
 hold-refused set' f new at a r h (Refused why) reads places asks same =
     (entered-short set' f.state at h places (held-short set' f at a r h true reads asks.1) ∙ ap (λ (x : Refusal). Err x) (sym asks.0), same)
 hold-refused set' f new at a r h Memory reads places asks same =

@@ -25,8 +25,8 @@ use Rattle.mgn_unit.specs.Rows.{IsChange, IsRoomy, Priced, Prices, lacks_room, n
 use Rattle.mgn_unit.proofs.AccountMoves.{lot-limits}
 use Rattle.mgn_unit.proofs.Moved.{Stands, row-moved, row-apart}
 use Rattle.mgn_unit.proofs.TransferMoves.{moved-moves, row-within}
-use Rattle.mgn_register.specs.declared.fault.Fault.{Fault}
-use Rattle.mgn_register.specs.declared.fault.Fault.TheVariants.{Refused, Memory}
+use Rattle.mgn_register.specs.declared.step_fault.StepFault.{StepFault}
+use Rattle.mgn_register.specs.declared.step_fault.StepFault.TheVariants.{Refused, Memory}
 use Rattle.mgn_register.specs.BookStates.{AsksMemory, BookState, book_state, IsKept, IsUnitRow, Steps}
 use Rattle.mgn_register.specs.TransferRows.{AskBoth, TakesChange, TakesLot, account_with, party_of, with_both}
 use Rattle.mgn_plan.specs.Plans.{row_at}
@@ -439,21 +439,21 @@ asked-memory true now = refl
 asked-memory false now = tt
 
 -- where both rows afterwards are known, and what was asked of them
-answered : (now : State) (s t : Bool) (giver taker : Row) (want : Result State Refusal) (f new : BookState) (result : Result (Unit {0}) Fault) → want ≡ (if s || t then Err NoRoom else Ok now) → lacks_room giver ≡ s → lacks_room taker ≡ t → AskBoth giver taker result → OnOk result (new.state ≡ now) → OnErr result (new ≡ f) → Steps want result f new
+answered : (now : State) (s t : Bool) (giver taker : Row) (want : Result State Refusal) (f new : BookState) (result : Result (Unit {0}) StepFault) → want ≡ (if s || t then Err NoRoom else Ok now) → lacks_room giver ≡ s → lacks_room taker ≡ t → AskBoth giver taker result → OnOk result (new.state ≡ now) → OnErr result (new ≡ f) → Steps want result f new
 answered now s t giver taker want f new (Ok done) is first second asks state same =
     is ∙ ap (λ (b : Bool). if b then Err NoRoom else Ok now) ((λ j. sym first j || sym second j) ∙ (λ j. asks.0 j || asks.1 j)) ∙ ap (λ (x : State). Ok x) (sym state)
 answered now s t giver taker want f new (Err (Refused why)) is first second asks state same =
     (is ∙ ap (λ (b : Bool). if b then Err NoRoom else Ok now) ((λ j. sym first j || sym second j) ∙ asks.1) ∙ ap (λ (x : Refusal). Err x) (sym asks.0), same)
 answered now s t giver taker want f new (Err Memory) is first second asks state same = (subst AsksMemory (sym is) (asked-memory (s || t) now), same)
 
-pub across-answered : (set' : Tables) (f new : BookState) (g t i : ℕ) (m : Transfer) (result : Result (Unit {0}) Fault) → Moving set' f g t i m → move_places set' f.state m ≡ Ok (g, t, i) → (account_at f.state.accounts t).unit ≢ (account_at f.state.accounts g).unit
+pub across-answered : (set' : Tables) (f new : BookState) (g t i : ℕ) (m : Transfer) (result : Result (Unit {0}) StepFault) → Moving set' f g t i m → move_places set' f.state m ≡ Ok (g, t, i) → (account_at f.state.accounts t).unit ≢ (account_at f.state.accounts g).unit
     → AskBoth (row_with set' (moved_change i (neg_ℤ m.quantity)) (row_at set' f.rows (account_at f.state.accounts g).unit)) (row_with set' (moved_change i m.quantity) (row_at set' f.rows (account_at f.state.accounts t).unit)) result
     → OnOk result (new.state ≡ with_move f.state g t m) → OnErr result (new ≡ f) → Steps (moved set' f.state m) result f new
 across-answered set' f new g t i m result moving places units asks state same =
     answered (with_move f.state g t m) _ _ (row_with set' (moved_change i (neg_ℤ m.quantity)) (row_at set' f.rows (account_at f.state.accounts g).unit)) (row_with set' (moved_change i m.quantity) (row_at set' f.rows (account_at f.state.accounts t).unit)) (moved set' f.state m) f new result (moved-by set' f.state g t i m places)
     (ap lacks_room (sym (across-given set' f g t i m moving units))) (ap lacks_room (sym (across-taken set' f g t i m moving units))) asks state same
 
-pub within-answered : (set' : Tables) (f new : BookState) (g t i : ℕ) (m : Transfer) (result : Result (Unit {0}) Fault) → Moving set' f g t i m → move_places set' f.state m ≡ Ok (g, t, i) → (account_at f.state.accounts t).unit ≡ (account_at f.state.accounts g).unit
+pub within-answered : (set' : Tables) (f new : BookState) (g t i : ℕ) (m : Transfer) (result : Result (Unit {0}) StepFault) → Moving set' f g t i m → move_places set' f.state m ≡ Ok (g, t, i) → (account_at f.state.accounts t).unit ≡ (account_at f.state.accounts g).unit
     → AskBoth (row_at set' f.rows (account_at f.state.accounts g).unit) (row_at set' f.rows (account_at f.state.accounts g).unit) result
     → OnOk result (new.state ≡ with_move f.state g t m) → OnErr result (new ≡ f) → Steps (moved set' f.state m) result f new
 within-answered set' f new g t i m result moving places one asks state same =
@@ -468,7 +468,7 @@ within-answered set' f new g t i m result moving places one asks state same =
 
 -- What is known of the lists once both lots are entered, or nothing is.
 
-pub record EnteredAcross (set' : Tables) (accounts : List AccountState) (rows : List Row) (giver taker : Party) (result : Result (Unit {0}) Fault) (now : List AccountState) (after : List Row) : Type 0 where
+pub record EnteredAcross (set' : Tables) (accounts : List AccountState) (rows : List Row) (giver taker : Party) (result : Result (Unit {0}) StepFault) (now : List AccountState) (after : List Row) : Type 0 where
   pub accounts_are : OnOk result (now ≡ with_both accounts giver taker)
   pub rows_are : OnOk result (after ≡ set (set rows giver.unit (row_with set' giver.change (row_at set' rows giver.unit))) taker.unit (row_with set' taker.change (row_at set' rows taker.unit)))
   pub giver_priced : OnOk result ((priced : Priced) × Prices set' giver.change (row_at set' rows giver.unit) priced)
@@ -477,7 +477,7 @@ pub record EnteredAcross (set' : Tables) (accounts : List AccountState) (rows : 
   pub same_accounts : OnErr result (now ≡ accounts)
   pub same_rows : OnErr result (after ≡ rows)
 
-pub record EnteredWithin (set' : Tables) (accounts : List AccountState) (rows : List Row) (giver taker : Party) (result : Result (Unit {0}) Fault) (now : List AccountState) (after : List Row) : Type 0 where
+pub record EnteredWithin (set' : Tables) (accounts : List AccountState) (rows : List Row) (giver taker : Party) (result : Result (Unit {0}) StepFault) (now : List AccountState) (after : List Row) : Type 0 where
   pub accounts_are : OnOk result (now ≡ with_both accounts giver taker)
   pub rows_are : OnOk result (after ≡ set rows giver.unit (row_with_size giver.change.contract (giver.change.size +ℤ taker.change.size) (row_at set' rows giver.unit)))
   pub room : AskBoth (row_at set' rows giver.unit) (row_at set' rows giver.unit) result
@@ -528,7 +528,7 @@ state-after origins accounts now rows after closed version g t m is long = λ j.
 book-same : (origins : List Origin) (accounts now : List AccountState) (rows after : List Row) (closed : Bool) (version : ℕ) → now ≡ accounts → after ≡ rows → book_state origins now after closed version ≡ book_state origins accounts rows closed version
 book-same origins accounts now rows after closed version one other = λ j. book_state origins (one j) (other j) closed version
 
-pub names-after : (names : List (List ℕ)) (accounts now : List AccountState) (giver taker : Party) (result : Result (Unit {0}) Fault) → taker.place ≢ giver.place → names ≡ account_names accounts → OnOk result (now ≡ with_both accounts giver taker) → OnErr result (now ≡ accounts) → names ≡ account_names now
+pub names-after : (names : List (List ℕ)) (accounts now : List AccountState) (giver taker : Party) (result : Result (Unit {0}) StepFault) → taker.place ≢ giver.place → names ≡ account_names accounts → OnOk result (now ≡ with_both accounts giver taker) → OnErr result (now ≡ accounts) → names ≡ account_names now
 names-after names accounts now giver taker (Ok done) apart are is same =
     names-kept names (set accounts giver.place (account_with accounts giver)) taker.place (account_with accounts taker) no_account
     (names-kept names accounts giver.place (account_with accounts giver) no_account are refl)
@@ -536,7 +536,7 @@ names-after names accounts now giver taker (Ok done) apart are is same =
     ∙ ap account_names (sym is)
 names-after names accounts now giver taker (Err why) apart are is same = are ∙ ap account_names (sym same)
 
-pub across-after : (set' : Tables) (origins : List Origin) (accounts now : List AccountState) (rows after : List Row) (closed : Bool) (version : ℕ) (g t i : ℕ) (m : Transfer) (result : Result (Unit {0}) Fault) → Moving set' (book_state origins accounts rows closed version) g t i m → (account_at accounts t).unit ≢ (account_at accounts g).unit
+pub across-after : (set' : Tables) (origins : List Origin) (accounts now : List AccountState) (rows after : List Row) (closed : Bool) (version : ℕ) (g t i : ℕ) (m : Transfer) (result : Result (Unit {0}) StepFault) → Moving set' (book_state origins accounts rows closed version) g t i m → (account_at accounts t).unit ≢ (account_at accounts g).unit
     → EnteredAcross set' accounts rows (giver_of (book_state origins accounts rows closed version) g i m) (taker_of (book_state origins accounts rows closed version) t i m) result now after → IsKept set' (book_state origins now after closed version)
 across-after set' origins accounts now rows after closed version g t i m (Ok done) moving units entered =
     subst (λ (x : List AccountState × List Row). IsKept set' (book_state origins x.0 x.1 closed version)) (λ j. (sym entered.accounts_are j, sym entered.rows_are j))
@@ -544,7 +544,7 @@ across-after set' origins accounts now rows after closed version g t i m (Ok don
 across-after set' origins accounts now rows after closed version g t i m (Err why) moving units entered =
     subst (IsKept set') (sym (book-same origins accounts now rows after closed version entered.same_accounts entered.same_rows)) moving.kept
 
-pub within-after : (set' : Tables) (origins : List Origin) (accounts now : List AccountState) (rows after : List Row) (closed : Bool) (version : ℕ) (g t i : ℕ) (m : Transfer) (result : Result (Unit {0}) Fault) → Moving set' (book_state origins accounts rows closed version) g t i m → (account_at accounts t).unit ≡ (account_at accounts g).unit
+pub within-after : (set' : Tables) (origins : List Origin) (accounts now : List AccountState) (rows after : List Row) (closed : Bool) (version : ℕ) (g t i : ℕ) (m : Transfer) (result : Result (Unit {0}) StepFault) → Moving set' (book_state origins accounts rows closed version) g t i m → (account_at accounts t).unit ≡ (account_at accounts g).unit
     → EnteredWithin set' accounts rows (giver_of (book_state origins accounts rows closed version) g i m) (taker_of (book_state origins accounts rows closed version) t i m) result now after → IsKept set' (book_state origins now after closed version)
 within-after set' origins accounts now rows after closed version g t i m (Ok done) moving one entered =
     subst (λ (x : List AccountState × List Row). IsKept set' (book_state origins x.0 x.1 closed version)) (λ j. (sym entered.accounts_are j, sym entered.rows_are j))
@@ -552,7 +552,7 @@ within-after set' origins accounts now rows after closed version g t i m (Ok don
 within-after set' origins accounts now rows after closed version g t i m (Err why) moving one entered =
     subst (IsKept set') (sym (book-same origins accounts now rows after closed version entered.same_accounts entered.same_rows)) moving.kept
 
-pub across-steps : (set' : Tables) (origins : List Origin) (accounts now : List AccountState) (rows after : List Row) (closed : Bool) (version : ℕ) (g t i : ℕ) (m : Transfer) (result : Result (Unit {0}) Fault) → Moving set' (book_state origins accounts rows closed version) g t i m
+pub across-steps : (set' : Tables) (origins : List Origin) (accounts now : List AccountState) (rows after : List Row) (closed : Bool) (version : ℕ) (g t i : ℕ) (m : Transfer) (result : Result (Unit {0}) StepFault) → Moving set' (book_state origins accounts rows closed version) g t i m
     → move_places set' (book_state origins accounts rows closed version).state m ≡ Ok (g, t, i) → (account_at accounts t).unit ≢ (account_at accounts g).unit
     → EnteredAcross set' accounts rows (giver_of (book_state origins accounts rows closed version) g i m) (taker_of (book_state origins accounts rows closed version) t i m) result now after
     → Steps (moved set' (book_state origins accounts rows closed version).state m) result (book_state origins accounts rows closed version) (book_state origins now after closed version)
@@ -574,15 +574,15 @@ across-steps set' origins accounts now rows after closed version g t i m result 
     taken : Row
     taken = row_with set' taker.change (row_at set' rows taker.unit)
 
-    state : (x : Result (Unit {0}) Fault) → OnOk x (now ≡ with_both accounts giver taker) → OnOk x (after ≡ set (set rows giver.unit given) taker.unit taken) → OnOk x ((book_state origins now after closed version).state ≡ with_move f.state g t m)
+    state : (x : Result (Unit {0}) StepFault) → OnOk x (now ≡ with_both accounts giver taker) → OnOk x (after ≡ set (set rows giver.unit given) taker.unit taken) → OnOk x ((book_state origins now after closed version).state ≡ with_move f.state g t m)
     state (Ok done) is rows_are = state-after origins accounts now rows after closed version g t m is (ap (λ (l : List Row). length l) rows_are ∙ length-set (set rows giver.unit given) taker.unit taken ∙ length-set rows giver.unit given)
     state (Err why) is rows_are = tt
 
-    same : (x : Result (Unit {0}) Fault) → OnErr x (now ≡ accounts) → OnErr x (after ≡ rows) → OnErr x (book_state origins now after closed version ≡ f)
+    same : (x : Result (Unit {0}) StepFault) → OnErr x (now ≡ accounts) → OnErr x (after ≡ rows) → OnErr x (book_state origins now after closed version ≡ f)
     same (Ok done) one other = tt
     same (Err why) one other = book-same origins accounts now rows after closed version one other
 
-pub within-steps : (set' : Tables) (origins : List Origin) (accounts now : List AccountState) (rows after : List Row) (closed : Bool) (version : ℕ) (g t i : ℕ) (m : Transfer) (result : Result (Unit {0}) Fault) → Moving set' (book_state origins accounts rows closed version) g t i m
+pub within-steps : (set' : Tables) (origins : List Origin) (accounts now : List AccountState) (rows after : List Row) (closed : Bool) (version : ℕ) (g t i : ℕ) (m : Transfer) (result : Result (Unit {0}) StepFault) → Moving set' (book_state origins accounts rows closed version) g t i m
     → move_places set' (book_state origins accounts rows closed version).state m ≡ Ok (g, t, i) → (account_at accounts t).unit ≡ (account_at accounts g).unit
     → EnteredWithin set' accounts rows (giver_of (book_state origins accounts rows closed version) g i m) (taker_of (book_state origins accounts rows closed version) t i m) result now after
     → Steps (moved set' (book_state origins accounts rows closed version).state m) result (book_state origins accounts rows closed version) (book_state origins now after closed version)
@@ -598,10 +598,10 @@ within-steps set' origins accounts now rows after closed version g t i m result 
     row : Row
     row = row_with_size i (both_sizes m) (row_at set' rows a.unit)
 
-    state : (x : Result (Unit {0}) Fault) → OnOk x (now ≡ with_both accounts (giver_of f g i m) (taker_of f t i m)) → OnOk x (after ≡ set rows a.unit row) → OnOk x ((book_state origins now after closed version).state ≡ with_move f.state g t m)
+    state : (x : Result (Unit {0}) StepFault) → OnOk x (now ≡ with_both accounts (giver_of f g i m) (taker_of f t i m)) → OnOk x (after ≡ set rows a.unit row) → OnOk x ((book_state origins now after closed version).state ≡ with_move f.state g t m)
     state (Ok done) is rows_are = state-after origins accounts now rows after closed version g t m is (ap (λ (l : List Row). length l) rows_are ∙ length-set rows a.unit row)
     state (Err why) is rows_are = tt
 
-    same : (x : Result (Unit {0}) Fault) → OnErr x (now ≡ accounts) → OnErr x (after ≡ rows) → OnErr x (book_state origins now after closed version ≡ f)
+    same : (x : Result (Unit {0}) StepFault) → OnErr x (now ≡ accounts) → OnErr x (after ≡ rows) → OnErr x (book_state origins now after closed version ≡ f)
     same (Ok done) one' other = tt
     same (Err why) one' other = book-same origins accounts now rows after closed version one' other

@@ -1,7 +1,6 @@
 -- The changes of plans are within the limits: for the plans of all commands.
-use Rattle.std.proofs.Common.{◌≡◌, ◌<◌, ⊎_elim, ℕ, get_or, List, length, Ok, false, true, eq-eqb, ne_eqb, sym}
+use Rattle.std.proofs.Common.{◌≡◌, ◌<◌, ⊎_elim, ℕ, List, length, Ok, false, true, eq-eqb, ne_eqb, sym}
 use Rattle.std.proofs.lemmas.Bool.{cases_eq}
-use Rattle.std.proofs.lemmas.List.{get_or_default}
 use Rattle.mgn_params.specs.Limits.{IsWithinLimits}
 use Rattle.mgn_params.specs.Tables.{Tables}
 use Rattle.mgn_lots.specs.Lots.{is_live, lot_at}
@@ -9,12 +8,12 @@ use Rattle.mgn_holds.specs.Holds.{covers, hold_at}
 use Rattle.mgn_machine.specs.declared.command.Fill.{Fill}
 use Rattle.mgn_machine.specs.declared.command.Hold.{Hold}
 use Rattle.mgn_machine.specs.declared.command.Trade.{Trade}
-use Rattle.mgn_machine.specs.State.{account_at, no_account}
+use Rattle.mgn_machine.specs.State.{account_at}
 use Rattle.mgn_machine.specs.Refusals.{contract_of, is_over}
 use Rattle.mgn_unit.specs.declared.change.Change.{Change}
 use Rattle.mgn_unit.specs.declared.row.Row.{Row}
 use Rattle.mgn_unit.specs.Changes.{bust_change, fill_change, hold_change, lot_change, release_change}
-use Rattle.mgn_unit.specs.Rows.{IsChange, IsRoomy, no_row}
+use Rattle.mgn_unit.specs.Rows.{IsChange, IsRoomy}
 use Rattle.mgn_register.specs.BookStates.{BookState, IsKept}
 use Rattle.mgn_plan.specs.declared.plans.UnitChange.{UnitChange}
 use Rattle.mgn_plan.specs.Plans.{CanChange, IsPossible, both_plan, in_unit_of, row_at}

@@ -12,8 +12,8 @@ use Rattle.mgn_machine.specs.State.{State, AccountState, IsAccount, account_at}
 use Rattle.mgn_machine.specs.Statements.{Told, statement_of}
 use Rattle.mgn_machine.specs.Refusals.{IsKnown}
 use Rattle.mgn_unit.specs.Rows.{row_of, IsRow}
-use Rattle.mgn_register.specs.declared.fault.Fault.{Fault}
-use Rattle.mgn_register.specs.declared.fault.Fault.TheVariants.{Refused, Memory}
+use Rattle.mgn_register.specs.declared.step_fault.StepFault.{StepFault}
+use Rattle.mgn_register.specs.declared.step_fault.StepFault.TheVariants.{Refused, Memory}
 
 -- the statement of the account at a place, none where there is no place
 abbrev pub statement_found : Tables → State → Result ℕ Refusal → Option Told
@@ -67,13 +67,13 @@ AsksMemory (Ok now) = Unit {0}
 AsksMemory (Err why) = why ≡ NoRoom
 
 -- what was wanted is done, or it is refused and nothing has changed, or memory was and nothing has
-abbrev pub Steps : {X : Type 0} → Result State Refusal → Result X Fault → BookState → BookState → Type 0
+abbrev pub Steps : {X : Type 0} → Result State Refusal → Result X StepFault → BookState → BookState → Type 0
 Steps want (Ok done) old new = want ≡ Ok new.state
 Steps want (Err (Refused why)) old new = (want ≡ Err why) × (new ≡ old)
 Steps want (Err Memory) old new = AsksMemory want × (new ≡ old)
 
 -- what is answered where a change was done or refused
-abbrev pub answer_of : {X : Type 0} → Result X Fault → Result Reply Fault
+abbrev pub answer_of : {X : Type 0} → Result X StepFault → Result Reply StepFault
 answer_of (Ok done) = Ok Done
 answer_of (Err (Refused why)) = Ok (Not why)
 answer_of (Err Memory) = Err Memory
@@ -88,7 +88,7 @@ AnswersByMemory (Statement told) = Unit {0}
 AnswersByMemory (Not why) = why ≡ NoRoom
 
 -- one step of the machine, or nothing, where memory was refused; a refusal is a reply
-abbrev pub Replies : State × Reply → Result Reply Fault → BookState → BookState → Type 0
+abbrev pub Replies : State × Reply → Result Reply StepFault → BookState → BookState → Type 0
 Replies want (Ok reply) old new = (new.state, reply) ≡ want
 Replies want (Err Memory) old new = AnswersByMemory want.1 × (new ≡ old)
 Replies want (Err (Refused why)) old new = ⊥

@@ -10,8 +10,8 @@ use Rattle.mgn_unit.specs.Changes.{moved_change}
 use Rattle.mgn_unit.specs.declared.row.Row.{Row}
 use Rattle.mgn_unit.specs.Rows.{IsChange, IsRoomy, IsRow, lacks_room}
 use Rattle.mgn_plan.specs.Plans.{row_at}
-use Rattle.mgn_register.specs.declared.fault.Fault.{Fault}
-use Rattle.mgn_register.specs.declared.fault.Fault.TheVariants.{Refused, Memory}
+use Rattle.mgn_register.specs.declared.step_fault.StepFault.{StepFault}
+use Rattle.mgn_register.specs.declared.step_fault.StepFault.TheVariants.{Refused, Memory}
 use Rattle.mgn_register.specs.declared.transfers.Party.{Party}
 
 -- the account of a party with its lot
@@ -47,7 +47,7 @@ pub record TakesChange (set : Tables) (rows : List Row) (p : Party) : Type 0 whe
   pub roomy : IsRoomy p.change (row_at set rows p.unit)
 
 -- done where both units have room afterwards, refused where one of them would have none
-abbrev pub AskBoth : {X : Type 0} → Row → Row → Result X Fault → Type 0
+abbrev pub AskBoth : {X : Type 0} → Row → Row → Result X StepFault → Type 0
 AskBoth giver taker (Ok done) = (lacks_room giver ≡ false) × (lacks_room taker ≡ false)
 AskBoth giver taker (Err (Refused why)) = (why ≡ NoRoom) × ((lacks_room giver || lacks_room taker) ≡ true)
 AskBoth giver taker (Err Memory) = Unit {0}

@@ -9,8 +9,8 @@ ghost use Rattle.mgn_register.specs.BookStates.{IsKept, Steps};
 ghost use Rattle.mgn_plan.specs.Plans.{FollowsPlan, Foresees, IsIdle, KnowsAll, bust_plan, trade_plan};
 ghost use Rattle.mgn_plan.specs.declared.plans.Plan.TheVariants.{Nothing};
 
-use crate::fault::Fault;
 use crate::register::Register;
+use crate::step_fault::StepFault;
 use mgn_ids::{AccountName, ClassName, ContractName, LotId, LotQuantity, Premium, ShortId, Units};
 use mgn_lots::{Lot, Mark};
 use mgn_machine::{Refusal, Trade};
@@ -48,7 +48,7 @@ impl Register {
         plan: &Plan,
         known: &Known,
         work: &mut Work,
-    ) -> Result<(), Fault>
+    ) -> Result<(), StepFault>
         requires kept { IsKept set.now self.old }
         requires plan { plan.now ≡
             trade_plan self.old.state trade.now (trade_places set.now self.old.state trade.now) }
@@ -82,7 +82,7 @@ impl Register {
         plan: &Plan,
         known: &Known,
         work: &mut Work,
-    ) -> Result<(), Fault>
+    ) -> Result<(), StepFault>
         requires kept { IsKept set.now self.old }
         requires plan { plan.now ≡
             bust_plan set.now self.old.state (bust_places self.old.state account number) }
@@ -96,7 +96,7 @@ impl Register {
         ensures idle { IsIdle (bust_plan set.now self.old.state (bust_places self.old.state account number))
             known.now work.old work.new }
         ensures no_memory { KnowsAll (bust_plan set.now self.old.state (bust_places self.old.state account number)) known.now
-            → result ≢ Err Fault.Memory }
+            → result ≢ Err StepFault.Memory }
     {
         set.limits();
         let (place, at, contract) = self.planned_bust(set, account, number, plan)?;
@@ -114,7 +114,7 @@ impl Register {
         account: AccountName,
         class: &ClassName,
         units: Units,
-    ) -> Result<(), Fault>
+    ) -> Result<(), StepFault>
         requires kept { IsKept set.now self.old }
         ensures kept { IsKept set.now self.new }
         ensures steps { Steps (posted set.now self.old.state account class.now units) result self.old self.new }
@@ -132,16 +132,16 @@ impl Register {
         account: AccountName,
         class: &ClassName,
         units: Units,
-    ) -> Result<(), Fault>
+    ) -> Result<(), StepFault>
         requires kept { IsKept set.now self.old }
         ensures kept { IsKept set.now self.new }
         ensures steps { Steps (drawn set.now self.old.state account class.now units) result self.old self.new }
         ensures follows { OnOk result (FollowsPlan set.now Nothing self.old.rows self.new.rows) }
-        ensures no_memory { result ≢ Err Fault.Memory }
+        ensures no_memory { result ≢ Err StepFault.Memory }
     {
         let (place, amount) = self.draw_place(set, account, class, units)?;
         if self.lacks_room_with(set, place, class, amount) {
-            return Err(Fault::Refused(Refusal::NoRoom));
+            return Err(StepFault::Refused(Refusal::NoRoom));
         }
         match self.write_amount(set, place, class, amount) {
             Ok(()) => Ok(()),

@@ -11,8 +11,8 @@ ghost use Rattle.mgn_plan.specs.Plans.{FollowsPlan, Foresees, IsIdle, KnowsAll, 
 ghost use Rattle.mgn_register.specs.RoomAsked.{AsksRoom};
 
 use crate::changes::{price, traded_lot};
-use crate::fault::Fault;
 use crate::register::{Register, contract_of, is_over, known_contract, premium_fits, refuse_if};
+use crate::step_fault::StepFault;
 use mgn_holds::Held;
 use mgn_ids::{AccountName, OrderId, Premium};
 use mgn_lots::Lot;
@@ -119,7 +119,7 @@ impl Register {
         plan: &Plan,
         known: &Known,
         work: &mut Work,
-    ) -> Result<(), Fault>
+    ) -> Result<(), StepFault>
         requires kept { IsKept set.now self.old }
         requires plan { plan.now ≡
             hold_plan self.old.state hold.now (hold_places set.now self.old.state hold.now) }
@@ -178,7 +178,7 @@ impl Register {
         plan: &Plan,
         known: &Known,
         work: &mut Work,
-    ) -> Result<(), Fault>
+    ) -> Result<(), StepFault>
         requires kept { IsKept set.now self.old }
         requires plan { plan.now ≡
             fill_plan set.now self.old.state fill.now (fill_places set.now self.old.state fill.now) }
@@ -223,7 +223,7 @@ impl Register {
         plan: &Plan,
         known: &Known,
         work: &mut Work,
-    ) -> Result<(), Fault>
+    ) -> Result<(), StepFault>
         requires kept { IsKept set.now self.old }
         requires plan { plan.now ≡
             release_plan set.now self.old.state (release_places self.old.state account order) }
@@ -237,7 +237,7 @@ impl Register {
         ensures idle { IsIdle (release_plan set.now self.old.state (release_places self.old.state account order))
             known.now work.old work.new }
         ensures no_memory { KnowsAll (release_plan set.now self.old.state (release_places self.old.state account order)) known.now
-            → result ≢ Err Fault.Memory }
+            → result ≢ Err StepFault.Memory }
     {
         set.limits();
         let (place, hold, i) = self.planned_release(set, account, order, plan)?;
@@ -260,7 +260,7 @@ fn enter_hold(
     held: &Held,
     known: &Option<Priced>,
     work: &mut Work,
-) -> Result<(), Fault>
+) -> Result<(), StepFault>
     requires known { IfSome known.now (Prices set.now change.now row.old) }
     requires row { IsRow set.now row.old }
     requires change { IsChange set.now change.now }
@@ -278,7 +278,7 @@ fn enter_hold(
 {
     let priced = price(alloc, set, row, change, known, work)?;
     if row.lacks_room_after(set, change, &priced) {
-        return Err(Fault::Refused(Refusal::NoRoom));
+        return Err(StepFault::Refused(Refusal::NoRoom));
     }
     owner.add_hold(held)?;
     row.apply(set, change, &priced);

@@ -3,17 +3,18 @@
 #![tactic(auto)]
 
 mod changes;
-mod fault;
 mod holds;
 mod origins;
 mod plans;
 mod register;
 mod statements;
+mod step_fault;
 mod steps;
 mod switch;
 mod totals;
 mod transfers;
 
-pub use fault::Fault;
+pub use origins::MOST_UNITS;
 pub use register::Register;
+pub use step_fault::StepFault;
 pub use steps::step;

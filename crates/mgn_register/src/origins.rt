@@ -9,20 +9,22 @@ ghost use Rattle.mgn_plan.specs.Plans.{FollowsPlan};
 ghost use Rattle.mgn_plan.specs.declared.plans.Plan.TheVariants.{Nothing};
 ghost use Rattle.mgn_register.specs.BookStates.{IsKept, Steps};
 
-use crate::fault::Fault;
 use crate::register::{Register, refuse_if};
+use crate::step_fault::StepFault;
 use mgn_ids::{AccountName, OriginName};
 use mgn_machine::{Mode, Origin, Refusal};
 use mgn_params::ParamSet;
 use mgn_unit::{Account, Row};
 use std::alloc::{AllocError, Global};
 
-/// How many origins, accounts and units there may be.
+/// How many origins there are at most.
 const MOST_ORIGINS: usize = 8;
 
+/// How many accounts there are at most.
 const MOST_ACCOUNTS: usize = 1024;
 
-const MOST_UNITS: usize = 1024;
+/// How many margin units there are at most.
+pub const MOST_UNITS: usize = 1024;
 
 fn is_net(mode: Mode) -> bool
     ensures { result ≡ is_net mode }
@@ -116,7 +118,7 @@ impl Register {
         set: &ParamSet,
         name: OriginName,
         mode: Mode,
-    ) -> Result<(), Fault>
+    ) -> Result<(), StepFault>
         requires kept { IsKept set.now self.old }
         ensures kept { IsKept set.now self.new }
         ensures steps { Steps (originated self.old.state name mode) result self.old self.new }
@@ -147,7 +149,7 @@ impl Register {
         set: &ParamSet,
         name: AccountName,
         origin: OriginName,
-    ) -> Result<(), Fault>
+    ) -> Result<(), StepFault>
         requires kept { IsKept set.now self.old }
         ensures kept { IsKept set.now self.new }
         ensures steps { Steps (opened self.old.state name origin) result self.old self.new }

@@ -5,8 +5,8 @@ ghost use Rattle.mgn_machine.specs.Statements.{statement_of};
 ghost use Rattle.mgn_machine.specs.Step.{stated};
 ghost use Rattle.mgn_register.specs.BookStates.{IsKept, Replies, statement_found};
 
-use crate::fault::Fault;
 use crate::register::Register;
+use crate::step_fault::StepFault;
 use mgn_ids::AccountName;
 use mgn_machine::{Reply, SharedStatement, Statement};
 use mgn_params::ParamSet;
@@ -57,7 +57,12 @@ impl Register {
     }
 
     /// What is answered to the question for an account's statement. An error says that memory was refused.
-    pub fn state(&self, alloc: Global, set: &ParamSet, account: AccountName) -> Result<Reply, Fault>
+    pub fn state(
+        &self,
+        alloc: Global,
+        set: &ParamSet,
+        account: AccountName,
+    ) -> Result<Reply, StepFault>
         requires kept { IsKept set.now self.now }
         ensures { Replies (self.now.state, stated set.now self.now.state (place_of self.now.state account))
             result self.now self.now }

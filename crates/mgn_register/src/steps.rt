@@ -6,8 +6,8 @@ ghost use Rattle.mgn_register.specs.BookStates.{IsKept, Steps, Replies, answer_o
 ghost use Rattle.mgn_plan.specs.Plans.{FollowsPlan, Foresees, IsIdle, LeavesNets, plan_of};
 ghost use Rattle.mgn_plan.specs.declared.plans.Plan.TheVariants.{Nothing};
 
-use crate::fault::Fault;
 use crate::register::{Register, refuse_if};
+use crate::step_fault::StepFault;
 use mgn_ids::AccountName;
 use mgn_machine::{Command, Refusal, Reply};
 use mgn_params::{ParamSet, Work};
@@ -28,12 +28,12 @@ impl Register {
     }
 
     /// The day ends. It takes no memory.
-    pub fn end(&mut self, set: &ParamSet) -> Result<(), Fault>
+    pub fn end(&mut self, set: &ParamSet) -> Result<(), StepFault>
         requires kept { IsKept set.now self.old }
         ensures kept { IsKept set.now self.new }
         ensures steps { Steps (ended self.old.state) result self.old self.new }
         ensures follows { OnOk result (FollowsPlan set.now Nothing self.old.rows self.new.rows) }
-        ensures no_memory { result ≢ Err Fault.Memory }
+        ensures no_memory { result ≢ Err StepFault.Memory }
     {
         refuse_if(self.closed, Refusal::Closed)?;
         self.closed = true;
@@ -42,14 +42,14 @@ impl Register {
 }
 
 // What is answered where a change is done or refused. Want of memory is no answer.
-fn answer_of(done: Result<(), Fault>) -> Result<Reply, Fault>
+fn answer_of(done: Result<(), StepFault>) -> Result<Reply, StepFault>
     ensures answer { result ≡ answer_of done }
     ensures brief { IfOk result (λ reply. is_brief reply ≡ true) }
 {
     match done {
         Ok(()) => Ok(Reply::Done),
-        Err(Fault::Refused(why)) => Ok(Reply::Refused(why)),
-        Err(Fault::Memory) => Err(Fault::Memory),
+        Err(StepFault::Refused(why)) => Ok(Reply::Refused(why)),
+        Err(StepFault::Memory) => Err(StepFault::Memory),
     }
 }
 
@@ -65,7 +65,7 @@ pub fn step(
     plan: &Plan,
     known: &Known,
     work: &mut Work,
-) -> Result<Reply, Fault>
+) -> Result<Reply, StepFault>
     requires kept { IsKept set.now register.old }
     requires plan { plan.now ≡ plan_of set.now register.old.state command.now }
     requires known { Foresees set.now register.old.rows

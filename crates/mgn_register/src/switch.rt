@@ -15,8 +15,8 @@ ghost use Rattle.mgn_register.specs.BookStates.{IsKept, IsUnitRow, book_state};
 ghost use Rattle.mgn_register.specs.Fits.{Fits};
 ghost use Rattle.mgn_register.specs.UnderSets.{AreGains, AreNewRows, FitRows, spent_by};
 
-use crate::fault::Fault;
 use crate::register::{Register, refuse_if};
+use crate::step_fault::StepFault;
 use mgn_machine::Refusal;
 use mgn_num::Cents;
 use mgn_params::{ParamSet, Version, Work};
@@ -297,7 +297,7 @@ impl Register {
         new: &ParamSet,
         prepared: &mut PreparedUnits,
         work: &mut Work,
-    ) -> Result<NewRows, Fault>
+    ) -> Result<NewRows, StepFault>
         requires kept { IsKept old.now self.now }
         requires prepared { ArePrepared new.now prepared.old.units.items }
         requires current { let ready = prepared.old in

@@ -13,8 +13,8 @@ ghost use Rattle.mgn_register.specs.RoomAsked.{AsksRoom};
 ghost use Rattle.mgn_register.specs.TransferRows.{AskBoth, TakesChange, TakesLot, party_of, with_both};
 
 use crate::changes::price;
-use crate::fault::Fault;
 use crate::register::{Register, contract_of, passes_limit, refuse_if};
+use crate::step_fault::StepFault;
 use mgn_ids::{ContractName, LotId, LotQuantity, ShortId};
 use mgn_lots::{Lot, Mark};
 use mgn_machine::{Refusal, Transfer};
@@ -160,7 +160,7 @@ impl Register {
         plan: &Plan,
         known: &Known,
         work: &mut Work,
-    ) -> Result<(), Fault>
+    ) -> Result<(), StepFault>
         requires kept { IsKept set.now self.old }
         requires plan { plan.now ≡
             move_plan self.old.state transfer.now (move_places set.now self.old.state transfer.now) }
@@ -206,7 +206,7 @@ fn enter_across(
     taker: &Party,
     known: &Known,
     work: &mut Work,
-) -> Result<(), Fault>
+) -> Result<(), StepFault>
     requires given { TakesLot accounts.old giver.now }
     requires taken { TakesLot accounts.old taker.now }
     requires apart { taker.now.place ≢ giver.now.place }
@@ -247,7 +247,7 @@ fn enter_within(
     rows: &mut [Row],
     giver: &Party,
     taker: &Party,
-) -> Result<(), Fault>
+) -> Result<(), StepFault>
     requires given { TakesLot accounts.old giver.now }
     requires taken { TakesLot accounts.old taker.now }
     requires apart { taker.now.place ≢ giver.now.place }
@@ -266,7 +266,7 @@ fn enter_within(
     ensures same_rows { OnErr result (rows.new ≡ rows.old) }
 {
     if rows[giver.unit].lacks_room(set) {
-        return Err(Fault::Refused(Refusal::NoRoom));
+        return Err(StepFault::Refused(Refusal::NoRoom));
     }
     add_lots(accounts, giver, taker)?;
     let size = giver.change.size.plus(taker.change.size);
@@ -282,7 +282,7 @@ fn price_party(
     party: &Party,
     known: &Option<Priced>,
     work: &mut Work,
-) -> Result<Priced, Fault>
+) -> Result<Priced, StepFault>
     requires party { TakesChange set.now rows.old party.now }
     requires known { IfSome known.now (Prices set.now party.now.change (row_at set.now rows.old party.now.unit)) }
     ensures same { rows.new ≡ rows.old }
@@ -294,7 +294,7 @@ fn price_party(
     let row = &mut rows[party.unit];
     let priced = price(alloc, set, row, &party.change, known, work)?;
     if row.lacks_room_after(set, &party.change, &priced) {
-        return Err(Fault::Refused(Refusal::NoRoom));
+        return Err(StepFault::Refused(Refusal::NoRoom));
     }
     Ok(priced)
 }

@@ -11,12 +11,13 @@ ghost use Rattle.mgn_service.specs.Commits.{Begins, Tries};
 use crate::commits::{Decided, commit};
 use crate::looks::{Looked, look};
 use crate::orders::{keep_order, order_of};
-use crate::units::{Units, keep_unit, known_unit, units_of};
+use crate::units::{CommandUnits, keep_unit, known_unit, units_of};
 use crate::waits::hold;
 use mgn_ids::SessionNo;
 use mgn_ledger::{AuditFault, Image, Ledger, Pass};
 use mgn_machine::{Answer, Command, Refusal, Reply};
 use mgn_params::ParamSet;
+use mgn_register::MOST_UNITS;
 use mgn_slots::{SlotNames, Slots};
 use mgn_table::{SetTable, TableName};
 use mgn_unit_desk::{Gate, Point, Prepared, Sight, UnitDesk, Workers};
@@ -24,9 +25,6 @@ use std::alloc::{AllocError, Global};
 use std::sync::atomic::{AtomicU64, Ordering};
 use std::sync::{Mutex, Wait};
 use std::thread::Threads;
-
-/// How many margin units there are at most, each with a desk.
-const MOST_DESKS: usize = 1024;
 
 /// How often a call looks at the book at most.
 pub(crate) const MOST_LOOKS: u8 = 65;
@@ -72,9 +70,9 @@ fn begin<'a, R: Wait, T: Image, J: TableName + SlotNames>(
     ensures { Begins pass.old command.now result pass.new }
 {
     match units_of(ledger, command) {
-        Units::Nothing => Begun::Answered(ledger.exec_plain(rt, pass, command)),
-        Units::One(unit) => Begun::One(unit),
-        Units::Two(giver, taker) => Begun::Two(giver, taker),
+        CommandUnits::Nothing => Begun::Answered(ledger.exec_plain(rt, pass, command)),
+        CommandUnits::One(unit) => Begun::One(unit),
+        CommandUnits::Two(giver, taker) => Begun::Two(giver, taker),
     }
 }
 
@@ -82,8 +80,8 @@ fn begin<'a, R: Wait, T: Image, J: TableName + SlotNames>(
 fn empty_desks<'a, T: Image, J: SlotNames>(
     alloc: Global,
 ) -> Result<Vec<Mutex<UnitDesk<'a, T, J>>>, AllocError> {
-    let mut desks = Vec::with_capacity(alloc, MOST_DESKS)?;
-    for unit in 0..MOST_DESKS {
+    let mut desks = Vec::with_capacity(alloc, MOST_UNITS)?;
+    for unit in 0..MOST_UNITS {
         desks.push(Mutex::new(UnitDesk::empty(unit)))?;
     }
     Ok(desks)

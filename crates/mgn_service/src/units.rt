@@ -18,7 +18,7 @@ enum Named {
 
 /// The units whose locks a call takes.
 #[derive(Clone, Copy, PartialEq, Eq, Debug)]
-pub(crate) enum Units {
+pub(crate) enum CommandUnits {
     Nothing,
     One(usize),
     /// Of a transfer between two units: the giver's and the taker's.
@@ -72,17 +72,17 @@ pub(crate) fn keep_unit<T: Image, J: SlotNames>(
 pub(crate) fn units_of<T: Image, J: TableName + SlotNames>(
     ledger: &Ledger<'_, T, J>,
     command: &Command,
-) -> Units {
+) -> CommandUnits {
     match named_by(command) {
-        Named::Nobody => Units::Nothing,
+        Named::Nobody => CommandUnits::Nothing,
         Named::One(account) => match ledger.unit_of(&account) {
-            Some(unit) => Units::One(unit),
-            None => Units::Nothing,
+            Some(unit) => CommandUnits::One(unit),
+            None => CommandUnits::Nothing,
         },
         Named::Two(from, to) => match (ledger.unit_of(&from), ledger.unit_of(&to)) {
-            (Some(giver), Some(taker)) if giver == taker => Units::One(giver),
-            (Some(giver), Some(taker)) => Units::Two(giver, taker),
-            _ => Units::Nothing,
+            (Some(giver), Some(taker)) if giver == taker => CommandUnits::One(giver),
+            (Some(giver), Some(taker)) => CommandUnits::Two(giver, taker),
+            _ => CommandUnits::Nothing,
         },
     }
 }

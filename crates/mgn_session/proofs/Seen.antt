@@ -2,7 +2,7 @@
 use Rattle.std.proofs.Common.{ℕ, List, [], ◌∷◌, Result, Ok, Err, ap, inl, inr, subst, sym}
 use Rattle.mgn_params.specs.Tables.{Tables}
 use Rattle.mgn_setfile.specs.File.{outcome, records_of}
-use Rattle.mgn_setfile.specs.Fields.{Fault}
+use Rattle.mgn_setfile.specs.Fields.{Flaw}
 use Rattle.mgn_machine.specs.declared.reply.Answer.{Answer}
 use Rattle.mgn_machine.specs.declared.request.Request.{Request}
 use Rattle.mgn_machine.specs.declared.request.Request.TheVariants as request
@@ -146,12 +146,12 @@ executes_seen see Holds Within call seen is old new request reply holds within o
 -- a file
 
 reads_earlier : {E F : Type 0} (see : E → F) (Holds Within : E → Type 0) (call : Call E) (seen : Call F) → IsSeenCall see Holds Within call seen
-    → (file : Result Tables (ℕ × Fault)) (old new : E) (reply : LineReply) → Reads call old file reply new → Within new → Within old
+    → (file : Result Tables (ℕ × Flaw)) (old new : E) (reply : LineReply) → Reads call old file reply new → Within new → Within old
 reads_earlier see Holds Within call seen is (Ok set') old new reply one within = executes_earlier see Holds Within call seen is old new (request.Switch set') reply one within
 reads_earlier see Holds Within call seen is (Err fault) old new reply one within = subst Within one.1 within
 
 reads_seen : {E F : Type 0} (see : E → F) (Holds Within : E → Type 0) (call : Call E) (seen : Call F) → IsSeenCall see Holds Within call seen
-    → (file : Result Tables (ℕ × Fault)) (old new : E) (reply : LineReply) → Holds old → Within new → Reads call old file reply new
+    → (file : Result Tables (ℕ × Flaw)) (old new : E) (reply : LineReply) → Holds old → Within new → Reads call old file reply new
     → Reads seen (see old) file reply (see new) × Holds new
 reads_seen see Holds Within call seen is (Ok set') old new reply holds within one = executes_seen see Holds Within call seen is old new (request.Switch set') reply holds within one
 reads_seen see Holds Within call seen is (Err fault) old new reply holds within one = ((one.0, ap see one.1), subst Holds (sym one.1) holds)

@@ -5,7 +5,7 @@ use Rattle.std.specs.List.{flat_map, list_any}
 use Rattle.std.specs.Io.KnownBytes.{Appends, Consumes, IsAtEnd}
 use Rattle.mgn_params.specs.Tables.{Tables}
 use Rattle.mgn_setfile.specs.File.{outcome, records_of}
-use Rattle.mgn_setfile.specs.Fields.{Fault}
+use Rattle.mgn_setfile.specs.Fields.{Flaw}
 use Rattle.mgn_machine.specs.declared.entry.Item.{Item}
 use Rattle.mgn_machine.specs.declared.reply.Refusal.TheVariants.{Memory, Full, Broken}
 use Rattle.mgn_machine.specs.declared.reply.Reply.{Reply}
@@ -65,7 +65,7 @@ abbrev pub Executes : {E : Type 0} → Call E → E → Request → LineReply �
 Executes call old request reply new = (answer : Answer) × (reply ≡ Answered answer) × call old request answer new
 
 -- of a file that is no set the first record that is wrong is told, without a call
-abbrev pub Reads : {E : Type 0} → Call E → E → Result Tables (ℕ × Fault) → LineReply → E → Type 0
+abbrev pub Reads : {E : Type 0} → Call E → E → Result Tables (ℕ × Flaw) → LineReply → E → Type 0
 Reads call old (Ok set) reply new = Executes call old (request.Switch set) reply new
 Reads call old (Err fault) reply new = (reply ≡ BadSet fault.0) × (new ≡ old)
 

@@ -1,10 +1,9 @@
 -- A text without quotes, carriage returns and byte order marks is plain: for `is_plain`.
-use Rattle.std.proofs.Common.{◌≡◌, ℕ, List, [], ◌∷◌, Bool, true, false, refl, sym, ap, ◌∙◌}
-use Rattle.std.specs.Prelude.{◌==◌, ◌&&◌, ◌||◌, not}
+use Rattle.std.proofs.Common.{◌≡◌, ℕ, List, [], ◌∷◌, Bool, true, false, refl, ap}
+use Rattle.std.specs.Prelude.{◌==◌, ◌&&◌, not}
 use Rattle.std.specs.List.{list_all, list_any, onto_first, slice_split}
-use Rattle.std.proofs.lemmas.Bool.{and_from, and_left, and_parts, not_from_false, or_parts}
+use Rattle.std.proofs.lemmas.Bool.{and_from, and_parts, not_from_false, or_parts}
 use Rattle.csv.specs.declared.parser.State.TheVariants as st
-use Rattle.csv.specs.Reading.{is_bom}
 use Rattle.mgn_setfile.specs.Plain.{has_mark, is_bare_byte, is_bare_text, is_closed, is_plain, is_plain_line, shape}
 use Rattle.mgn_setfile.proofs.ScanLemmas.{bare_line, none_of}
 

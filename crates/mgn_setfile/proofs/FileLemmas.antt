@@ -5,7 +5,7 @@ use Rattle.std.specs.List.{flat_map, slice_split}
 use Rattle.std.proofs.lemmas.List.{get_or-drop}
 use Rattle.mgn_setfile.specs.declared.draft.Draft.{Draft}
 use Rattle.mgn_params.specs.Tables.{Tables}
-use Rattle.mgn_setfile.specs.Fields.{Fault, Fields}
+use Rattle.mgn_setfile.specs.Fields.{Fields, Flaw}
 use Rattle.mgn_setfile.specs.File.{Record, drafted, judged, later_of, line_of_record, numbered, record_of_line, records_of, version_by, version_left}
 use Rattle.mgn_setfile.specs.Words.{numbered_record}
 use Rattle.mgn_setfile.specs.Lines.{lines_left}
@@ -24,7 +24,7 @@ next line left more e = rw (e, ← rest_of more) refl
 
 -- the version, from line to line
 
-keeps_version : (version : ℕ) (now : Result Tables Fault) (draft : Draft) → drafted version now ≡ Ok draft → Some version ≡ Some draft.version
+keeps_version : (version : ℕ) (now : Result Tables Flaw) (draft : Draft) → drafted version now ≡ Ok draft → Some version ≡ Some draft.version
 keeps_version version (Ok t) draft e = cc
 keeps_version version (Err fault) draft e = cc
 

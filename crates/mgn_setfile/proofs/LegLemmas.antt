@@ -9,7 +9,7 @@ use Rattle.std.proofs.lemmas.List.Elements.{All-from_recursion, recursion_from_A
 use Rattle.mgn_setfile.specs.declared.fault.Cause.TheVariants.{Memory}
 use Rattle.mgn_setfile.specs.declared.place.Field.TheVariants as field
 use Rattle.mgn_params.specs.declared.tables.Leg.{Leg}
-use Rattle.mgn_setfile.specs.Fields.{◌>>=◌, Fault, Fields, at, field_number, in_field}
+use Rattle.mgn_setfile.specs.Fields.{◌>>=◌, Fields, Flaw, at, field_number, in_field}
 use Rattle.mgn_params.specs.Limits.{IsLeg, IsSidedSpread}
 use Rattle.mgn_setfile.specs.Records.{FoundLeg, IsFoundLeg, credit_from, credit_row, has_side_a, has_side_b, kept_legs, known_legs, leg_from, legs_from, padded, repeat_place}
 use Rattle.mgn_params.specs.Tables.{Tables, is_side_a, is_side_b, no_leg}
@@ -80,7 +80,7 @@ all_differ before (g ∷ gs) e =
 
 -- what known legs are
 
-split_rest : (leg : Leg) (k : Result (List Leg) Fault) (legs : List Leg) → (k >>= λ rest. Ok (leg ∷ rest)) ≡ Ok legs → (rest : List Leg) × (k ≡ Ok rest) × (leg ∷ rest ≡ legs)
+split_rest : (leg : Leg) (k : Result (List Leg) Flaw) (legs : List Leg) → (k >>= λ rest. Ok (leg ∷ rest)) ≡ Ok legs → (rest : List Leg) × (k ≡ Ok rest) × (leg ∷ rest ≡ legs)
 split_rest leg (Ok rest) legs e = (rest, refl, cc)
 split_rest leg (Err c) legs e = cc
 
@@ -121,7 +121,7 @@ known_side_b n (leg ∷ found) legs e =
     let k = known_split n leg found legs e in
     rw (← k.2.first, known_side_b (n + 1) found k.1 k.2.rest_known) refl
 
-kept_split : (k : Result (List Leg) Fault) (row : List Leg) → (k >>= λ known. Ok (padded known)) ≡ Ok row → (legs : List Leg) × (k ≡ Ok legs) × (padded legs ≡ row)
+kept_split : (k : Result (List Leg) Flaw) (row : List Leg) → (k >>= λ known. Ok (padded known)) ≡ Ok row → (legs : List Leg) × (k ≡ Ok legs) × (padded legs ≡ row)
 kept_split (Ok legs) row e = (legs, refl, cc)
 kept_split (Err c) row e = cc
 
@@ -162,10 +162,10 @@ credit_is t r word words found row number all a b e =
     credit_from_parts t r word words found k.0 row number all a b k.1 k.2
 
 -- an answer that is what a definition gives
-pub ok_along : {X : Type 0} (r want : Result X Fault) → want ≡ r → IfOk r (λ x. want ≡ Ok x)
+pub ok_along : {X : Type 0} (r want : Result X Flaw) → want ≡ r → IfOk r (λ x. want ≡ Ok x)
 ok_along (Ok x) want e = e
 ok_along (Err c) want e = tt
 
-pub err_along : {X : Type 0} (r want : Result X Fault) → want ≡ r → IfErr r (λ c. (c.cause ≡ Memory) ⊎ (want ≡ Err c))
+pub err_along : {X : Type 0} (r want : Result X Flaw) → want ≡ r → IfErr r (λ c. (c.cause ≡ Memory) ⊎ (want ≡ Err c))
 err_along (Ok x) want e = tt
 err_along (Err c) want e = inr e

@@ -16,7 +16,7 @@ use Rattle.mgn_setfile.specs.declared.draft.SetFile.{SetFile}
 use Rattle.mgn_setfile.specs.declared.detail.Detail.TheVariants.{Second as Twice}
 use Rattle.mgn_setfile.specs.declared.fault.Cause.TheVariants.{Fields as WrongFields, Memory}
 use Rattle.mgn_setfile.specs.declared.fault.SetFault.{SetFault}
-use Rattle.mgn_setfile.specs.Fields.{Fault, Fields, whole}
+use Rattle.mgn_setfile.specs.Fields.{Fields, Flaw, whole}
 use Rattle.mgn_setfile.specs.File.{Record, fault_in, goes_on, judged, line_of_record, numbered, outcome, record_of_line, records_of, told, version_left}
 use Rattle.mgn_setfile.specs.Plain.{Gives, HasRead, TellsFault, given, unread}
 use Rattle.mgn_setfile.specs.Words.{detail_of, numbered_record}
@@ -152,7 +152,7 @@ known_left : (reader : Reader (Bor (List ℕ))) (ys : List ℕ) → source_of gi
 known_left reader ys e = rw e refl
 
 told_next : (later : List Record) (count : ℕ) (before : Option Draft) (f : Fields) (draft : Draft) → judged before (Some f) ≡ Ok draft → told (Some f ∷ later) count before ≡ told later (count + 1) (Some draft)
-told_next later count before f draft j = ap (λ (d : Result Draft Fault). goes_on d (λ k. told later (count + 1) (Some k)) (count + 1)) j
+told_next later count before f draft j = ap (λ (d : Result Draft Flaw). goes_on d (λ k. told later (count + 1) (Some k)) (count + 1)) j
 
 -- where a reader stands that has read one record more
 record IsNext (text : List ℕ) (last : List Record) (reader after : Reader (Bor (List ℕ))) (count : ℕ) (f : Fields) (zs : List ℕ) (n : ℕ) : Type 0 where
@@ -208,7 +208,7 @@ stops_on text last reader after before count f e has read why number line detail
     let n = next.1 in
     let rest = map Some (records_from default_config n after.state next.0) ++ last in
     let first = next.2.taken.first in
-    let stop = λ (j : judged before (Some f) ≡ Err (fault_in e)). ap (λ (d : Result Draft Fault). goes_on d (λ k. told rest (count + 1) (Some k)) (count + 1)) j in
+    let stop = λ (j : judged before (Some f) ≡ Err (fault_in e)). ap (λ (d : Result Draft Flaw). goes_on d (λ k. told rest (count + 1) (Some k)) (count + 1)) j in
     let row = record_is (records_of text) rest count (Some f) first in
     record {
       fault = elim why as (λ _. (e.cause ≡ Memory) ⊎ (outcome (records_of text) ≡ Err (e.number, fault_in e))) [

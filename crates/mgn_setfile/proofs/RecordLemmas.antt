@@ -3,17 +3,17 @@ use Rattle.std.proofs.Common.{◌≡◌, ℕ, ◌+◌, ◌<◌, ◌≤◌, List,
 use Rattle.std.specs.Prelude.{ℤ, ◌^◌}
 use Rattle.std.proofs.Math.Seq.{drop-cons}
 use Rattle.std.proofs.lemmas.List.{append-nil, drop_all, get_or-map, take_more_set}
-use Rattle.mgn_setfile.specs.Fields.{◌>>=◌, Fault, Fields, field_signed, in_field, whole}
+use Rattle.mgn_setfile.specs.Fields.{◌>>=◌, Fields, Flaw, field_signed, in_field, whole}
 use Rattle.mgn_setfile.specs.declared.place.Field.TheVariants as field
 use Rattle.mgn_setfile.specs.declared.fault.Cause.TheVariants.{Fields as WrongFields}
 use Rattle.mgn_setfile.specs.Records.{contract_after_names, values_from}
 use Rattle.mgn_params.specs.Tables.{Tables}
 
 -- a read that is fronted by what was read before
-abbrev pub fronted : {X : Type 0} → List X → Result (List X) Fault → Result (List X) Fault
+abbrev pub fronted : {X : Type 0} → List X → Result (List X) Flaw → Result (List X) Flaw
 fronted front r = r >>= λ xs. Ok (front ++ xs)
 
-pub fronted-more : {X : Type 0} (front : List X) (x : X) (r : Result (List X) Fault) → fronted front (r >>= λ xs. Ok (x ∷ xs)) ≡ fronted (front ++ x ∷ []) r
+pub fronted-more : {X : Type 0} (front : List X) (x : X) (r : Result (List X) Flaw) → fronted front (r >>= λ xs. Ok (x ∷ xs)) ≡ fronted (front ++ x ∷ []) r
 fronted-more front x (Ok xs) = ap Ok (sym (append_assoc front (x ∷ []) xs))
 fronted-more front x (Err e) = refl
 
@@ -24,7 +24,7 @@ values_more words i n m v array next h k e =
     let here : drop i words ≡ get_or words i [] ∷ drop (i + 1) words = rw add-one (drop-cons words i [] h) in
     rw (next, here, e, take_more_set array i v k) (fronted-more (take i array) v (values_from (n + 1) (drop (i + 1) words)))
 
-pub values_fail : (words : List (List ℕ)) (i n : ℕ) (c : Fault) (array : List ℤ) → i < length words → in_field (field.Contract n) (field_signed (10 ^ 8) (get_or words i [])) ≡ Err c → fronted (take i array) (values_from n (drop i words)) ≡ Err c
+pub values_fail : (words : List (List ℕ)) (i n : ℕ) (c : Flaw) (array : List ℤ) → i < length words → in_field (field.Contract n) (field_signed (10 ^ 8) (get_or words i [])) ≡ Err c → fronted (take i array) (values_from n (drop i words)) ≡ Err c
 values_fail words i n c array h e =
     let here : drop i words ≡ get_or words i [] ∷ drop (i + 1) words = rw add-one (drop-cons words i [] h) in
     rw (here, e) refl
@@ -39,7 +39,7 @@ pub now_at : (words : List (Bor (List ℕ))) (i : ℕ) (d : Bor (List ℕ)) → 
 now_at words i d h = sym (get_or-map (λ (s : Bor (List ℕ)). s.now) words i d [] h)
 
 -- a contract's record that ends before its array
-pub after_names_short : (t : Tables) (names : Result (List ℕ × List ℕ × ℕ) Fault) (fields : Fields) → length fields < 4 → contract_after_names t names fields ≡ Err (whole WrongFields)
+pub after_names_short : (t : Tables) (names : Result (List ℕ × List ℕ × ℕ) Flaw) (fields : Fields) → length fields < 4 → contract_after_names t names fields ≡ Err (whole WrongFields)
 unfolding contract_after_names
 after_names_short t names [] h = refl
 after_names_short t names (a ∷ []) h = refl

@@ -23,23 +23,23 @@ abbrev pub Fields : Type 0
 Fields = List (List ℕ)
 
 -- What is wrong with a record: a cause, and the field that has it, where it is one field's alone.
-abbrev pub Fault : Type 0
-Fault = RecordFault
+abbrev pub Flaw : Type 0
+Flaw = RecordFault
 
-abbrev pub at : Field → Cause → Fault
+abbrev pub at : Field → Cause → Flaw
 at field cause = record { field = Some field; cause = cause }
 
-abbrev pub whole : Cause → Fault
+abbrev pub whole : Cause → Flaw
 whole cause = record { field = None; cause = cause }
 
 -- what a field says, or its fault
-unfoldable pub in_field : {A : Type 0} → Field → Result A Cause → Result A Fault
+unfoldable pub in_field : {A : Type 0} → Field → Result A Cause → Result A Flaw
 in_field field (Ok x) = Ok x
 in_field field (Err cause) = Err (at field cause)
 
 -- one test after another: the first fault found is the record's
 infixl 10 ◌>>=◌
-abbrev pub ◌>>=◌ : {A B : Type 0} → Result A Fault → (A → Result B Fault) → Result B Fault
+abbrev pub ◌>>=◌ : {A B : Type 0} → Result A Flaw → (A → Result B Flaw) → Result B Flaw
 (Ok x) >>= f = f x
 (Err e) >>= f = Err e
 
@@ -91,14 +91,14 @@ unfoldable pub field_side : List ℕ → Result LegSide Cause
 field_side word = if bytes_eq word (codes "A") then Ok A else (if bytes_eq word (codes "B") then Ok B else Err Name)
 
 -- what earlier records give by a field
-abbrev pub known : {A : Type 0} → Field → Option A → Result A Fault
+abbrev pub known : {A : Type 0} → Field → Option A → Result A Flaw
 known field None = Err (at field Unknown)
 known field (Some x) = Ok x
 
 -- a row, where its table has room
-abbrev pub roomy : {A : Type 0} → Bool → A → Result A Fault
+abbrev pub roomy : {A : Type 0} → Bool → A → Result A Flaw
 roomy full row = if full then Err (whole Limit) else Ok row
 
 -- a row that no earlier record gives, by the field that names it, where its table has room
-abbrev pub fresh : {A : Type 0} → Field → Bool → Bool → A → Result A Fault
+abbrev pub fresh : {A : Type 0} → Field → Bool → Bool → A → Result A Flaw
 fresh field double full row = if double then Err (at field Double) else roomy full row

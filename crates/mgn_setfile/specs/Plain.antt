@@ -12,8 +12,8 @@ use Rattle.csv.specs.Reading.{Ready, default_config, is_bom, records, records_fr
 use Rattle.mgn_setfile.specs.declared.draft.Draft.{Draft}
 use Rattle.mgn_setfile.specs.declared.fault.Cause.TheVariants.{Memory}
 use Rattle.mgn_setfile.specs.declared.fault.SetFault.{SetFault}
-use Rattle.mgn_setfile.specs.declared.scan.Place.{Place}
-use Rattle.mgn_setfile.specs.declared.scan.Place.TheVariants as place
+use Rattle.mgn_setfile.specs.declared.scan.LinePart.{LinePart}
+use Rattle.mgn_setfile.specs.declared.scan.LinePart.TheVariants as part
 use Rattle.mgn_setfile.specs.declared.scan.Shape.{Shape}
 use Rattle.mgn_setfile.specs.declared.scan.Shape.TheVariants.{Closed, Open, Second}
 use Rattle.mgn_setfile.specs.File.{Record, fault_in, line_of_record, outcome, records_of, told, version_left, version_told}
@@ -40,14 +40,14 @@ shape s (b ∷ bs) = if is_end (step default_config s b).1 then shape_of_rest bs
 abbrev pub shape_after : State × Action → List ℕ → Shape
 shape_after x bs = if is_end x.1 then shape_of_rest bs else shape x.0 bs
 
-abbrev pub shape_from : Place → List ℕ → Shape
-shape_from place.Before bs = shape st.StartRecord bs
-shape_from place.Start bs = shape st.StartField bs
-shape_from place.Field bs = shape st.InField bs
-shape_from place.Quoted bs = shape st.InQuoted bs
-shape_from place.Quote bs = shape st.AfterQuote bs
-shape_from place.After bs = shape_of_rest bs
-shape_from place.Second bs = Second
+abbrev pub shape_from : LinePart → List ℕ → Shape
+shape_from part.Before bs = shape st.StartRecord bs
+shape_from part.Start bs = shape st.StartField bs
+shape_from part.Field bs = shape st.InField bs
+shape_from part.Quoted bs = shape st.InQuoted bs
+shape_from part.Quote bs = shape st.AfterQuote bs
+shape_from part.After bs = shape_of_rest bs
+shape_from part.Second bs = Second
 
 -- no quote, and of no end of line
 abbrev pub is_bare_byte : ℕ → Bool

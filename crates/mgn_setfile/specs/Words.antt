@@ -12,7 +12,7 @@ use Rattle.mgn_setfile.specs.declared.place.Field.{Field}
 use Rattle.mgn_setfile.specs.declared.place.Field.TheVariants as field
 use Rattle.mgn_params.specs.declared.tables.LegSide.{LegSide}
 use Rattle.mgn_params.specs.declared.tables.LegSide.TheVariants.{A, B}
-use Rattle.mgn_setfile.specs.Fields.{Fault, Fields}
+use Rattle.mgn_setfile.specs.Fields.{Fields, Flaw}
 use Rattle.mgn_setfile.specs.File.{Record}
 
 -- What is wrong with the fields of a record as a whole.
@@ -50,7 +50,7 @@ detail_by WrongFields None (Some fields) = misfit_of fields
 detail_by _ _ _ = None
 
 -- the detail of the fault of a record
-abbrev pub detail_of : Record → Fault → Option Detail
+abbrev pub detail_of : Record → Flaw → Option Detail
 detail_of r fault = detail_by fault.cause fault.field r
 
 -- the record of a number, from 1

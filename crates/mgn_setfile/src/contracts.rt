@@ -13,7 +13,7 @@ use crate::fields::{
 use crate::place::Field;
 use crate::rows::Rows;
 use mgn_ids::{CommodityName, ContractName};
-use mgn_params::{Contract, Kind, RiskArray, Style};
+use mgn_params::{Contract, Kind, MOST_CONTRACTS, MOST_CONTRACTS_EACH, RiskArray, Style};
 
 // The names of the contract and of its commodity, and the number of its month.
 #[tactic(auto, unfolding(crate::specs::Records::contract_names_from))]
@@ -96,7 +96,9 @@ fn contract_row(rows: &Rows, contract: &Contract) -> Result<Contract, RecordFaul
     if rows.set().has_contract(contract.name) {
         return Err(RecordFault::at(Field::Contract(2), Cause::Double));
     }
-    if rows.contracts_of(contract.commodity) >= 256 || rows.set().contract_count() >= 4096 {
+    if rows.contracts_of(contract.commodity) >= MOST_CONTRACTS_EACH
+        || rows.set().contract_count() >= MOST_CONTRACTS
+    {
         return Err(RecordFault::whole(Cause::Limit));
     }
     Ok(*contract)

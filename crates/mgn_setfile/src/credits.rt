@@ -9,7 +9,7 @@ ghost use Rattle.mgn_params.specs.Tables.{is_side_a, is_side_b, legs_of};
 use crate::fault::{Cause, RecordFault};
 use crate::fields::{read_commodity_name, read_number, read_side};
 use crate::place::Field;
-use mgn_params::{CreditSpread, Leg, LegSide, ParamSet};
+use mgn_params::{CreditSpread, Leg, LegSide, MOST_CREDIT_SPREADS, ParamSet};
 use std::alloc::Global;
 
 // A leg as its words say: where its commodity stands, if it is known, its side and its ratio.
@@ -144,7 +144,7 @@ fn credit_row(set: &ParamSet, spread: &CreditSpread) -> Result<CreditSpread, Rec
     if let Some(leg) = repeat_place(&spread.legs[..spread.count]) {
         return Err(RecordFault::at(commodity_field(leg), Cause::Double));
     }
-    if set.credits().len() >= 64 {
+    if set.credits().len() >= MOST_CREDIT_SPREADS {
         return Err(RecordFault::whole(Cause::Limit));
     }
     Ok(*spread)

@@ -8,7 +8,10 @@ use crate::fault::{Cause, RecordFault};
 use crate::fields::{read_class_name, read_commodity_name, read_number};
 use crate::place::Field;
 use crate::rows::Rows;
-use mgn_params::{Class, Commodity, Month, ParamSet};
+use mgn_params::{
+    Class, Commodity, MOST_CLASSES, MOST_COMMODITIES, MOST_MONTHS, MOST_MONTHS_EACH, Month,
+    ParamSet,
+};
 
 #[tactic(auto, unfolding(crate::specs::Records::commodity_from))]
 fn commodity_from(set: &ParamSet, name: &[u8], charge: &[u8]) -> Result<Commodity, RecordFault>
@@ -20,7 +23,7 @@ fn commodity_from(set: &ParamSet, name: &[u8], charge: &[u8]) -> Result<Commodit
     if set.has_commodity(name) {
         return Err(RecordFault::at(Field::Commodity(2), Cause::Double));
     }
-    if set.commodity_count() >= 256 {
+    if set.commodity_count() >= MOST_COMMODITIES {
         return Err(RecordFault::whole(Cause::Limit));
     }
     Ok(Commodity {
@@ -50,7 +53,7 @@ fn month_row(rows: &Rows, commodity: usize, number: u64, tier: u64) -> Result<Mo
     if rows.month(commodity, number).is_some() {
         return Err(RecordFault::at(Field::Month(3), Cause::Double));
     }
-    if rows.months_of(commodity) >= 64 || rows.set().month_count() >= 256 * 64 {
+    if rows.months_of(commodity) >= MOST_MONTHS_EACH || rows.set().month_count() >= MOST_MONTHS {
         return Err(RecordFault::whole(Cause::Limit));
     }
     Ok(Month {
@@ -94,7 +97,7 @@ fn class_row(set: &ParamSet, class: Class) -> Result<Class, RecordFault>
     if class.name.as_bytes() == b"CASH".as_slice() || set.has_class(class.name) {
         return Err(RecordFault::at(Field::Class(2), Cause::Double));
     }
-    if set.class_count() >= 16 {
+    if set.class_count() >= MOST_CLASSES {
         return Err(RecordFault::whole(Cause::Limit));
     }
     Ok(class)

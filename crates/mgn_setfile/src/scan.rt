@@ -21,7 +21,7 @@ pub(crate) enum Shape {
 
 // Where a byte of a line stands.
 #[derive(Clone, Copy, PartialEq, Eq, Debug)]
-enum Place {
+enum LinePart {
     // Before the record.
     Before,
     // At the start of a field.
@@ -39,42 +39,42 @@ enum Place {
 }
 
 // After a byte of a field that is not within quotes.
-fn after_field(byte: u8) -> Place
+fn after_field(byte: u8) -> LinePart
     ensures { (bs : List ℕ) → shape_from result bs ≡ shape_after (in_field default_config byte) bs }
 {
     match byte {
-        b',' => Place::Start,
-        b'\r' | b'\n' => Place::After,
-        _ => Place::Field,
+        b',' => LinePart::Start,
+        b'\r' | b'\n' => LinePart::After,
+        _ => LinePart::Field,
     }
 }
 
 // After the first byte of a field.
-fn after_start(byte: u8) -> Place
+fn after_start(byte: u8) -> LinePart
     ensures { (bs : List ℕ) → shape_from result bs ≡ shape_after (start_field default_config byte) bs }
 {
     match byte {
-        b'"' => Place::Quoted,
+        b'"' => LinePart::Quoted,
         _ => after_field(byte),
     }
 }
 
-impl Place {
+impl LinePart {
     ghost use Rattle.std.specs.Prelude.{◌≡◌, ◌∷◌, [], List, ℕ};
     ghost use Rattle.mgn_setfile.specs.Plain.{shape_from};
 
     // After one byte more.
-    fn after(self, byte: u8) -> Place
+    fn after(self, byte: u8) -> LinePart
         ensures { (bs : List ℕ) → shape_from result bs ≡ shape_from self (byte ∷ bs) }
     {
         match (self, byte) {
-            (Place::Before, b'\r' | b'\n') => Place::Before,
-            (Place::Before | Place::Start, _) => after_start(byte),
-            (Place::Quoted, b'"') => Place::Quote,
-            (Place::Quoted, _) | (Place::Quote, b'"') => Place::Quoted,
-            (Place::Field | Place::Quote, _) => after_field(byte),
-            (Place::After, b'\r') => Place::After,
-            (Place::After | Place::Second, _) => Place::Second,
+            (LinePart::Before, b'\r' | b'\n') => LinePart::Before,
+            (LinePart::Before | LinePart::Start, _) => after_start(byte),
+            (LinePart::Quoted, b'"') => LinePart::Quote,
+            (LinePart::Quoted, _) | (LinePart::Quote, b'"') => LinePart::Quoted,
+            (LinePart::Field | LinePart::Quote, _) => after_field(byte),
+            (LinePart::After, b'\r') => LinePart::After,
+            (LinePart::After | LinePart::Second, _) => LinePart::Second,
         }
     }
 
@@ -83,8 +83,8 @@ impl Place {
         ensures { result ≡ shape_from self [] }
     {
         match self {
-            Place::Quoted => Shape::Open,
-            Place::Second => Shape::Second,
+            LinePart::Quoted => Shape::Open,
+            LinePart::Second => Shape::Second,
             _ => Shape::Closed,
         }
     }
@@ -118,7 +118,7 @@ fn is_bare(line: &[u8]) -> bool
 fn scan(line: &[u8]) -> Shape
     ensures { result ≡ shape st.StartRecord line.now }
 {
-    let mut place = Place::Before;
+    let mut place = LinePart::Before;
     for byte in line {
         place = place.after(*byte);
     }

@@ -8,7 +8,7 @@ use crate::fault::{Cause, RecordFault};
 use crate::fields::{read_commodity_name, read_number};
 use crate::place::Field;
 use crate::rows::Rows;
-use mgn_params::{ParamSet, SpotCharge, Spread};
+use mgn_params::{MOST_SPREADS, MOST_SPREADS_EACH, ParamSet, SpotCharge, Spread};
 
 // A tier with its ratio, from a field on.
 #[tactic(auto, unfolding(crate::specs::Records::tier_from))]
@@ -27,7 +27,9 @@ fn spread_row(rows: &Rows, spread: Spread) -> Result<Spread, RecordFault>
     ensures value { result ≡ spread_row rows.now spread }
     ensures next { IfOk result (λ row. IsNextSpread rows.now row) }
 {
-    if rows.spreads_of(spread.commodity) >= 32 || rows.set().spreads().len() >= 256 * 32 {
+    if rows.spreads_of(spread.commodity) >= MOST_SPREADS_EACH
+        || rows.set().spreads().len() >= MOST_SPREADS
+    {
         return Err(RecordFault::whole(Cause::Limit));
     }
     Ok(spread)

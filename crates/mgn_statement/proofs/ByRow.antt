@@ -6,7 +6,7 @@ use Rattle.mgn_span.specs.Options.{net_option_value}
 use Rattle.mgn_span.specs.Positions.{positions}
 use Rattle.mgn_lots.specs.declared.lot.Lot.{Lot}
 use Rattle.mgn_lots.specs.Lots.{is_live}
-use Rattle.mgn_machine.specs.declared.reply.Figures.{Figures}
+use Rattle.mgn_machine.specs.declared.reply.UnitFigures.{UnitFigures}
 use Rattle.mgn_machine.specs.State.{State, AccountState}
 use Rattle.mgn_machine.specs.Portfolios.{OnlyLots, nets_of}
 use Rattle.mgn_machine.specs.Room.{requirement_of, worth_of}
@@ -17,7 +17,7 @@ use Rattle.mgn_unit.specs.Rows.{portfolio_of, row_of}
 use Rattle.mgn_statement.specs.Statement.{statement_by}
 
 -- a statement with these figures of its unit
-abbrev with_figures : Tables → State → AccountState → Figures → Told
+abbrev with_figures : Tables → State → AccountState → UnitFigures → Told
 with_figures set' s a figures = record {
   heading = record {
     account = a.name;
@@ -39,4 +39,4 @@ with_figures set' s a figures = record {
 pub told_by_row : (set' : Tables) (s : State) (a : AccountState)
     → statement_by set' s.version (slice_index_or s.origins a.origin no_origin) a (row_of set' s.accounts a.unit) ≡ statement_of set' s a
 unfolding portfolio_of worth_of requirement_of
-told_by_row set' s a = ap (λ (figures : Figures). with_figures set' s a figures) (figures_of_row set' s.accounts a.unit)
+told_by_row set' s a = ap (λ (figures : UnitFigures). with_figures set' s a figures) (figures_of_row set' s.accounts a.unit)

@@ -4,13 +4,10 @@ ghost use Rattle.mgn_params.specs.Shelves.{set_at};
 
 use crate::names::TableName;
 use boxcar::Pushed;
-use mgn_params::{ParamSet, PutFault, Version};
+use mgn_params::{MOST_SETS, ParamSet, PutFault, Version};
 use std::alloc::{AllocError, Global};
 use std::marker::{Model, PhantomData};
 use std::sync::Wait;
-
-/// How many sets there are at most: the first, and 64 put after it.
-const MOST_SETS: usize = 65;
 
 /// The sets that threads share. `SetTable::new(alloc)` makes one with no set. A set stays where it was put for as long as the
 /// table stands, whatever else is put.

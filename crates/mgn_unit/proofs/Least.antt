@@ -5,7 +5,7 @@ use Rattle.mgn_params.specs.Tables.{Tables}
 use Rattle.mgn_machine.specs.Portfolios.{Portfolio, OnlyLots, WithBuys, WithSales, WithAll}
 use Rattle.mgn_machine.specs.Room.{figures_of, least, least_of, requirement_of, room_of, unit_room, worth_of, lesser as lesser_portfolio}
 use Rattle.mgn_machine.specs.State.{AccountState}
-use Rattle.mgn_machine.specs.declared.reply.Figures.{Figures}
+use Rattle.mgn_machine.specs.declared.reply.UnitFigures.{UnitFigures}
 use Rattle.mgn_unit.specs.declared.row.PortfolioRow.{PortfolioRow}
 use Rattle.mgn_unit.specs.Rows.{least_portfolio, lesser, portfolio_of, portfolio_room, row_figures, row_of}
 
@@ -41,4 +41,4 @@ pub figures_of_row : (set' : Tables) (accounts : List AccountState) (u : ℕ) �
 unfolding portfolio_of worth_of requirement_of
 figures_of_row set' accounts u =
     let lots = portfolio_of set' accounts u OnlyLots in
-    ap (λ (x : PortfolioRow). let told : Figures = record { requirement = lots.requirement; exposure_requirement = x.requirement; value = lots.worth; exposure_value = x.worth; room = portfolio_room x } in told) (least_row set' accounts u)
+    ap (λ (x : PortfolioRow). let told : UnitFigures = record { requirement = lots.requirement; exposure_requirement = x.requirement; value = lots.worth; exposure_value = x.worth; room = portfolio_room x } in told) (least_row set' accounts u)

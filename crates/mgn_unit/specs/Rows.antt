@@ -8,7 +8,7 @@ use Rattle.mgn_nets.specs.declared.portfolios.Portfolios.{Portfolios}
 use Rattle.mgn_nets.specs.Portfolios.{UnitNets}
 use Rattle.mgn_unit.specs.declared.change.Change.{Change}
 use Rattle.mgn_unit.specs.declared.change.Gain.{Gain}
-use Rattle.mgn_machine.specs.declared.reply.Figures.{Figures}
+use Rattle.mgn_machine.specs.declared.reply.UnitFigures.{UnitFigures}
 use Rattle.mgn_unit.specs.declared.row.Row.{Row}
 use Rattle.mgn_unit.specs.declared.row.PortfolioRow.{PortfolioRow}
 use Rattle.mgn_machine.specs.State.{AccountState}
@@ -51,7 +51,7 @@ abbrev pub least_portfolio : Row → PortfolioRow
 least_portfolio row = lesser (lesser (lesser row.lots row.buys) row.sales) row.all
 
 -- the figures of a unit
-abbrev pub row_figures : Row → Figures
+abbrev pub row_figures : Row → UnitFigures
 row_figures row = record {
   requirement = row.lots.requirement;
   exposure_requirement = (least_portfolio row).requirement;

@@ -8,7 +8,7 @@ ghost use Rattle.mgn_unit.specs.Rows.{GainsAlike, IsRow, IsPortfolioRow, IsGain,
 use crate::change::{Change, Gain};
 use crate::prepared::required;
 use crate::row::{PortfolioRow, Priced, Row};
-use mgn_machine::Figures;
+use mgn_machine::UnitFigures;
 use mgn_nets::Nets;
 use mgn_num::Cents;
 use mgn_params::{ParamSet, Work};
@@ -251,12 +251,12 @@ impl Row {
     }
 
     /// The figures of the unit.
-    pub fn figures(&self, set: &ParamSet) -> Figures
+    pub fn figures(&self, set: &ParamSet) -> UnitFigures
         requires { IsRow set.now self.now }
         ensures { result ≡ row_figures self.now }
     {
         let least = self.least_portfolio(set);
-        Figures {
+        UnitFigures {
             requirement: self.lots.requirement,
             exposure_requirement: least.requirement,
             value: self.lots.worth,

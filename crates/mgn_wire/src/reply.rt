@@ -6,7 +6,7 @@ ghost use Rattle.mgn_wire.specs.Text.{fault_text, line_reply_of, lines_after, pl
 use crate::fault::{LineFault, Memory};
 use crate::statement::{line_count, print_statement};
 use itoa::Buffer;
-use mgn_machine::{Answer, Figures, NewSet, Refusal, Reply, Totals};
+use mgn_machine::{Answer, NewSet, Refusal, Reply, Totals, UnitFigures};
 use mgn_num::Cents;
 use std::alloc::AllocError;
 
@@ -117,7 +117,7 @@ pub(crate) fn print_field(cents: Cents, out: &mut Vec<u8>) -> Result<(), AllocEr
     cents.print(out)
 }
 
-pub(crate) fn print_figures(figures: &Figures, out: &mut Vec<u8>) -> Result<(), AllocError>
+pub(crate) fn print_figures(figures: &UnitFigures, out: &mut Vec<u8>) -> Result<(), AllocError>
     ensures ok { OnOk result (out.new.items ≡ out.old.items ++ figures_text figures.now) }
     ensures kept { take (length out.old.items) out.new.items ≡ out.old.items }
     ensures room { FitsIn 195 out.old out.new result }

@@ -25,20 +25,20 @@ use Rattle.mgn_plan.specs.declared.plans.Plan.{Plan}
 use Rattle.mgn_plan.specs.declared.plans.Plan.TheVariants.{Nothing, One, Two}
 use Rattle.mgn_plan.specs.Plans.{plan_of}
 use Rattle.mgn_world.specs.Claims.{HasPlan, IsAmong, IsReplayed, Rests, before_close}
-use Rattle.mgn_world.specs.declared.stages.Call.{Call}
-use Rattle.mgn_world.specs.declared.stages.Stage.{Stage}
-use Rattle.mgn_world.specs.declared.stages.Stage.TheVariants.{Idle, Held, Applied, Failed, Ended, Gathered}
-use Rattle.mgn_world.specs.Stages.{Gathering, View}
-use Rattle.mgn_world.specs.declared.stages.Seen.{Seen}
-use Rattle.mgn_world.specs.World.{World, are_fit, are_stale, desk_at, in_force, is_apart, is_done, is_fit, is_stale, lengthened, lock_at, placed, plan_units, planned, same_nets, seen_at, stage_at, stepped, unit_nets, units_of, with_stage}
-use Rattle.mgn_world.specs.Standing.{DeskOf, Good, HeldDesk, Owns, Sees, StageOf}
+use Rattle.mgn_world.specs.declared.phases.Call.{Call}
+use Rattle.mgn_world.specs.declared.phases.Phase.{Phase}
+use Rattle.mgn_world.specs.declared.phases.Phase.TheVariants.{Idle, Held, Applied, Failed, Ended, Gathered}
+use Rattle.mgn_world.specs.Phases.{Gathering, View}
+use Rattle.mgn_world.specs.declared.phases.Seen.{Seen}
+use Rattle.mgn_world.specs.World.{World, are_fit, are_stale, desk_at, in_force, is_apart, is_done, is_fit, is_stale, lengthened, lock_at, phase_at, placed, plan_units, planned, same_nets, seen_at, stepped, unit_nets, units_of, with_phase}
+use Rattle.mgn_world.specs.Standing.{DeskOf, Good, HeldDesk, Owns, PhaseOf, Sees}
 use Rattle.mgn_world.proofs.Desks.{plan_held}
 use Rattle.mgn_world.proofs.Effects.{Before, Outcome, outcome}
 use Rattle.mgn_world.proofs.Frames.{Change, good_after, owns_kept, rests_same}
 use Rattle.mgn_world.proofs.Locks.{lengthened_at, lengthened_long}
 use Rattle.mgn_register.proofs.Found.{test_passed}
 use Rattle.mgn_world.proofs.Replays.{run-done, run-switch}
-use Rattle.mgn_world.proofs.Simple.{held_desk, session, stage_in}
+use Rattle.mgn_world.proofs.Simple.{held_desk, phase_in, session}
 use Rattle.mgn_world.proofs.Stays.{plan_now, plan_open}
 use Rattle.mgn_world.proofs.Twins.{keeps-less, keeps-same}
 use Rattle.mgn_book.proofs.Switches.{last-set}
@@ -46,21 +46,21 @@ use Rattle.mgn_book.proofs.Switches.{last-set}
 pub before_step : (w : World) → Good w → Before (in_force w) w.state
 before_step w good = record { limits = good.limits w.state.version (omega (arith, good.replayed.shown)); known = good.known; housed = good.housed }
 
--- The world after a command, and after the stage of its session is set.
+-- The world after a command, and after the phase of its session is set.
 abbrev commanded : World → ℕ → Command → World
 commanded w p c = stepped w p (Do c) (step w.sets w.state (Do c))
 
 -- what a command of the session at a place leaves alone, where its units are this session's
-command_change : (w : World) (p : ℕ) (c : Command) (stages : List Stage) → Good w → ((u : ℕ) → IsAmong u (units_of w.state c) → lock_at w u ≡ Some p) → ((q : ℕ) → q ≢ p → slice_index_or stages q Idle ≡ stage_at w q)
-    → Change w (record (commanded w p c) { stages = stages }) p
-command_change w p c stages good mine same =
+command_change : (w : World) (p : ℕ) (c : Command) (phases : List Phase) → Good w → ((u : ℕ) → IsAmong u (units_of w.state c) → lock_at w u ≡ Some p) → ((q : ℕ) → q ≢ p → slice_index_or phases q Idle ≡ phase_at w q)
+    → Change w (record (commanded w p c) { phases = phases }) p
+command_change w p c phases good mine same =
     let after = step_under (in_force w) w.state c in
     let out = outcome (in_force w) w.state c (before_step w good) in
     record {
       version = omega (arith, keeps_version (in_force w) w.state c);
       sets_long = omega arith;
       sets = λ i inside. refl;
-      stages = same;
+      phases = same;
       locks = λ u q other e. lengthened_at after.0.units w.locks u ∙ e;
       locks_back = λ u q other e. sym (lengthened_at after.0.units w.locks u) ∙ e;
       rest = λ u n m. (lengthened_at after.0.units w.locks u, lengthened_at after.0.units w.desks u);
@@ -68,15 +68,15 @@ command_change w p c stages good mine same =
     }
 
 -- a command keeps the world good, where what is said of its own session and units is true
-good_commanded : (w : World) (p : ℕ) (c : Command) (stages : List Stage) → Good w → length w.history < 1000000 → ((u : ℕ) → IsAmong u (units_of w.state c) → lock_at w u ≡ Some p) → ((q : ℕ) → q ≢ p → slice_index_or stages q Idle ≡ stage_at w q)
-    → StageOf w.sets (step_under (in_force w) w.state c).0 (lengthened (step_under (in_force w) w.state c).0.units w.locks) p (slice_index_or stages p Idle)
-    → ((u : ℕ) → lock_at w u ≡ Some p → HeldDesk w.sets (step_under (in_force w) w.state c).0.accounts u (desk_at w u) (slice_index_or stages p Idle))
-    → Good (record (commanded w p c) { stages = stages })
-good_commanded w p c stages good few mine same own held =
+good_commanded : (w : World) (p : ℕ) (c : Command) (phases : List Phase) → Good w → length w.history < 1000000 → ((u : ℕ) → IsAmong u (units_of w.state c) → lock_at w u ≡ Some p) → ((q : ℕ) → q ≢ p → slice_index_or phases q Idle ≡ phase_at w q)
+    → PhaseOf w.sets (step_under (in_force w) w.state c).0 (lengthened (step_under (in_force w) w.state c).0.units w.locks) p (slice_index_or phases p Idle)
+    → ((u : ℕ) → lock_at w u ≡ Some p → HeldDesk w.sets (step_under (in_force w) w.state c).0.accounts u (desk_at w u) (slice_index_or phases p Idle))
+    → Good (record (commanded w p c) { phases = phases })
+good_commanded w p c phases good few mine same own held =
     let after = step_under (in_force w) w.state c in
-    let v : World = record (commanded w p c) { stages = stages } in
+    let v : World = record (commanded w p c) { phases = phases } in
     let out = outcome (in_force w) w.state c (before_step w good) in
-    good_after w v p good (command_change w p c stages good mine same)
+    good_after w v p good (command_change w p c phases good mine same)
     (run-done w.sets w.state w.history (p + 1) c good.replayed few)
     good.limits
     (subst (λ (n : ℕ). All (IsKnown (set_at w.sets n)) after.0.accounts) (sym (keeps_version (in_force w) w.state c)) out.known)
@@ -86,7 +86,7 @@ good_commanded w p c stages good few mine same own held =
     own
     (λ u h.
     let e : lock_at w u ≡ Some p = ⊎_elim (λ (x : lock_at w u ≡ Some p). x) (λ (x : lock_at v u ≡ Some p). sym (lengthened_at after.0.units w.locks u) ∙ x) h in
-    subst (λ (x : Option MarkedNets × Option ℕ). DeskOf w.sets after.0.accounts stages u x.0 x.1)
+    subst (λ (x : Option MarkedNets × Option ℕ). DeskOf w.sets after.0.accounts phases u x.0 x.1)
     (λ j. (sym (lengthened_at after.0.units w.desks u) j, sym (lengthened_at after.0.units w.locks u ∙ e) j)) (held u e))
 
 own_after : (w : World) (p : ℕ) (c : Command) → Good w → Owns w.locks w.state p c → Owns (lengthened (step_under (in_force w) w.state c).0.units w.locks) (step_under (in_force w) w.state c).0 p c
@@ -96,22 +96,22 @@ own_after w p c good own =
     (λ u e. lengthened_at after.0.units w.locks u ∙ e) (λ u e. sym (lengthened_at after.0.units w.locks u) ∙ e) own
 
 -- a command without units, at once
-pub good_at_once : (w : World) (p : ℕ) (c : Command) → Good w → stage_at w p ≡ Idle → units_of w.state c ≡ [] → length w.history < 1000000 → Good (commanded w p c)
+pub good_at_once : (w : World) (p : ℕ) (c : Command) → Good w → phase_at w p ≡ Idle → units_of w.state c ≡ [] → length w.history < 1000000 → Good (commanded w p c)
 good_at_once w p c good idle none few =
     let after = step_under (in_force w) w.state c in
-    good_commanded w p c w.stages good few (λ u h. absurd (subst (IsAmong u) none h)) (λ q other. refl)
-    (subst (StageOf w.sets after.0 (lengthened after.0.units w.locks) p) (sym idle) tt)
+    good_commanded w p c w.phases good few (λ u h. absurd (subst (IsAmong u) none h)) (λ q other. refl)
+    (subst (PhaseOf w.sets after.0 (lengthened after.0.units w.locks) p) (sym idle) tt)
     (λ u e. absurd (held_desk w p u Idle good idle e))
 
 -- a command of held units without a plan
-pub good_planless : (w : World) (p : ℕ) (k : Call) → Good w → stage_at w p ≡ Held k → plan_of (in_force w) w.state k.command ≡ Nothing → length w.history < 1000000 → Good (commanded w p k.command)
+pub good_planless : (w : World) (p : ℕ) (k : Call) → Good w → phase_at w p ≡ Held k → plan_of (in_force w) w.state k.command ≡ Nothing → length w.history < 1000000 → Good (commanded w p k.command)
 good_planless w p k good is nothing few =
     let c = k.command in
     let after = step_under (in_force w) w.state c in
     let out = outcome (in_force w) w.state c (before_step w good) in
     let ok = session w p (Held k) good is in
-    good_commanded w p c w.stages good few ok.0.all_of (λ q other. refl)
-    (subst (StageOf w.sets after.0 (lengthened after.0.units w.locks) p) (sym is) (own_after w p c good ok.0, omega (arith, ok.1, keeps_version (in_force w) w.state c)))
+    good_commanded w p c w.phases good few ok.0.all_of (λ q other. refl)
+    (subst (PhaseOf w.sets after.0 (lengthened after.0.units w.locks) p) (sym is) (own_after w p c good ok.0, omega (arith, ok.1, keeps_version (in_force w) w.state c)))
     (λ u e. subst (HeldDesk w.sets after.0.accounts u (desk_at w u)) (sym is)
     (rests_same w.sets w.state.accounts after.0.accounts u (desk_at w u) (λ t. out.same nothing t u) (held_desk w p u (Held k) good is e)))
 
@@ -164,7 +164,7 @@ fit_all w plan [] l same now has = refl
 fit_all w plan (u ∷ us) l same now has = (λ j. fit_at w plan u (desk_at w u) l same now (has u (inl refl)) j && are_fit w plan us) ∙ fit_all w plan us l same now (λ x h. has x (inr h))
 
 -- the desks of the plan have it
-pub has_plan : (w : World) (p : ℕ) (k : Call) (l : View) → Good w → stage_at w p ≡ Applied k l → (u : ℕ) → IsAmong u (plan_units l.plan) → HasPlan w.sets w.state.accounts l u (desk_at w u)
+pub has_plan : (w : World) (p : ℕ) (k : Call) (l : View) → Good w → phase_at w p ≡ Applied k l → (u : ℕ) → IsAmong u (plan_units l.plan) → HasPlan w.sets w.state.accounts l u (desk_at w u)
 has_plan w p k l good is u h = let ok = session w p (Applied k l) good is in held_desk w p u (Applied k l) good is (plan_held w p u k l ok.0 ok.1 h)
 
 some_unit : (plan : Plan) → plan ≢ Nothing → (u : ℕ) × IsAmong u (plan_units plan)
@@ -176,14 +176,14 @@ some_unit (Two u v) some = by (nat_lt v.unit u.unit)
     by true = (v.unit, inl refl)
     by false = (u.unit, inl refl)
 
-pub stale_passed : (w : World) (p : ℕ) (k : Call) (l : View) → Good w → stage_at w p ≡ Applied k l → are_stale w.state.version w.desks l.seen ≡ true → l.version < w.state.version
+pub stale_passed : (w : World) (p : ℕ) (k : Call) (l : View) → Good w → phase_at w p ≡ Applied k l → are_stale w.state.version w.desks l.seen ≡ true → l.version < w.state.version
 stale_passed w p k l good is e =
     let ok = session w p (Applied k l) good is in
     stale_seen l w.sets w.state.accounts w.state.version w.desks (plan_units l.plan) (set_at w.sets l.version) w.state.accounts (has_plan w p k l good is)
     (subst (λ (seen : List Seen). are_stale w.state.version w.desks seen ≡ true) ok.1.seen e)
 
 -- what was looked at under the version in force
-pub now_in_force : (w : World) (p : ℕ) (k : Call) (l : View) → Good w → stage_at w p ≡ Applied k l → are_stale w.state.version w.desks l.seen ≡ false → l.version ≡ w.state.version
+pub now_in_force : (w : World) (p : ℕ) (k : Call) (l : View) → Good w → phase_at w p ≡ Applied k l → are_stale w.state.version w.desks l.seen ≡ false → l.version ≡ w.state.version
 now_in_force w p k l good is e =
     let ok = session w p (Applied k l) good is in
     let u = some_unit l.plan ok.1.some in
@@ -191,7 +191,7 @@ now_in_force w p k l good is e =
     (subst (λ (seen : List Seen). are_stale w.state.version w.desks seen ≡ false) ok.1.seen e) in
     omega (arith, later, ok.1.version)
 
-pub never_apart : (w : World) (p : ℕ) (k : Call) (l : View) → Good w → stage_at w p ≡ Applied k l → are_stale w.state.version w.desks l.seen ≡ false → is_apart w (plan_of (in_force w) w.state k.command) ≡ false
+pub never_apart : (w : World) (p : ℕ) (k : Call) (l : View) → Good w → phase_at w p ≡ Applied k l → are_stale w.state.version w.desks l.seen ≡ false → is_apart w (plan_of (in_force w) w.state k.command) ≡ false
 never_apart w p k l good is e =
     let ok = session w p (Applied k l) good is in
     let now = now_in_force w p k l good is e in
@@ -203,7 +203,7 @@ never_apart w p k l good is e =
     (plan_now (in_force w) w.state k.command)
 
 -- after a command that is done the desks of its plan have the unit's nets
-pub settled : (w : World) (p u : ℕ) (k : Call) (l : View) (d : Option MarkedNets) → Good w → stage_at w p ≡ Applied k l → l.version ≡ w.state.version → is_done (step_under (in_force w) w.state k.command).1 ≡ true → HasPlan w.sets w.state.accounts l u d
+pub settled : (w : World) (p u : ℕ) (k : Call) (l : View) (d : Option MarkedNets) → Good w → phase_at w p ≡ Applied k l → l.version ≡ w.state.version → is_done (step_under (in_force w) w.state k.command).1 ≡ true → HasPlan w.sets w.state.accounts l u d
     → Rests w.sets (step_under (in_force w) w.state k.command).0.accounts u d
 settled w p u k l None good is now done h = absurd h
 settled w p u k l (Some m) good is now done h =
@@ -218,7 +218,7 @@ settled w p u k l (Some m) good is now done h =
     )
 
 -- a command with a plan, done or refused
-pub good_placed : (w : World) (p : ℕ) (k : Call) (l : View) → Good w → stage_at w p ≡ Applied k l → p < length w.stages → length w.history < 1000000 → are_stale w.state.version w.desks l.seen ≡ false → Good (placed w p k l (step w.sets w.state (Do k.command)))
+pub good_placed : (w : World) (p : ℕ) (k : Call) (l : View) → Good w → phase_at w p ≡ Applied k l → p < length w.phases → length w.history < 1000000 → are_stale w.state.version w.desks l.seen ≡ false → Good (placed w p k l (step w.sets w.state (Do k.command)))
 good_placed w p k l good is there few fresh = by (is_done (step_under (in_force w) w.state k.command).1) refl
   where
     after : State × Reply
@@ -233,15 +233,15 @@ good_placed w p k l good is there few fresh = by (is_done (step_under (in_force 
     own : Owns (lengthened after.0.units w.locks) after.0 p k.command
     own = own_after w p k.command good ok.0
 
-    in_stage : (st : Stage) → StageOf w.sets after.0 (lengthened after.0.units w.locks) p st → ((u : ℕ) → lock_at w u ≡ Some p → HeldDesk w.sets after.0.accounts u (desk_at w u) st) → Good (with_stage (commanded w p k.command) p st)
-    in_stage st mine held = good_commanded w p k.command (slice_set w.stages p st) good few ok.0.all_of (λ q other. get_or-set_other w.stages p q st Idle other)
-        (stage_in w.stages p st w.sets after.0 (lengthened after.0.units w.locks) there mine)
-        (λ u e. subst (HeldDesk w.sets after.0.accounts u (desk_at w u)) (sym (get_or-set_same w.stages p st Idle there)) (held u e))
+    in_phase : (st : Phase) → PhaseOf w.sets after.0 (lengthened after.0.units w.locks) p st → ((u : ℕ) → lock_at w u ≡ Some p → HeldDesk w.sets after.0.accounts u (desk_at w u) st) → Good (with_phase (commanded w p k.command) p st)
+    in_phase st mine held = good_commanded w p k.command (slice_set w.phases p st) good few ok.0.all_of (λ q other. get_or-set_other w.phases p q st Idle other)
+        (phase_in w.phases p st w.sets after.0 (lengthened after.0.units w.locks) there mine)
+        (λ u e. subst (HeldDesk w.sets after.0.accounts u (desk_at w u)) (sym (get_or-set_same w.phases p st Idle there)) (held u e))
 
-    by : (b : Bool) → is_done after.1 ≡ b → Good (with_stage (commanded w p k.command) p (if b then Ended k else Failed k l false))
-    by true e = in_stage (Ended k) (own, omega (arith, ok.1.looks, ok.1.version, keeps_version (in_force w) w.state k.command))
+    by : (b : Bool) → is_done after.1 ≡ b → Good (with_phase (commanded w p k.command) p (if b then Ended k else Failed k l false))
+    by true e = in_phase (Ended k) (own, omega (arith, ok.1.looks, ok.1.version, keeps_version (in_force w) w.state k.command))
         (λ u x. settled w p u k l (desk_at w u) good is (now_in_force w p k l good is fresh) e (held_desk w p u (Applied k l) good is x))
-    by false e = in_stage (Failed k l false) (own, subst (λ (s : State). Sees w.sets s k l) (sym (out.refused e)) ok.1, tt)
+    by false e = in_phase (Failed k l false) (own, subst (λ (s : State). Sees w.sets s k l) (sym (out.refused e)) ok.1, tt)
         (λ u x. subst (λ (s : State). HasPlan w.sets s.accounts l u (desk_at w u)) (sym (out.refused e)) (held_desk w p u (Applied k l) good is x))
 
 -- A switch
@@ -263,7 +263,7 @@ limits_more sets t limits last i inside = by (nat_lt i (length sets)) refl
         let same : length sets ≡ i = omega (arith, more, inside, length-append sets (t ∷ [])) in
         subst IsWithinLimits (sym (last-set sets t i same)) last
 
-good_switched : (w : World) (p : ℕ) (g : Gathering) (r : Result (Unit {0}) Refusal) → set_fits g.set w.state ≡ r → Good w → stage_at w p ≡ Gathered g → length w.history < 1000000
+good_switched : (w : World) (p : ℕ) (g : Gathering) (r : Result (Unit {0}) Refusal) → set_fits g.set w.state ≡ r → Good w → phase_at w p ≡ Gathered g → length w.history < 1000000
     → IsReplayed (stepped w p (Switch g.set) (switched w.state (on_call g.set w.state.accounts w.state.units) r)) → Good (stepped w p (Switch g.set) (switched w.state (on_call g.set w.state.accounts w.state.units) r))
 good_switched w p g (Ok done) fits good is few replayed =
     let v = stepped w p (Switch g.set) (switched w.state (on_call g.set w.state.accounts w.state.units) (Ok done)) in
@@ -272,7 +272,7 @@ good_switched w p g (Ok done) fits good is few replayed =
       version = omega arith;
       sets_long = omega (arith, long);
       sets = λ i inside. get_or_append_left w.sets (g.set ∷ []) (no_tables []) i inside;
-      stages = λ q other. refl;
+      phases = λ q other. refl;
       locks = λ u q other e. lengthened_at w.state.units w.locks u ∙ e;
       locks_back = λ u q other e. sym (lengthened_at w.state.units w.locks u) ∙ e;
       rest = λ u n m. (lengthened_at w.state.units w.locks u, lengthened_at w.state.units w.desks u);
@@ -283,7 +283,7 @@ good_switched w p g (Ok done) fits good is few replayed =
     record { accounts = good.housed.accounts; origins = good.housed.origins }
     (lengthened_long w.state.units w.desks (omega (arith, good.desks_long)))
     (lengthened_long w.state.units w.locks (omega (arith, good.locks_long)))
-    (subst (StageOf (w.sets ++ g.set ∷ []) (record w.state { version = w.state.version + 1 }) (lengthened w.state.units w.locks) p) (sym is) (session w p (Gathered g) good is))
+    (subst (PhaseOf (w.sets ++ g.set ∷ []) (record w.state { version = w.state.version + 1 }) (lengthened w.state.units w.locks) p) (sym is) (session w p (Gathered g) good is))
     (λ u h. absurd (held_desk w p u (Gathered g) good is (⊎_elim (λ (x : lock_at w u ≡ Some p). x) (λ (x : lock_at v u ≡ Some p). sym (lengthened_at w.state.units w.locks u) ∙ x) h)))
 good_switched w p g (Err why) fits good is few replayed =
     let v = stepped w p (Switch g.set) (switched w.state (on_call g.set w.state.accounts w.state.units) (Err why)) in
@@ -291,7 +291,7 @@ good_switched w p g (Err why) fits good is few replayed =
       version = omega arith;
       sets_long = omega arith;
       sets = λ i inside. refl;
-      stages = λ q other. refl;
+      phases = λ q other. refl;
       locks = λ u q other e. lengthened_at w.state.units w.locks u ∙ e;
       locks_back = λ u q other e. sym (lengthened_at w.state.units w.locks u) ∙ e;
       rest = λ u n m. (lengthened_at w.state.units w.locks u, lengthened_at w.state.units w.desks u);
@@ -300,8 +300,8 @@ good_switched w p g (Err why) fits good is few replayed =
     replayed good.limits good.known good.housed
     (lengthened_long w.state.units w.desks (omega (arith, good.desks_long)))
     (lengthened_long w.state.units w.locks (omega (arith, good.locks_long)))
-    (subst (StageOf w.sets w.state (lengthened w.state.units w.locks) p) (sym is) (session w p (Gathered g) good is))
+    (subst (PhaseOf w.sets w.state (lengthened w.state.units w.locks) p) (sym is) (session w p (Gathered g) good is))
     (λ u h. absurd (held_desk w p u (Gathered g) good is (⊎_elim (λ (x : lock_at w u ≡ Some p). x) (λ (x : lock_at v u ≡ Some p). sym (lengthened_at w.state.units w.locks u) ∙ x) h)))
 
-pub good_switch : (w : World) (p : ℕ) (g : Gathering) → Good w → stage_at w p ≡ Gathered g → length w.history < 1000000 → Good (stepped w p (Switch g.set) (step w.sets w.state (Switch g.set)))
+pub good_switch : (w : World) (p : ℕ) (g : Gathering) → Good w → phase_at w p ≡ Gathered g → length w.history < 1000000 → Good (stepped w p (Switch g.set) (step w.sets w.state (Switch g.set)))
 good_switch w p g good is few = good_switched w p g (set_fits g.set w.state) refl good is few (run-switch w.sets w.state w.history (p + 1) g.set good.replayed few)

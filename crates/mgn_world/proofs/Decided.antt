@@ -29,14 +29,14 @@ use Rattle.mgn_book.specs.declared.by_desks.Decision.{Decision}
 use Rattle.mgn_book.specs.declared.by_desks.Decision.TheVariants.{Apart, Done, Full, Memory, Stale}
 use Rattle.mgn_world.specs.Claims.{HasPlan, IsAmong, before_close}
 use Rattle.mgn_world.specs.Decisions.{Decides}
-use Rattle.mgn_world.specs.declared.stages.Call.{Call}
-use Rattle.mgn_world.specs.declared.stages.Stage.{Stage}
-use Rattle.mgn_world.specs.declared.stages.Stage.TheVariants.{Applied, Idle}
-use Rattle.mgn_world.specs.declared.kept.Kept.{Kept}
+use Rattle.mgn_world.specs.declared.phases.Call.{Call}
+use Rattle.mgn_world.specs.declared.phases.Phase.{Phase}
+use Rattle.mgn_world.specs.declared.phases.Phase.TheVariants.{Applied, Idle}
+use Rattle.mgn_world.specs.declared.state.WorldState.{WorldState}
 use Rattle.mgn_world.specs.DeskMoves.{AreDesks, IsRightIn, desk_shown}
-use Rattle.mgn_world.specs.Stages.{View}
+use Rattle.mgn_world.specs.Phases.{View}
 use Rattle.mgn_world.specs.Standing.{Good}
-use Rattle.mgn_world.specs.World.{are_stale, desk_at, is_stale, plan_units, planned, seen_at, stage_at}
+use Rattle.mgn_world.specs.World.{are_stale, desk_at, is_stale, phase_at, plan_units, planned, seen_at}
 use Rattle.mgn_world.specs.Worlds.{CanFollowPlan, IsSeen, IsSound, shown}
 use Rattle.mgn_world.proofs.Commits.{has_plan, never_apart, now_in_force, pointwise_same}
 use Rattle.mgn_world.proofs.Desks.{in_two}
@@ -44,7 +44,7 @@ use Rattle.mgn_world.proofs.Ready.{has_nets, other_nets, own_nets}
 use Rattle.mgn_pricing.proofs.Fitting.{default-is}
 use Rattle.mgn_world.proofs.Looking.{order_in}
 use Rattle.mgn_world.proofs.Simple.{session}
-use Rattle.mgn_world.proofs.Sounds.{of_stage}
+use Rattle.mgn_world.proofs.Sounds.{of_phase}
 use Rattle.mgn_world.proofs.Stays.{plan_now}
 
 -- The desks of an applied plan are there, and right.
@@ -63,7 +63,7 @@ two_among l u v e = let both = in_two (nat_lt v.unit u.unit) u.unit v.unit in (
   subst (λ (x : Plan). IsAmong v.unit (plan_units x)) (sym e) both.1,
 )
 
-pub planned_inside : (w : Kept) (p : ℕ) (k : Call) (l : View) (u : ℕ) → Good (shown w) → stage_at (shown w) p ≡ Applied k l → IsAmong u (plan_units l.plan) → u < length w.desks.items
+pub planned_inside : (w : WorldState) (p : ℕ) (k : Call) (l : View) (u : ℕ) → Good (shown w) → phase_at (shown w) p ≡ Applied k l → IsAmong u (plan_units l.plan) → u < length w.desks.items
 planned_inside w p k l u good is among = has_inside w.shelf w.book.book.state.accounts l u w.desks.items u (has_plan (shown w) p k l good is u among)
 
 right_of : (sets : List Tables) (version : ℕ) (m : Option Marked) → IsRightIn sets m → IsRight (set_at sets version) version m
@@ -82,13 +82,13 @@ all_two P x y h k zero d inside = h
 all_two P x y h k (suc zero) d inside = k
 all_two P x y h k (suc (suc i)) d inside = absurd (omega (arith, inside))
 
-stage_some : (stages : List Stage) (p : ℕ) (k : Call) (l : View) → slice_index_or stages p Idle ≡ Applied k l → p < length stages
-stage_some [] p k l e = cc
-stage_some (st ∷ stages) zero k l e = omega arith
-stage_some (st ∷ stages) (suc p) k l e = let less = stage_some stages p k l e in omega (arith, less)
+phase_some : (phases : List Phase) (p : ℕ) (k : Call) (l : View) → slice_index_or phases p Idle ≡ Applied k l → p < length phases
+phase_some [] p k l e = cc
+phase_some (st ∷ phases) zero k l e = omega arith
+phase_some (st ∷ phases) (suc p) k l e = let less = phase_some phases p k l e in omega (arith, less)
 
-pub stage_seen : (w : Kept) (p : ℕ) (k : Call) (l : View) → IsSound w → stage_at (shown w) p ≡ Applied k l → IsSeen w.shelf (length w.desks.items) l
-stage_seen w p k l sound is = of_stage w.shelf (length w.desks.items) w.stages.items p (Applied k l) (stage_some w.stages.items p k l is) sound.stages is
+pub phase_seen : (w : WorldState) (p : ℕ) (k : Call) (l : View) → IsSound w → phase_at (shown w) p ≡ Applied k l → IsSeen w.shelf (length w.desks.items) l
+phase_seen w p k l sound is = of_phase w.shelf (length w.desks.items) w.phases.items p (Applied k l) (phase_some w.phases.items p k l is) sound.phases is
 
 -- They fit.
 
@@ -107,15 +107,15 @@ fits_marked version nets (Some m) e =
     ∙ ap (λ (n : UnitNets). same_four n nets) (ap (λ (x : MarkedNets). x.nets) of) ∙ four_same nets
 
 -- the two units of a plan are two
-two_apart : (w : Kept) (p : ℕ) (k : Call) (l : View) (u v : UnitChange) → Good (shown w) → IsSound w → stage_at (shown w) p ≡ Applied k l → l.plan ≡ Two u v → v.unit ≢ u.unit
+two_apart : (w : WorldState) (p : ℕ) (k : Call) (l : View) (u v : UnitChange) → Good (shown w) → IsSound w → phase_at (shown w) p ≡ Applied k l → l.plan ≡ Two u v → v.unit ≢ u.unit
 two_apart w p k l u v good sound is e =
-    (subst (CanFollowPlan (set_at w.shelf l.version) l.seen) e (stage_seen w p k l sound is).plan).2
+    (subst (CanFollowPlan (set_at w.shelf l.version) l.seen) e (phase_seen w p k l sound is).plan).2
 
 -- the desks that are given are those of the plan's units
 abbrev AreGiven : List DeskRows → List DeskRows → List ℕ → Type 0
 AreGiven given desks us = (u : ℕ) (d : DeskRows) → IsAmong u us → desk_of u given ≡ (slice_index_or desks u d).marked
 
-fits_now : (w : Kept) (p : ℕ) (k : Call) (l : View) (given : List DeskRows) → Good (shown w) → IsSound w → stage_at (shown w) p ≡ Applied k l → l.version ≡ w.book.book.state.version → AreGiven given w.desks.items (plan_units l.plan) → fit_now w.shelf w.book k.command given ≡ true
+fits_now : (w : WorldState) (p : ℕ) (k : Call) (l : View) (given : List DeskRows) → Good (shown w) → IsSound w → phase_at (shown w) p ≡ Applied k l → l.version ≡ w.book.book.state.version → AreGiven given w.desks.items (plan_units l.plan) → fit_now w.shelf w.book k.command given ≡ true
 fits_now w p k l given good sound is now are = ⊎_elim
     (λ (same : plan_of t s k.command ≡ plan_of t (before_close s) k.command).
     let looked : plan_of t s k.command ≡ l.plan = same ∙ ap (λ (n : ℕ). plan_of (set_at w.shelf n) (before_close s) k.command) (sym now) ∙ (session (shown w) p (Applied k l) good is).1.plan in
@@ -167,7 +167,7 @@ not_full n e = grind (arith, nat_tests)
 clash : {X : Type 0} (b : Bool) → b ≡ true → b ≡ false → X
 clash b x y = let z : true ≡ false = sym x ∙ y in cc
 
-decided_by : (w : Kept) (p : ℕ) (k : Call) (l : View) (given : List DeskRows) (decision : Decision) (new : BookView) → Good (shown w) → IsSound w → stage_at (shown w) p ≡ Applied k l
+decided_by : (w : WorldState) (p : ℕ) (k : Call) (l : View) (given : List DeskRows) (decision : Decision) (new : BookView) → Good (shown w) → IsSound w → phase_at (shown w) p ≡ Applied k l
     → is_one_older w.book.book.state.version given ≡ are_stale w.book.book.state.version (map desk_shown w.desks.items) l.seen → AreGiven given w.desks.items (plan_units l.plan) → Stands w.shelf new
     → CommittedBy w.shelf w.book (p + 1) (calls (p + 1) w.book.history + 1) k.command given decision new → Decides (shown w) p k l decision w.book new
 decided_by w p k l given Full new good sound is older are stands h = (h.0, full (length w.book.history) h.1)
@@ -208,7 +208,7 @@ found_next u d rest n = ap (λ (b : Bool). marked_in (cond b (Some d) (find (λ 
 numbered : (sets : List Tables) (desks : List DeskRows) (u : ℕ) (d : DeskRows) → AreDesks sets desks → u < length desks → d ≡ slice_index_or desks u d → d.unit ≡ u
 numbered sets desks u d are inside e = ap (λ (x : DeskRows). x.unit) e ∙ are.numbered u d inside
 
-pub decided_one : (w : Kept) (p : ℕ) (k : Call) (l : View) (u : UnitChange) (d : DeskRows) (decision : Decision) (new : BookView) → Good (shown w) → IsSound w → stage_at (shown w) p ≡ Applied k l → l.plan ≡ One u → d ≡ slice_index_or w.desks.items u.unit d → Stands w.shelf new
+pub decided_one : (w : WorldState) (p : ℕ) (k : Call) (l : View) (u : UnitChange) (d : DeskRows) (decision : Decision) (new : BookView) → Good (shown w) → IsSound w → phase_at (shown w) p ≡ Applied k l → l.plan ≡ One u → d ≡ slice_index_or w.desks.items u.unit d → Stands w.shelf new
     → CommittedBy w.shelf w.book (p + 1) (calls (p + 1) w.book.history + 1) k.command (d ∷ []) decision new → Decides (shown w) p k l decision w.book new
 decided_one w p k l u d decision new good sound is one desk stands h = decided_by w p k l (d ∷ []) decision new good sound is older given stands h
   where
@@ -225,7 +225,7 @@ decided_one w p k l u d decision new good sound is one desk stands h = decided_b
         (λ x e among. ⊎_elim (λ (same : x ≡ u.unit). found_first x d [] (numbered w.shelf w.desks.items u.unit d sound.desks inside desk ∙ sym same)
         ∙ own_desk w.desks.items u.unit d e inside desk ∙ ap (λ (i : ℕ). (slice_index_or w.desks.items i e).marked) (sym same)) (λ (no : ⊥). absurd no) among)
 
-pub decided_two : (w : Kept) (p : ℕ) (k : Call) (l : View) (u v : UnitChange) (d c : DeskRows) (decision : Decision) (new : BookView) → Good (shown w) → IsSound w → stage_at (shown w) p ≡ Applied k l → l.plan ≡ Two u v → d ≡ slice_index_or w.desks.items u.unit d → c ≡ slice_index_or w.desks.items v.unit c → Stands w.shelf new
+pub decided_two : (w : WorldState) (p : ℕ) (k : Call) (l : View) (u v : UnitChange) (d c : DeskRows) (decision : Decision) (new : BookView) → Good (shown w) → IsSound w → phase_at (shown w) p ≡ Applied k l → l.plan ≡ Two u v → d ≡ slice_index_or w.desks.items u.unit d → c ≡ slice_index_or w.desks.items v.unit c → Stands w.shelf new
     → CommittedBy w.shelf w.book (p + 1) (calls (p + 1) w.book.history + 1) k.command (d ∷ c ∷ []) decision new → Decides (shown w) p k l decision w.book new
 decided_two w p k l u v d c decision new good sound is two first second stands h = decided_by w p k l (d ∷ c ∷ []) decision new good sound is older given stands h
   where
@@ -273,15 +273,15 @@ decided_two w p k l u v d c decision new good sound is two first second stands h
         (λ x e among. ⊎_elim (of_first x e) (of_second x e) (order_in (nat_lt v.unit u.unit) u.unit v.unit x among))
 
 -- what was asked, as the code hands it on
-abbrev pub plan_or : View → Stage → Plan
+abbrev pub plan_or : View → Phase → Plan
 plan_or m (Applied k l) = l.plan
 plan_or m _ = m.plan
 
-abbrev pub command_or : Call → Stage → Command
+abbrev pub command_or : Call → Phase → Command
 command_or m (Applied k l) = k.command
 command_or m _ = m.command
 
-pub as_asked : (w : Kept) (p : ℕ) (k : Call) (given : List DeskRows) (session number : ℕ) (command : Command) (decision : Decision) (new : BookView) → session ≡ p + 1 → number ≡ calls session w.book.history + 1 → command ≡ k.command
+pub as_asked : (w : WorldState) (p : ℕ) (k : Call) (given : List DeskRows) (session number : ℕ) (command : Command) (decision : Decision) (new : BookView) → session ≡ p + 1 → number ≡ calls session w.book.history + 1 → command ≡ k.command
     → CommittedBy w.shelf w.book session number command given decision new → CommittedBy w.shelf w.book (p + 1) (calls (p + 1) w.book.history + 1) k.command given decision new
 as_asked w p k given session number command decision new s n c h =
     subst (λ (x : Command). CommittedBy w.shelf w.book (p + 1) (calls (p + 1) w.book.history + 1) x given decision new) c

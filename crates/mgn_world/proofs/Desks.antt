@@ -17,13 +17,13 @@ use Rattle.mgn_plan.specs.Plans.{moved_nets, nets_by, planned_nets}
 use Rattle.mgn_unit.specs.Rows.{nets_in, row_of}
 use Rattle.mgn_pricing.specs.Desks.{moves_of}
 use Rattle.mgn_world.specs.Claims.{HasPlan, IsAmong, Rests}
-use Rattle.mgn_world.specs.declared.stages.Call.{Call}
-use Rattle.mgn_world.specs.declared.stages.Stage.{Stage}
-use Rattle.mgn_world.specs.declared.stages.Stage.TheVariants.{Idle, Held, Looked, Applied, Failed, Ended}
-use Rattle.mgn_world.specs.Stages.{View}
-use Rattle.mgn_world.specs.declared.stages.Seen.{Seen}
-use Rattle.mgn_world.specs.World.{World, are_of, desk_at, desks_with, desks_without, in_order, is_of, lock_at, mark_first, plan_units, planned_desks, seen_at, stage_at, unit_nets, unplanned_desks}
-use Rattle.mgn_world.specs.Standing.{Good, HeldDesk, IsPassed, Owns, Sees, StageOf}
+use Rattle.mgn_world.specs.declared.phases.Call.{Call}
+use Rattle.mgn_world.specs.declared.phases.Phase.{Phase}
+use Rattle.mgn_world.specs.declared.phases.Phase.TheVariants.{Idle, Held, Looked, Applied, Failed, Ended}
+use Rattle.mgn_world.specs.Phases.{View}
+use Rattle.mgn_world.specs.declared.phases.Seen.{Seen}
+use Rattle.mgn_world.specs.World.{World, are_of, desk_at, desks_with, desks_without, in_order, is_of, lock_at, mark_first, phase_at, plan_units, planned_desks, seen_at, unit_nets, unplanned_desks}
+use Rattle.mgn_world.specs.Standing.{Good, HeldDesk, IsPassed, Owns, PhaseOf, Sees}
 use Rattle.mgn_world.proofs.Frames.{view_inside, view_units}
 use Rattle.mgn_world.proofs.Locks.{both_true, lock_inside}
 use Rattle.mgn_world.proofs.Simple.{good_desks, held_desk, session}
@@ -40,14 +40,14 @@ desk_inside w p u good e = let less = lock_inside w.locks u p e in omega (arith,
 
 -- Mark
 
-same_stage : (w : World) (p : ℕ) (st : Stage) → stage_at w p ≡ st → slice_set w.stages p st ≡ w.stages
-same_stage w p st is = ap (λ (x : Stage). slice_set w.stages p x) (sym is) ∙ set-get_or w.stages p Idle
+same_phase : (w : World) (p : ℕ) (st : Phase) → phase_at w p ≡ st → slice_set w.phases p st ≡ w.phases
+same_phase w p st is = ap (λ (x : Phase). slice_set w.phases p x) (sym is) ∙ set-get_or w.phases p Idle
 
 -- one desk set to the looked version
-good_marked : (w : World) (p u : ℕ) (k : Call) (l : View) → Good w → stage_at w p ≡ Looked k l → p < length w.stages → lock_at w u ≡ Some p
+good_marked : (w : World) (p u : ℕ) (k : Call) (l : View) → Good w → phase_at w p ≡ Looked k l → p < length w.phases → lock_at w u ≡ Some p
     → Good (record w { desks = slice_set w.desks u (Some record { version = l.version; nets = unit_nets (set_at w.sets l.version) w.state.accounts u }) })
 good_marked w p u k l good is there mine =
-    subst (λ (stages : List Stage). Good (record w { desks = now; stages = stages })) (same_stage w p (Looked k l) is)
+    subst (λ (phases : List Phase). Good (record w { desks = now; phases = phases })) (same_phase w p (Looked k l) is)
     (good_desks w p (Looked k l) now good there (length-set w.desks u marked) (session w p (Looked k l) good is)
     (λ x e. ⊎_elim
     (λ (same : x ≡ u). subst (λ (i : ℕ). Rests w.sets w.state.accounts i (slice_index_or now i None)) (sym same)
@@ -66,12 +66,12 @@ choose : (w : World) (b : Bool) (xs ys : List (Option MarkedNets)) → Good (rec
 choose w true xs ys first second = first
 choose w false xs ys first second = second
 
-mark_each : (w : World) (p : ℕ) (k : Call) (l : View) (us : List ℕ) → Good w → stage_at w p ≡ Looked k l → p < length w.stages → ((u : ℕ) → IsAmong u us → lock_at w u ≡ Some p) → Good (record w { desks = mark_first l.version (map (seen_at (set_at w.sets l.version) w.state.accounts) us) w.desks })
+mark_each : (w : World) (p : ℕ) (k : Call) (l : View) (us : List ℕ) → Good w → phase_at w p ≡ Looked k l → p < length w.phases → ((u : ℕ) → IsAmong u us → lock_at w u ≡ Some p) → Good (record w { desks = mark_first l.version (map (seen_at (set_at w.sets l.version) w.state.accounts) us) w.desks })
 mark_each w p k l [] good is there mine = good
 mark_each w p k l (u ∷ us) good is there mine =
     choose w (is_of l.version (desk_at w u)) _ _ (mark_each w p k l us good is there (λ x h. mine x (inr h))) (good_marked w p u k l good is there (mine u (inl refl)))
 
-pub good_mark : (w : World) (p : ℕ) (k : Call) (l : View) → Good w → stage_at w p ≡ Looked k l → p < length w.stages → Good (record w { desks = mark_first l.version l.seen w.desks })
+pub good_mark : (w : World) (p : ℕ) (k : Call) (l : View) → Good w → phase_at w p ≡ Looked k l → p < length w.phases → Good (record w { desks = mark_first l.version l.seen w.desks })
 good_mark w p k l good is there =
     let ok = session w p (Looked k l) good is in
     subst (λ (seen : List Seen). Good (record w { desks = mark_first l.version seen w.desks })) (sym ok.1.seen)
@@ -220,7 +220,7 @@ planned_has : (sets : List Tables) (accounts : List AccountState) (l : View) (u 
 planned_has sets accounts l u d e =
     subst (HasPlan sets accounts l u) (sym (ap (planned_at l.plan u) e ∙ planned_nets_at l.plan u l.version (nets_in (row_of (set_at sets l.version) accounts u)))) (refl, refl)
 
-pub good_applied : (w : World) (p : ℕ) (k : Call) (l : View) → Good w → stage_at w p ≡ Looked k l → p < length w.stages → are_of l.version w.desks l.seen ≡ true → Good (record w { desks = planned_desks l.plan w.desks; stages = slice_set w.stages p (Applied k l) })
+pub good_applied : (w : World) (p : ℕ) (k : Call) (l : View) → Good w → phase_at w p ≡ Looked k l → p < length w.phases → are_of l.version w.desks l.seen ≡ true → Good (record w { desks = planned_desks l.plan w.desks; phases = slice_set w.phases p (Applied k l) })
 good_applied w p k l good is there all_of =
     good_desks w p (Applied k l) (planned_desks l.plan w.desks) good there (planned_long l.plan w.desks) ok
     (λ u e.
@@ -246,11 +246,11 @@ unplanned_rests sets accounts l u (Some m) there has =
     let now : Some m ≡ marked l.version (planned_nets l.plan u nets) = λ j. Some record { version = has.0 j; nets = has.1 j } in
     subst (Rests sets accounts u) (sym (ap (unplanned_at l.plan u) (now ∙ sym (planned_nets_at l.plan u l.version nets)) ∙ unplanned_back l.plan u (marked l.version nets))) (there, refl)
 
-pub good_backed : (w : World) (p : ℕ) (k : Call) (l : View) (again : Bool) → Good w → stage_at w p ≡ Failed k l again → p < length w.stages
-    → Good (record w { desks = unplanned_desks l.plan w.desks; stages = slice_set w.stages p (if again then Held k else Ended k) })
+pub good_backed : (w : World) (p : ℕ) (k : Call) (l : View) (again : Bool) → Good w → phase_at w p ≡ Failed k l again → p < length w.phases
+    → Good (record w { desks = unplanned_desks l.plan w.desks; phases = slice_set w.phases p (if again then Held k else Ended k) })
 good_backed w p k l again good is there = by again is
   where
-    by : (b : Bool) → stage_at w p ≡ Failed k l b → Good (record w { desks = unplanned_desks l.plan w.desks; stages = slice_set w.stages p (if b then Held k else Ended k) })
+    by : (b : Bool) → phase_at w p ≡ Failed k l b → Good (record w { desks = unplanned_desks l.plan w.desks; phases = slice_set w.phases p (if b then Held k else Ended k) })
     by b is = good_desks w p (if b then Held k else Ended k) (unplanned_desks l.plan w.desks) good there (unplanned_long l.plan w.desks) (after b is)
         (λ u e. rests b u (subst (Rests w.sets w.state.accounts u) (sym (unplanned_desk l.plan w.desks u inside))
         (unplanned_rests w.sets w.state.accounts l u (desk_at w u) (view_inside w.sets w.state k l good.replayed.shown ok.1) (held_desk w p u (Failed k l b) good is e))))
@@ -262,7 +262,7 @@ good_backed w p k l again good is there = by again is
         inside : Inside w.desks l.plan
         inside u h = desk_inside w p u good (plan_held w p u k l ok.0 ok.1 h)
 
-        after : (b : Bool) → stage_at w p ≡ Failed k l b → StageOf w.sets w.state w.locks p (if b then Held k else Ended k)
+        after : (b : Bool) → phase_at w p ≡ Failed k l b → PhaseOf w.sets w.state w.locks p (if b then Held k else Ended k)
         after true is = let x = session w p (Failed k l true) good is in (x.0, omega (arith, x.1.looks, x.2))
         after false is = let x = session w p (Failed k l false) good is in (x.0, omega (arith, x.1.looks, x.1.version))
 

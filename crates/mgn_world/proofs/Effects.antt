@@ -1,5 +1,5 @@
 -- What a command does to accounts and nets, by its units and its plan: that commits keep the world good.
-use Rattle.std.proofs.Common.{◌≡◌, ◌≢◌, ◌<◌, ◌≤◌, ◌+◌, ◌∙◌, inl, inr, ⊎_elim, ℕ, Bool, true, false, All, Option, None, Some, List, [], ◌∷◌, length, set, sym, ap, subst, refl, arith, Result, Ok, Err, eq-eqb, ne_eqb, IfSome}
+use Rattle.std.proofs.Common.{◌≡◌, ◌≢◌, ◌<◌, ◌≤◌, ◌+◌, ◌∙◌, inl, inr, ⊎_elim, ℕ, Bool, true, false, All, Option, None, Some, List, [], ◌∷◌, length, set, sym, ap, subst, refl, arith, Result, Ok, Err, IfSome}
 use Rattle.std.specs.Prelude.{◌==◌, if◌then◌else◌, int_lt, ℤ, pos, neg_ℤ, ◌+ℤ◌, slice_index_or}
 use Rattle.std.specs.Str.{bytes_eq}
 use Rattle.std.proofs.lemmas.Bool.{cases_eq, eqb-true}
@@ -9,7 +9,6 @@ use Rattle.std.proofs.lemmas.List.Elements.{All-get_or, All-push, All-set}
 use Rattle.std.proofs.lemmas.List.Quantifiers.{position-Some}
 use Rattle.mgn_params.specs.Limits.{IsWithinLimits}
 use Rattle.mgn_params.specs.Tables.{Tables}
-use Rattle.mgn_nets.specs.Portfolios.{UnitNets}
 use Rattle.mgn_lots.specs.declared.lot.Lot.{Lot}
 use Rattle.mgn_lots.specs.Lots.{busted, is_live, lot_at, no_lot}
 use Rattle.mgn_holds.specs.declared.held.Held.{Held}
@@ -46,7 +45,7 @@ use Rattle.mgn_unit.proofs.TransferMoves.{moved-moves}
 use Rattle.mgn_plan.specs.declared.plans.Plan.{Plan}
 use Rattle.mgn_plan.specs.declared.plans.Plan.TheVariants.{Nothing, One, Two}
 use Rattle.mgn_plan.specs.declared.plans.UnitChange.{UnitChange}
-use Rattle.mgn_plan.specs.Plans.{bust_plan, bust_plan_at, fill_plan, fill_plan_at, hold_plan, in_unit_of, move_plan, moved_nets, nets_by, plan_of, release_plan, release_plan_at, trade_plan}
+use Rattle.mgn_plan.specs.Plans.{bust_plan, bust_plan_at, fill_plan, fill_plan_at, hold_plan, in_unit_of, move_plan, nets_by, plan_of, release_plan, release_plan_at, trade_plan}
 use Rattle.mgn_register.proofs.Kept.{contract-stands, found-Some, known-stands, stands-known}
 use Rattle.mgn_world.specs.Claims.{IsAmong}
 use Rattle.mgn_world.specs.World.{is_done, planned, unit_found, unit_nets, units_found, units_of}

@@ -12,12 +12,12 @@ use Rattle.mgn_machine.specs.State.{AccountState, State}
 use Rattle.mgn_plan.specs.declared.plans.Plan.{Plan}
 use Rattle.mgn_plan.specs.Plans.{plan_of, planned_nets}
 use Rattle.mgn_world.specs.Claims.{HasPlan, IsAmong, IsReplayed, Rests, before_close}
-use Rattle.mgn_world.specs.declared.stages.Call.{Call}
-use Rattle.mgn_world.specs.declared.stages.Stage.{Stage}
-use Rattle.mgn_world.specs.declared.stages.Stage.TheVariants.{Idle, Held, Looked, Applied, Failed, Ended, Gathered}
-use Rattle.mgn_world.specs.Stages.{View}
-use Rattle.mgn_world.specs.World.{World, desk_at, in_force, lock_at, plan_units, planned, seen_at, stage_at, unit_nets, units_of}
-use Rattle.mgn_world.specs.Standing.{DeskOf, Good, HeldDesk, IsHoused, IsPassed, Owns, Sees, StageOf}
+use Rattle.mgn_world.specs.declared.phases.Call.{Call}
+use Rattle.mgn_world.specs.declared.phases.Phase.{Phase}
+use Rattle.mgn_world.specs.declared.phases.Phase.TheVariants.{Idle, Held, Looked, Applied, Failed, Ended, Gathered}
+use Rattle.mgn_world.specs.Phases.{View}
+use Rattle.mgn_world.specs.World.{World, desk_at, in_force, lock_at, phase_at, plan_units, planned, seen_at, unit_nets, units_of}
+use Rattle.mgn_world.specs.Standing.{DeskOf, Good, HeldDesk, IsHoused, IsPassed, Owns, PhaseOf, Sees}
 use Rattle.mgn_world.proofs.Stays.{SameUnits, plan_stays, plan_units-are, units_before, units_stay}
 use Rattle.mgn_world.proofs.Twins.{Keeps, nets-kept}
 
@@ -26,7 +26,7 @@ pub record Change (w v : World) (p : ℕ) : Type 0 where
   pub version : w.state.version ≤ v.state.version
   pub sets_long : length w.sets ≤ length v.sets
   pub sets : (i : ℕ) → i < length w.sets → set_at v.sets i ≡ set_at w.sets i
-  pub stages : (q : ℕ) → q ≢ p → stage_at v q ≡ stage_at w q
+  pub phases : (q : ℕ) → q ≢ p → phase_at v q ≡ phase_at w q
   pub locks : (u q : ℕ) → q ≢ p → lock_at w u ≡ Some q → lock_at v u ≡ Some q
   pub locks_back : (u q : ℕ) → q ≢ p → lock_at v u ≡ Some q → lock_at w u ≡ Some q
   pub rest : (u : ℕ) → lock_at w u ≢ Some p → lock_at v u ≢ Some p → (lock_at v u ≡ lock_at w u) × (desk_at v u ≡ desk_at w u)
@@ -71,8 +71,8 @@ plan_kept M sets now xs ys l u (Some m) there same alone keeps has = (
 pub view_inside : (sets : List Tables) (s : State) (k : Call) (l : View) → length sets ≡ s.version + 1 → Sees sets s k l → l.version < length sets
 view_inside sets s k l shown sees = omega (arith, shown, sees.version)
 
-held_kept : (M : ℕ → Type 0) (sets now : List Tables) (s : State) (locks : List (Option ℕ)) (ys : List AccountState) (u q : ℕ) (d : Option MarkedNets) (st : Stage) → length sets ≡ s.version + 1 → length sets ≤ length now → ((i : ℕ) → i < length sets → set_at now i ≡ set_at sets i) → M u → Keeps M s.accounts ys
-    → StageOf sets s locks q st → HeldDesk sets s.accounts u d st → HeldDesk now ys u d st
+held_kept : (M : ℕ → Type 0) (sets now : List Tables) (s : State) (locks : List (Option ℕ)) (ys : List AccountState) (u q : ℕ) (d : Option MarkedNets) (st : Phase) → length sets ≡ s.version + 1 → length sets ≤ length now → ((i : ℕ) → i < length sets → set_at now i ≡ set_at sets i) → M u → Keeps M s.accounts ys
+    → PhaseOf sets s locks q st → HeldDesk sets s.accounts u d st → HeldDesk now ys u d st
 held_kept M sets now s locks ys u q d Idle shown long same alone keeps ok held = held
 held_kept M sets now s locks ys u q d (Held k) shown long same alone keeps ok held = rests_kept M sets now s.accounts ys u d long same alone keeps held
 held_kept M sets now s locks ys u q d (Looked k l) shown long same alone keeps ok held = rests_kept M sets now s.accounts ys u d long same alone keeps held
@@ -81,15 +81,15 @@ held_kept M sets now s locks ys u q d (Failed k l again) shown long same alone k
 held_kept M sets now s locks ys u q d (Ended k) shown long same alone keeps ok held = rests_kept M sets now s.accounts ys u d long same alone keeps held
 held_kept M sets now s locks ys u q d (Gathered g) shown long same alone keeps ok held = held
 
-desk_kept : (w v : World) (p u : ℕ) → Good w → Change w v p → lock_at w u ≢ Some p → DeskOf v.sets v.state.accounts v.stages u (desk_at w u) (lock_at w u)
+desk_kept : (w v : World) (p u : ℕ) → Good w → Change w v p → lock_at w u ≢ Some p → DeskOf v.sets v.state.accounts v.phases u (desk_at w u) (lock_at w u)
 desk_kept w v p u good ch apart = by (lock_at w u) refl (good.desks u)
   where
-    by : (o : Option ℕ) → lock_at w u ≡ o → DeskOf w.sets w.state.accounts w.stages u (desk_at w u) o → DeskOf v.sets v.state.accounts v.stages u (desk_at w u) o
+    by : (o : Option ℕ) → lock_at w u ≡ o → DeskOf w.sets w.state.accounts w.phases u (desk_at w u) o → DeskOf v.sets v.state.accounts v.phases u (desk_at w u) o
     by None e rests = rests_kept (λ (x : ℕ). lock_at w x ≢ Some p) w.sets v.sets w.state.accounts v.state.accounts u (desk_at w u) ch.sets_long ch.sets apart ch.kept rests
     by (Some q) e held =
         let other : q ≢ p = λ (same : q ≡ p). apart (e ∙ ap (λ (n : ℕ). Some n) same) in
-        subst (HeldDesk v.sets v.state.accounts u (desk_at w u)) (sym (ch.stages q other))
-        (held_kept (λ (x : ℕ). lock_at w x ≢ Some p) w.sets v.sets w.state w.locks v.state.accounts u q (desk_at w u) (stage_at w q) good.replayed.shown ch.sets_long ch.sets apart ch.kept (good.sessions q) held)
+        subst (HeldDesk v.sets v.state.accounts u (desk_at w u)) (sym (ch.phases q other))
+        (held_kept (λ (x : ℕ). lock_at w x ≢ Some p) w.sets v.sets w.state w.locks v.state.accounts u q (desk_at w u) (phase_at w q) good.replayed.shown ch.sets_long ch.sets apart ch.kept (good.sessions q) held)
 
 -- Sessions.
 
@@ -135,7 +135,7 @@ passed_kept : (again : Bool) (looked now later : ℕ) → now ≤ later → IsPa
 passed_kept true looked now later more is = omega (arith, more, is)
 passed_kept false looked now later more is = tt
 
-session_kept : (w v : World) (p q : ℕ) (st : Stage) → Good w → Change w v p → q ≢ p → StageOf w.sets w.state w.locks q st → StageOf v.sets v.state v.locks q st
+session_kept : (w v : World) (p q : ℕ) (st : Phase) → Good w → Change w v p → q ≢ p → PhaseOf w.sets w.state w.locks q st → PhaseOf v.sets v.state v.locks q st
 session_kept w v p q st good ch other ok = by st ok
   where
     M : ℕ → Type 0
@@ -150,7 +150,7 @@ session_kept w v p q st good ch other ok = by st ok
     sees : (k : Call) (l : View) → Owns w.locks w.state q k.command → Sees w.sets w.state k l → Sees v.sets v.state k l
     sees k l o x = sees_kept (λ (u : ℕ). lock_at w u ≢ Some p) w.locks w.sets v.sets w.state v.state q k l ch.kept ch.version good.replayed.shown ch.sets alone o x
 
-    by : (x : Stage) → StageOf w.sets w.state w.locks q x → StageOf v.sets v.state v.locks q x
+    by : (x : Phase) → PhaseOf w.sets w.state w.locks q x → PhaseOf v.sets v.state v.locks q x
     by Idle ok = tt
     by (Held k) ok = (own k.command ok.0, omega (arith, ok.1, ch.version))
     by (Looked k l) ok = (own k.command ok.0, sees k l ok.0 ok.1)
@@ -161,7 +161,7 @@ session_kept w v p q st good ch other ok = by st ok
 
 -- a step keeps the world good where what is said of its own session, and of the units that this held or holds, is true
 pub good_after : (w v : World) (p : ℕ) → Good w → Change w v p → IsReplayed v → ((i : ℕ) → i < length v.sets → IsWithinLimits (set_at v.sets i)) → All (IsKnown (in_force v)) v.state.accounts → IsHoused v.state → length v.desks ≡ v.state.units → length v.locks ≡ v.state.units
-    → StageOf v.sets v.state v.locks p (stage_at v p) → ((u : ℕ) → (lock_at w u ≡ Some p) ⊎ (lock_at v u ≡ Some p) → DeskOf v.sets v.state.accounts v.stages u (desk_at v u) (lock_at v u)) → Good v
+    → PhaseOf v.sets v.state v.locks p (phase_at v p) → ((u : ℕ) → (lock_at w u ≡ Some p) ⊎ (lock_at v u ≡ Some p) → DeskOf v.sets v.state.accounts v.phases u (desk_at v u) (lock_at v u)) → Good v
 good_after w v p good ch replayed limits known housed desks_long locks_long own mine = record {
   replayed = replayed;
   limits = limits;
@@ -172,12 +172,12 @@ good_after w v p good ch replayed limits known housed desks_long locks_long own 
   desks = λ u. ⊎_elim (λ (e : lock_at w u ≡ Some p). mine u (inl e))
       (λ (n : lock_at w u ≢ Some p). ⊎_elim (λ (e : lock_at v u ≡ Some p). mine u (inr e)) (λ (m : lock_at v u ≢ Some p). others u n m) (holder (lock_at v u) p))
       (holder (lock_at w u) p);
-  sessions = λ q. ⊎_elim (λ (e : q ≡ p). subst (λ (i : ℕ). StageOf v.sets v.state v.locks i (stage_at v i)) (sym e) own)
-      (λ (other : q ≢ p). subst (StageOf v.sets v.state v.locks q) (sym (ch.stages q other)) (session_kept w v p q (stage_at w q) good ch other (good.sessions q)))
+  sessions = λ q. ⊎_elim (λ (e : q ≡ p). subst (λ (i : ℕ). PhaseOf v.sets v.state v.locks i (phase_at v i)) (sym e) own)
+      (λ (other : q ≢ p). subst (PhaseOf v.sets v.state v.locks q) (sym (ch.phases q other)) (session_kept w v p q (phase_at w q) good ch other (good.sessions q)))
       (cases_eq q p);
 }
   where
-    others : (u : ℕ) → lock_at w u ≢ Some p → lock_at v u ≢ Some p → DeskOf v.sets v.state.accounts v.stages u (desk_at v u) (lock_at v u)
+    others : (u : ℕ) → lock_at w u ≢ Some p → lock_at v u ≢ Some p → DeskOf v.sets v.state.accounts v.phases u (desk_at v u) (lock_at v u)
     others u n m =
         let same = ch.rest u n m in
-        subst (λ (x : Option MarkedNets × Option ℕ). DeskOf v.sets v.state.accounts v.stages u x.0 x.1) (λ j. (sym same.1 j, sym same.0 j)) (desk_kept w v p u good ch n)
+        subst (λ (x : Option MarkedNets × Option ℕ). DeskOf v.sets v.state.accounts v.phases u x.0 x.1) (λ j. (sym same.1 j, sym same.0 j)) (desk_kept w v p u good ch n)

@@ -1,4 +1,4 @@
--- What was gathered and prepared, as the stages of a switch keep it.
+-- What was gathered and prepared, as the phases of a switch keep it.
 use Rattle.std.proofs.Common.{◌≡◌, ◌≢◌, ◌<◌, ◌∙◌, arith, ap, All, length, List, ◌∷◌, Option, map, None, Some, replicate, take, ℕ, zero, suc, sym, subst, refl, Bool, false, true, ⊎_elim}
 use Rattle.std.specs.Prelude.{◌&&◌, if◌then◌else◌, is_some, nat_lt, slice_index_or, slice_set}
 use Rattle.std.proofs.lemmas.Bool.{cases_eq}
@@ -10,7 +10,7 @@ use Rattle.mgn_nets.specs.Portfolios.{AreUnitNets, UnitNets}
 use Rattle.mgn_unit.specs.declared.row.Row.{Row}
 use Rattle.mgn_unit.specs.NewSets.{IsPrepared, PreparedUnit, is_unit_covered}
 use Rattle.mgn_unit.specs.Rows.{nets_in}
-use Rattle.mgn_world.specs.Stages.{Gathering, IsGathering}
+use Rattle.mgn_world.specs.Phases.{Gathering, IsGathering}
 use Rattle.mgn_world.specs.World.{no_nets, prepared_more}
 
 -- Gather

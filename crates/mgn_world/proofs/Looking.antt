@@ -17,11 +17,11 @@ use Rattle.mgn_plan.specs.declared.plans.UnitChange.{UnitChange}
 use Rattle.mgn_plan.specs.Plans.{CanChange, IsPossible, plan_of, row_at}
 use Rattle.mgn_pricing.proofs.Moved.{net-moved}
 use Rattle.mgn_world.specs.Claims.{IsAmong}
-use Rattle.mgn_world.specs.declared.stages.Call.{Call}
-use Rattle.mgn_world.specs.declared.stages.Stage.{Stage}
-use Rattle.mgn_world.specs.declared.stages.Stage.TheVariants.{Held, Looked}
-use Rattle.mgn_world.specs.declared.stages.Seen.{Seen}
-use Rattle.mgn_world.specs.World.{World, in_force, look_on, looks, plan_units, seen_at, stage_at, unit_nets, units_of}
+use Rattle.mgn_world.specs.declared.phases.Call.{Call}
+use Rattle.mgn_world.specs.declared.phases.Phase.{Phase}
+use Rattle.mgn_world.specs.declared.phases.Phase.TheVariants.{Held, Looked}
+use Rattle.mgn_world.specs.declared.phases.Seen.{Seen}
+use Rattle.mgn_world.specs.World.{World, in_force, look_on, looks, phase_at, plan_units, seen_at, unit_nets, units_of}
 use Rattle.mgn_world.specs.Worlds.{CanFollow, CanFollowPlan, IsSeen, nets_seen, row_nets, seen_in}
 use Rattle.mgn_world.proofs.Desks.{in_two}
 use Rattle.mgn_world.proofs.Ready.{nets_of_seen}
@@ -48,15 +48,15 @@ planless t s c none = by (plan_of t s c) refl
 
 -- Look
 
-pub looks_is : (w : World) (p : ℕ) (k : Call) (plan : Plan) (seen : List Seen) (stages : List Stage) → stage_at w p ≡ Held k → plan ≡ plan_of (in_force w) w.state k.command → plan ≢ Nothing → seen ≡ map (seen_at (in_force w) w.state.accounts) (plan_units plan)
-    → stages ≡ slice_set w.stages p (Looked record { command = k.command; began = k.began; looks = k.looks + 1 } record { version = w.state.version; plan = plan; seen = seen }) → record w { stages = stages } ≡ looks w p (stage_at w p)
-looks_is w p k plan seen stages is of some saw put =
-    (λ j. record w { stages = put j })
-    ∙ (λ j. record w { stages = slice_set w.stages p (Looked record { command = k.command; began = k.began; looks = k.looks + 1 } record { version = w.state.version; plan = plan; seen = saw j }) })
+pub looks_is : (w : World) (p : ℕ) (k : Call) (plan : Plan) (seen : List Seen) (phases : List Phase) → phase_at w p ≡ Held k → plan ≡ plan_of (in_force w) w.state k.command → plan ≢ Nothing → seen ≡ map (seen_at (in_force w) w.state.accounts) (plan_units plan)
+    → phases ≡ slice_set w.phases p (Looked record { command = k.command; began = k.began; looks = k.looks + 1 } record { version = w.state.version; plan = plan; seen = seen }) → record w { phases = phases } ≡ looks w p (phase_at w p)
+looks_is w p k plan seen phases is of some saw put =
+    (λ j. record w { phases = put j })
+    ∙ (λ j. record w { phases = slice_set w.phases p (Looked record { command = k.command; began = k.began; looks = k.looks + 1 } record { version = w.state.version; plan = plan; seen = saw j }) })
     ∙ by plan some
     ∙ ap (look_on w p k) of ∙ ap (looks w p) (sym is)
   where
-    by : (x : Plan) → x ≢ Nothing → record w { stages = slice_set w.stages p (Looked record { command = k.command; began = k.began; looks = k.looks + 1 } record { version = w.state.version; plan = x; seen = map (seen_at (in_force w) w.state.accounts) (plan_units x) }) } ≡ look_on w p k x
+    by : (x : Plan) → x ≢ Nothing → record w { phases = slice_set w.phases p (Looked record { command = k.command; began = k.began; looks = k.looks + 1 } record { version = w.state.version; plan = x; seen = map (seen_at (in_force w) w.state.accounts) (plan_units x) }) } ≡ look_on w p k x
     by Nothing n = absurd (n refl)
     by (One u) n = refl
     by (Two u v) n = refl

@@ -1,14 +1,12 @@
 -- Where a command takes place that nothing but want of room refuses: its accounts and contracts are there.
-use Rattle.std.proofs.Common.{◌≡◌, ◌≢◌, ◌<◌, ◌∙◌, ℕ, Bool, true, false, Some, List, length, subst, refl, arith, Ok}
-use Rattle.std.specs.Prelude.{◌==◌, not, nat_eq}
+use Rattle.std.proofs.Common.{◌≡◌, ◌≢◌, ◌<◌, ◌∙◌, ℕ, true, false, Some, List, length, subst, arith, Ok}
+use Rattle.std.specs.Prelude.{◌==◌, nat_eq}
 use Rattle.std.proofs.lemmas.Bool.Decides.{nat_tests}
 use Rattle.std.proofs.lemmas.List.{length-map}
 use Rattle.std.proofs.lemmas.List.Quantifiers.{position-Some}
 use Rattle.mgn_params.specs.Tables.{Tables}
 use Rattle.mgn_lots.specs.declared.lot.Lot.{Lot}
-use Rattle.mgn_lots.specs.declared.lot.Mark.{Mark}
-use Rattle.mgn_lots.specs.declared.lot.Mark.TheVariants.{Busted, Moved, Traded}
-use Rattle.mgn_lots.specs.Lots.{is_busted, is_live, lot_at, numbers_of, place_of_lot}
+use Rattle.mgn_lots.specs.Lots.{is_live, lot_at, numbers_of, place_of_lot}
 use Rattle.mgn_holds.specs.declared.held.Held.{Held}
 use Rattle.mgn_holds.specs.Holds.{covers, hold_at, no_hold, place_of_order}
 use Rattle.mgn_machine.specs.declared.command.Fill.{Fill}
@@ -20,14 +18,9 @@ use Rattle.mgn_machine.specs.Holding.{fill_places, hold_places, release_places}
 use Rattle.mgn_machine.specs.Refusals.{bust_places, contract_of, place_of, trade_places}
 use Rattle.mgn_machine.specs.State.{State, account_at}
 use Rattle.mgn_machine.specs.Transfers.{move_places, parties}
-use Rattle.mgn_register.proofs.Found.{first_done, test_passed}
+use Rattle.mgn_register.proofs.Found.{first_done, live_mark, test_passed}
 use Rattle.mgn_register.proofs.Kept.{found-Some}
 use Rattle.std.proofs.lemmas.Bool.{not-false}
-
-live : (mark : Mark) → is_busted mark ≡ false → is_live mark ≡ true
-live Busted e = cc
-live Moved e = refl
-live Traded e = refl
 
 -- where a command takes place, in a day that is not over
 pub record Takes (s : State) (name : List ℕ) (k : ℕ) : Type 0 where
@@ -61,7 +54,7 @@ bust_at set' s name lot at done =
     let inside : i.0 < length (account_at s.accounts k.0).lots = omega (arith, (position-Some (nat_eq lot) (numbers_of (account_at s.accounts k.0).lots) i.0 0 there).0, length-map (account_at s.accounts k.0).lots (λ (x : Lot). x.number)) in (
       record { open_day = a.0; place = k.1.0 ∙ (λ j. Ok (same j).0) },
       subst (λ (p : ℕ × ℕ). p.1 < length (account_at s.accounts p.0).lots) same inside,
-      subst (λ (p : ℕ × ℕ). is_live (lot_at (account_at s.accounts p.0).lots p.1).mark ≡ true) same (live (lot_at (account_at s.accounts k.0).lots i.0).mark b.0),
+      subst (λ (p : ℕ × ℕ). is_live (lot_at (account_at s.accounts p.0).lots p.1).mark ≡ true) same (live_mark (lot_at (account_at s.accounts k.0).lots i.0).mark b.0),
     )
 
 pub hold_takes : (set' : Tables) (s : State) (h : Hold) (at : ℕ × ℕ) → hold_places set' s h ≡ Ok at → Takes s h.account at.0 × (contract_of set' h.contract ≡ Ok at.1)

@@ -3,8 +3,8 @@ use Rattle.std.proofs.Common.{◌≡◌, ◌<◌, ◌∙◌, ◌++◌, ℕ, suc,
 use Rattle.std.specs.Prelude.{if◌then◌else◌, nat_lt}
 use Rattle.std.proofs.lemmas.Bool.Decides.{nat_tests}
 use Rattle.mgn_world.specs.Claims.{AreLimited, IsLimited, IsReached}
-use Rattle.mgn_world.specs.declared.stages.Deed.{Deed}
-use Rattle.mgn_world.specs.declared.stages.Step.{Step}
+use Rattle.mgn_world.specs.declared.phases.Deed.{Deed}
+use Rattle.mgn_world.specs.declared.phases.Step.{Step}
 use Rattle.mgn_world.specs.World.{World, does, does_as, next, opening, run}
 
 run_more : (w : World) (es : List Step) (e : Step) → run w (es ++ e ∷ []) ≡ next (run w es) e
@@ -25,15 +25,15 @@ reached_more w e r is = record {
 }
 
 -- a step of the session at a place
-pub stepped_as : (w v : World) (e : Step) (p : ℕ) (d : Deed) → e.session ≡ suc p → e.deed ≡ d → p < length w.stages → v ≡ does w p d → v ≡ next w e
+pub stepped_as : (w v : World) (e : Step) (p : ℕ) (d : Deed) → e.session ≡ suc p → e.deed ≡ d → p < length w.phases → v ≡ does w p d → v ≡ next w e
 stepped_as w v e p d session deed inside is =
-    let there : nat_lt p (length w.stages) ≡ true = grind (arith, nat_tests) in
+    let there : nat_lt p (length w.phases) ≡ true = grind (arith, nat_tests) in
     is ∙ sym (ap (λ (b : Bool). if b then does w p d else w) there) ∙ sym (λ j. does_as w (session j) (deed j))
 
 -- a step of a session that is not there
-pub stays_out : (w : World) (e : Step) (p : ℕ) → e.session ≡ suc p → length w.stages ≤ p → w ≡ next w e
+pub stays_out : (w : World) (e : Step) (p : ℕ) → e.session ≡ suc p → length w.phases ≤ p → w ≡ next w e
 stays_out w e p session outside =
-    let none : nat_lt p (length w.stages) ≡ false = grind (arith, nat_tests) in
+    let none : nat_lt p (length w.phases) ≡ false = grind (arith, nat_tests) in
     sym (ap (λ (b : Bool). if b then does w p e.deed else w) none) ∙ sym (λ j. does_as w (session j) e.deed)
 
 pub none_left : (es : List Step) → length es ≡ 0 → es ≡ []

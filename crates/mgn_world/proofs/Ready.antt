@@ -17,13 +17,13 @@ use Rattle.mgn_plan.specs.Plans.{moved_nets, nets_by, planned_nets}
 use Rattle.mgn_pricing.specs.Desks.{moves_of}
 use Rattle.mgn_pricing.proofs.Moved.{net-back}
 use Rattle.mgn_world.specs.Claims.{HasPlan, IsAmong}
-use Rattle.mgn_world.specs.declared.stages.Call.{Call}
-use Rattle.mgn_world.specs.declared.stages.Stage.TheVariants.{Looked, Failed}
+use Rattle.mgn_world.specs.declared.phases.Call.{Call}
+use Rattle.mgn_world.specs.declared.phases.Phase.TheVariants.{Looked, Failed}
 use Rattle.mgn_world.specs.DeskMoves.{AreReadyFor, CanGiveBack, IsReadyFor}
-use Rattle.mgn_world.specs.Stages.{View}
-use Rattle.mgn_world.specs.declared.stages.Seen.{Seen}
+use Rattle.mgn_world.specs.Phases.{View}
+use Rattle.mgn_world.specs.declared.phases.Seen.{Seen}
 use Rattle.mgn_world.specs.Standing.{Good}
-use Rattle.mgn_world.specs.World.{World, are_of, desk_at, plan_units, planned, seen_at, stage_at, unit_nets}
+use Rattle.mgn_world.specs.World.{World, are_of, desk_at, phase_at, plan_units, planned, seen_at, unit_nets}
 use Rattle.mgn_world.specs.Worlds.{CanFollow, CanFollowPlan, IsSeen, nets_seen}
 use Rattle.mgn_world.proofs.Desks.{in_two, plan_held, ready, seen_of}
 use Rattle.mgn_world.proofs.Said.{failed_plan}
@@ -48,7 +48,7 @@ all_of_seen P t accounts (x ∷ us) u h all = ⊎_elim
 
 -- Apply
 
-ready_at : (w : World) (p : ℕ) (k : Call) (l : View) (u : ℕ) → Good w → stage_at w p ≡ Looked k l → are_of l.version w.desks l.seen ≡ true → IsAmong u (plan_units l.plan) → desk_at w u ≡ Some record { version = l.version; nets = unit_nets (set_at w.sets l.version) w.state.accounts u }
+ready_at : (w : World) (p : ℕ) (k : Call) (l : View) (u : ℕ) → Good w → phase_at w p ≡ Looked k l → are_of l.version w.desks l.seen ≡ true → IsAmong u (plan_units l.plan) → desk_at w u ≡ Some record { version = l.version; nets = unit_nets (set_at w.sets l.version) w.state.accounts u }
 ready_at w p k l u good is of among =
     let ok = session w p (Looked k l) good is in
     let t = set_at w.sets l.version in
@@ -59,7 +59,7 @@ ready_at w p k l u good is of among =
 can_take : (t : Tables) (version : ℕ) (change : Change) (nets : UnitNets) (d : Option MarkedNets) → d ≡ Some record { version = version; nets = nets } → CanFollow t change nets → IsReadyFor t version (moves_of change) d
 can_take t version change nets d e follow = subst (IsReadyFor t version (moves_of change)) (sym e) record { under = refl; contract = follow.contract; moved = follow.moved }
 
-pub apply_ready : (w : World) (p units : ℕ) (k : Call) (l : View) → Good w → stage_at w p ≡ Looked k l → IsSeen w.sets units l → are_of l.version w.desks l.seen ≡ true → AreReadyFor (set_at w.sets l.version) l.version l.plan w.desks
+pub apply_ready : (w : World) (p units : ℕ) (k : Call) (l : View) → Good w → phase_at w p ≡ Looked k l → IsSeen w.sets units l → are_of l.version w.desks l.seen ≡ true → AreReadyFor (set_at w.sets l.version) l.version l.plan w.desks
 apply_ready w p units k l good is seen of = by l.plan refl seen.plan
   where
     t : Tables
@@ -105,7 +105,7 @@ pub has_nets : (sets : List Tables) (accounts : List AccountState) (l : View) (u
 has_nets sets accounts l u None nets h e = absurd h
 has_nets sets accounts l u (Some m) nets h e = λ j. Some record { version = h.0 j; nets = (h.1 ∙ e) j }
 
-pub back_ready : (w : World) (p units : ℕ) (k : Call) (l : View) (again : Bool) → Good w → stage_at w p ≡ Failed k l again → IsSeen w.sets units l → CanGiveBack (set_at w.sets l.version) l.version l.plan w.desks
+pub back_ready : (w : World) (p units : ℕ) (k : Call) (l : View) (again : Bool) → Good w → phase_at w p ≡ Failed k l again → IsSeen w.sets units l → CanGiveBack (set_at w.sets l.version) l.version l.plan w.desks
 back_ready w p units k l again good is seen = by l.plan refl seen.plan
   where
     t : Tables

@@ -20,14 +20,14 @@ use Rattle.mgn_book.specs.BookViews.{sets_after}
 use Rattle.mgn_plan.specs.declared.plans.Plan.{Plan}
 use Rattle.mgn_plan.specs.declared.plans.Plan.TheVariants.{Nothing, One, Two}
 use Rattle.mgn_plan.specs.Plans.{plan_of}
-use Rattle.mgn_world.specs.declared.stages.Call.{Call}
-use Rattle.mgn_world.specs.declared.stages.Deed.{Deed}
-use Rattle.mgn_world.specs.declared.stages.Deed.TheVariants.{Begin, Look, Mark, Apply, Commit, Back, End, Gather, Prepare}
-use Rattle.mgn_world.specs.declared.stages.Stage.{Stage}
-use Rattle.mgn_world.specs.declared.stages.Stage.TheVariants.{Idle, Held, Looked, Applied, Failed, Ended, Gathered}
-use Rattle.mgn_world.specs.declared.stages.Step.{Step}
-use Rattle.mgn_world.specs.Stages.{View}
-use Rattle.mgn_world.specs.World.{World, applies, are_of, are_stale, backs, begin_on, begins, commits, does, does_as, ends, entered, gathers, in_force, is_apart, is_full, look_on, looks, marks, next, opening, placed, prepares, run, stepped, with_stage}
+use Rattle.mgn_world.specs.declared.phases.Call.{Call}
+use Rattle.mgn_world.specs.declared.phases.Deed.{Deed}
+use Rattle.mgn_world.specs.declared.phases.Deed.TheVariants.{Begin, Look, Mark, Apply, Commit, Back, End, Gather, Prepare}
+use Rattle.mgn_world.specs.declared.phases.Phase.{Phase}
+use Rattle.mgn_world.specs.declared.phases.Phase.TheVariants.{Idle, Held, Looked, Applied, Failed, Ended, Gathered}
+use Rattle.mgn_world.specs.declared.phases.Step.{Step}
+use Rattle.mgn_world.specs.Phases.{View}
+use Rattle.mgn_world.specs.World.{World, applies, are_of, are_stale, backs, begin_on, begins, commits, does, does_as, ends, entered, gathers, in_force, is_apart, is_full, look_on, looks, marks, next, opening, placed, prepares, run, stepped, with_phase}
 use Rattle.mgn_world.specs.Claims.{IsReplayed, IsRun}
 use Rattle.mgn_book.proofs.Switches.{last-set}
 
@@ -98,7 +98,7 @@ begin_on-run : (w : World) (p : ℕ) (c : Command) (us : List ℕ) → IsReplaye
 begin_on-run w p c [] is = replayed-entered w p (Do c) is
 begin_on-run w p c (u ∷ us) is = choose _ _ _ is is
 
-begins-run : (w : World) (p : ℕ) (c : Command) (st : Stage) → IsReplayed w → IsReplayed (begins w p c st)
+begins-run : (w : World) (p : ℕ) (c : Command) (st : Phase) → IsReplayed w → IsReplayed (begins w p c st)
 begins-run w p c Idle is = begin_on-run w p c _ is
 begins-run w p c st is = is
 
@@ -107,43 +107,43 @@ look_on-run w p k Nothing is = replayed-entered w p (Do k.command) is
 look_on-run w p k (One u) is = is
 look_on-run w p k (Two u v) is = is
 
-looks-run : (w : World) (p : ℕ) (st : Stage) → IsReplayed w → IsReplayed (looks w p st)
+looks-run : (w : World) (p : ℕ) (st : Phase) → IsReplayed w → IsReplayed (looks w p st)
 looks-run w p (Held k) is = look_on-run w p k _ is
 looks-run w p st is = is
 
-marks-run : (w : World) (st : Stage) → IsReplayed w → IsReplayed (marks w st)
+marks-run : (w : World) (st : Phase) → IsReplayed w → IsReplayed (marks w st)
 marks-run w (Looked k l) is = is
 marks-run w st is = is
 
-applies-run : (w : World) (p : ℕ) (st : Stage) → IsReplayed w → IsReplayed (applies w p st)
+applies-run : (w : World) (p : ℕ) (st : Phase) → IsReplayed w → IsReplayed (applies w p st)
 applies-run w p (Looked k l) is = choose (are_of l.version w.desks l.seen) _ _ is is
 applies-run w p st is = is
 
 commit_by-run : (w : World) (p : ℕ) (k : Call) (l : View) (full stale apart : Bool) → is_full w ≡ full → IsReplayed w
-    → IsReplayed (if full then with_stage w p (Failed k l false) else if stale then with_stage w p (Failed k l true) else if apart then with_stage w p (Failed k l false) else placed w p k l (step w.sets w.state (Do k.command)))
+    → IsReplayed (if full then with_phase w p (Failed k l false) else if stale then with_phase w p (Failed k l true) else if apart then with_phase w p (Failed k l false) else placed w p k l (step w.sets w.state (Do k.command)))
 commit_by-run w p k l true stale apart e is = is
 commit_by-run w p k l false true apart e is = is
 commit_by-run w p k l false false true e is = is
 commit_by-run w p k l false false false e is = run-done w.sets w.state w.history (p + 1) k.command is (room (length w.history) e)
 
-commits-run : (w : World) (p : ℕ) (st : Stage) → IsReplayed w → IsReplayed (commits w p st)
+commits-run : (w : World) (p : ℕ) (st : Phase) → IsReplayed w → IsReplayed (commits w p st)
 commits-run w p (Applied k l) is = commit_by-run w p k l (is_full w) (are_stale w.state.version w.desks l.seen) (is_apart w (plan_of (in_force w) w.state k.command)) refl is
 commits-run w p (Gathered g) is = replayed-entered w p (Switch g.set) is
 commits-run w p st is = is
 
-backs-run : (w : World) (p : ℕ) (st : Stage) → IsReplayed w → IsReplayed (backs w p st)
+backs-run : (w : World) (p : ℕ) (st : Phase) → IsReplayed w → IsReplayed (backs w p st)
 backs-run w p (Failed k l again) is = is
 backs-run w p st is = is
 
-ends-run : (w : World) (p : ℕ) (st : Stage) → IsReplayed w → IsReplayed (ends w p st)
+ends-run : (w : World) (p : ℕ) (st : Phase) → IsReplayed w → IsReplayed (ends w p st)
 ends-run w p (Ended k) is = is
 ends-run w p st is = is
 
-gathers-run : (w : World) (p : ℕ) (set : Tables) (st : Stage) → IsReplayed w → IsReplayed (gathers w p set st)
+gathers-run : (w : World) (p : ℕ) (set : Tables) (st : Phase) → IsReplayed w → IsReplayed (gathers w p set st)
 gathers-run w p set Idle is = is
 gathers-run w p set st is = is
 
-prepares-run : (w : World) (p u : ℕ) (st : Stage) → IsReplayed w → IsReplayed (prepares w p u st)
+prepares-run : (w : World) (p u : ℕ) (st : Phase) → IsReplayed w → IsReplayed (prepares w p u st)
 prepares-run w p u (Gathered g) is = is
 prepares-run w p u st is = is
 

@@ -10,9 +10,9 @@ use Rattle.mgn_unit.specs.Rows.{Priced}
 use Rattle.mgn_desk.specs.Desks.{DeskRows, IsMarkedBy, MarkedNets, Requires, marked_nets, version_of}
 use Rattle.std.specs.Prelude.{All, replicate}
 use Rattle.std.proofs.lemmas.List.Elements.{All-replicate}
-use Rattle.mgn_world.specs.declared.stages.Stage.TheVariants.{Idle}
+use Rattle.mgn_world.specs.declared.phases.Phase.TheVariants.{Idle}
 use Rattle.mgn_world.specs.DeskMoves.{AreDesks, IsReadyFor, IsRightIn, desk_shown}
-use Rattle.mgn_world.specs.Worlds.{IsStage, required}
+use Rattle.mgn_world.specs.Worlds.{IsPhase, required}
 
 pub shows_set : (desks : List DeskRows) (u : ℕ) (d e : DeskRows) (f : Option MarkedNets → Option MarkedNets) → u < length desks → desk_shown d ≡ f (desk_shown (slice_index_or desks u e)) → map desk_shown (slice_set desks u d) ≡ slice_set (map desk_shown desks) u (f (slice_index_or (map desk_shown desks) u None))
 shows_set desks u d e f inside is =
@@ -38,8 +38,8 @@ change_more f d xs i inside =
 pub no_desks : (sets : List Tables) → AreDesks sets []
 no_desks sets = record { numbered = λ u d inside. absurd (omega (arith, inside)); right = λ i d inside. absurd (omega (arith, inside)) }
 
-pub sixteen_idle : (sets : List Tables) (units n : ℕ) → All (IsStage sets units) (replicate n Idle)
-sixteen_idle sets units n = All-replicate (IsStage sets units) n Idle tt
+pub sixteen_idle : (sets : List Tables) (units n : ℕ) → All (IsPhase sets units) (replicate n Idle)
+sixteen_idle sets units n = All-replicate (IsPhase sets units) n Idle tt
 
 -- what is kept of a desk that is right requires what its nets do
 marked_required : (sets : List Tables) (m : Option Marked) (r : Priced) (version : ℕ) → IsRightIn sets m → ((set : Tables) → IsMarkedBy set m → Requires set m r) → version_of m ≡ Some version → Some r ≡ required sets (marked_nets m)

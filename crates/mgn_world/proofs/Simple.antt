@@ -1,4 +1,4 @@
--- Steps that leave the book alone, and change one session's stage, desks or locks: that the world stays good.
+-- Steps that leave the book alone, and change one session's phase, desks or locks: that the world stays good.
 use Rattle.std.proofs.Common.{◌≡◌, ◌≢◌, ◌<◌, ◌∙◌, inl, ⊎_elim, ℕ, true, Option, None, Some, List, [], ◌∷◌, length, sym, subst, refl, arith, Result, Ok, Err}
 use Rattle.std.specs.Prelude.{slice_index_or, slice_set}
 use Rattle.std.proofs.lemmas.List.{get_or-set_same, get_or-set_other, length-map}
@@ -14,11 +14,11 @@ use Rattle.mgn_plan.specs.declared.plans.Plan.{Plan}
 use Rattle.mgn_plan.specs.declared.plans.Plan.TheVariants.{Nothing}
 use Rattle.mgn_plan.specs.Plans.{plan_of}
 use Rattle.mgn_world.specs.Claims.{IsAmong, Rests, before_close}
-use Rattle.mgn_world.specs.declared.stages.Call.{Call}
-use Rattle.mgn_world.specs.declared.stages.Stage.{Stage}
-use Rattle.mgn_world.specs.declared.stages.Stage.TheVariants.{Idle, Held}
-use Rattle.mgn_world.specs.World.{World, are_free, desk_at, finished, freed, in_force, lock_at, looked_at, stage_at, taken, unit_found, units_found, units_of, with_stage}
-use Rattle.mgn_world.specs.Standing.{DeskOf, Good, HeldDesk, IsHoused, Owns, StageOf}
+use Rattle.mgn_world.specs.declared.phases.Call.{Call}
+use Rattle.mgn_world.specs.declared.phases.Phase.{Phase}
+use Rattle.mgn_world.specs.declared.phases.Phase.TheVariants.{Idle, Held}
+use Rattle.mgn_world.specs.World.{World, are_free, desk_at, finished, freed, in_force, lock_at, looked_at, phase_at, taken, unit_found, units_found, units_of, with_phase}
+use Rattle.mgn_world.specs.Standing.{DeskOf, Good, HeldDesk, IsHoused, Owns, PhaseOf}
 use Rattle.mgn_world.proofs.Frames.{good_after, holder, some_none, some_same}
 use Rattle.mgn_world.proofs.Locks.{among_or, free_at, freed_at, freed_mine, freed_other, taken_long, taken_mine, taken_other}
 use Rattle.mgn_world.proofs.Stays.{plan_now}
@@ -26,45 +26,45 @@ use Rattle.mgn_world.proofs.Twins.{keeps-same}
 use Rattle.mgn_register.proofs.Found.{place-inside}
 
 -- the desk of a unit that the session at a place holds
-pub held_desk : (w : World) (p u : ℕ) (st : Stage) → Good w → stage_at w p ≡ st → lock_at w u ≡ Some p → HeldDesk w.sets w.state.accounts u (desk_at w u) st
+pub held_desk : (w : World) (p u : ℕ) (st : Phase) → Good w → phase_at w p ≡ st → lock_at w u ≡ Some p → HeldDesk w.sets w.state.accounts u (desk_at w u) st
 held_desk w p u st good is e =
-    subst (HeldDesk w.sets w.state.accounts u (desk_at w u)) is (subst (DeskOf w.sets w.state.accounts w.stages u (desk_at w u)) e (good.desks u))
+    subst (HeldDesk w.sets w.state.accounts u (desk_at w u)) is (subst (DeskOf w.sets w.state.accounts w.phases u (desk_at w u)) e (good.desks u))
 
-pub session : (w : World) (p : ℕ) (st : Stage) → Good w → stage_at w p ≡ st → StageOf w.sets w.state w.locks p st
-session w p st good is = subst (StageOf w.sets w.state w.locks p) is (good.sessions p)
+pub session : (w : World) (p : ℕ) (st : Phase) → Good w → phase_at w p ≡ st → PhaseOf w.sets w.state w.locks p st
+session w p st good is = subst (PhaseOf w.sets w.state w.locks p) is (good.sessions p)
 
--- its desk, once the session is in another stage
-pub desk_in : (stages : List Stage) (p : ℕ) (st : Stage) (sets : List Tables) (accounts : List AccountState) (u : ℕ) (d : Option MarkedNets) (o : Option ℕ) → p < length stages → o ≡ Some p → HeldDesk sets accounts u d st → DeskOf sets accounts (slice_set stages p st) u d o
-desk_in stages p st sets accounts u d o there e held =
-    subst (DeskOf sets accounts (slice_set stages p st) u d) (sym e) (subst (HeldDesk sets accounts u d) (sym (get_or-set_same stages p st Idle there)) held)
+-- its desk, once the session is in another phase
+pub desk_in : (phases : List Phase) (p : ℕ) (st : Phase) (sets : List Tables) (accounts : List AccountState) (u : ℕ) (d : Option MarkedNets) (o : Option ℕ) → p < length phases → o ≡ Some p → HeldDesk sets accounts u d st → DeskOf sets accounts (slice_set phases p st) u d o
+desk_in phases p st sets accounts u d o there e held =
+    subst (DeskOf sets accounts (slice_set phases p st) u d) (sym e) (subst (HeldDesk sets accounts u d) (sym (get_or-set_same phases p st Idle there)) held)
 
-pub stage_in : (stages : List Stage) (p : ℕ) (st : Stage) (sets : List Tables) (s : State) (locks : List (Option ℕ)) → p < length stages → StageOf sets s locks p st → StageOf sets s locks p (slice_index_or (slice_set stages p st) p Idle)
-stage_in stages p st sets s locks there ok = subst (StageOf sets s locks p) (sym (get_or-set_same stages p st Idle there)) ok
+pub phase_in : (phases : List Phase) (p : ℕ) (st : Phase) (sets : List Tables) (s : State) (locks : List (Option ℕ)) → p < length phases → PhaseOf sets s locks p st → PhaseOf sets s locks p (slice_index_or (slice_set phases p st) p Idle)
+phase_in phases p st sets s locks there ok = subst (PhaseOf sets s locks p) (sym (get_or-set_same phases p st Idle there)) ok
 
--- A step of a session's stage and of the desks that it holds.
-pub good_desks : (w : World) (p : ℕ) (st : Stage) (desks : List (Option MarkedNets)) → Good w → p < length w.stages → length desks ≡ length w.desks → StageOf w.sets w.state w.locks p st
+-- A step of a session's phase and of the desks that it holds.
+pub good_desks : (w : World) (p : ℕ) (st : Phase) (desks : List (Option MarkedNets)) → Good w → p < length w.phases → length desks ≡ length w.desks → PhaseOf w.sets w.state w.locks p st
     → ((u : ℕ) → lock_at w u ≡ Some p → HeldDesk w.sets w.state.accounts u (slice_index_or desks u None) st) → ((u : ℕ) → lock_at w u ≢ Some p → slice_index_or desks u None ≡ desk_at w u)
-    → Good (record w { desks = desks; stages = slice_set w.stages p st })
+    → Good (record w { desks = desks; phases = slice_set w.phases p st })
 good_desks w p st desks good there long ok mine rest =
-    good_after w (record w { desks = desks; stages = slice_set w.stages p st }) p good record {
+    good_after w (record w { desks = desks; phases = slice_set w.phases p st }) p good record {
       version = omega arith;
       sets_long = omega arith;
       sets = λ i inside. refl;
-      stages = λ q other. get_or-set_other w.stages p q st Idle other;
+      phases = λ q other. get_or-set_other w.phases p q st Idle other;
       locks = λ u q other e. e;
       locks_back = λ u q other e. e;
       rest = λ u n m. (refl, rest u n);
       kept = keeps-same (λ u. lock_at w u ≢ Some p) w.state.accounts;
     }
     good.replayed good.limits good.known good.housed (long ∙ good.desks_long) good.locks_long
-    (stage_in w.stages p st w.sets w.state w.locks there ok)
+    (phase_in w.phases p st w.sets w.state w.locks there ok)
     (λ u h. let e : lock_at w u ≡ Some p = ⊎_elim (λ (x : lock_at w u ≡ Some p). x) (λ (x : lock_at w u ≡ Some p). x) h in
-    desk_in w.stages p st w.sets w.state.accounts u (slice_index_or desks u None) (lock_at w u) there e (mine u e))
+    desk_in w.phases p st w.sets w.state.accounts u (slice_index_or desks u None) (lock_at w u) there e (mine u e))
 
--- A step of its stage alone.
-pub good_stage : (w : World) (p : ℕ) (old st : Stage) → Good w → stage_at w p ≡ old → p < length w.stages → StageOf w.sets w.state w.locks p st
-    → ((u : ℕ) (d : Option MarkedNets) → HeldDesk w.sets w.state.accounts u d old → HeldDesk w.sets w.state.accounts u d st) → Good (with_stage w p st)
-good_stage w p old st good is there ok on = good_desks w p st w.desks good there refl ok (λ u e. on u (desk_at w u) (held_desk w p u old good is e)) (λ u n. refl)
+-- A step of its phase alone.
+pub good_phase : (w : World) (p : ℕ) (old st : Phase) → Good w → phase_at w p ≡ old → p < length w.phases → PhaseOf w.sets w.state w.locks p st
+    → ((u : ℕ) (d : Option MarkedNets) → HeldDesk w.sets w.state.accounts u d old → HeldDesk w.sets w.state.accounts u d st) → Good (with_phase w p st)
+good_phase w p old st good is there ok on = good_desks w p st w.desks good there refl ok (λ u e. on u (desk_at w u) (held_desk w p u old good is e)) (λ u n. refl)
 
 -- Begin, of a command that has units
 
@@ -101,33 +101,33 @@ units_inside s c u housed h = by c h
 abbrev pub call_of : World → Command → Call
 call_of w c = record { command = c; began = w.state.version; looks = 0 }
 
-pub good_taken : (w : World) (p : ℕ) (c : Command) → Good w → stage_at w p ≡ Idle → p < length w.stages → units_of w.state c ≢ [] → are_free w.locks (units_of w.state c) ≡ true
-    → Good (record w { locks = taken p (units_of w.state c) w.locks; stages = slice_set w.stages p (Held (call_of w c)) })
+pub good_taken : (w : World) (p : ℕ) (c : Command) → Good w → phase_at w p ≡ Idle → p < length w.phases → units_of w.state c ≢ [] → are_free w.locks (units_of w.state c) ≡ true
+    → Good (record w { locks = taken p (units_of w.state c) w.locks; phases = slice_set w.phases p (Held (call_of w c)) })
 good_taken w p c good idle there some free =
     good_after w v p good record {
       version = omega arith;
       sets_long = omega arith;
       sets = λ i inside. refl;
-      stages = λ q other. get_or-set_other w.stages p q (Held (call_of w c)) Idle other;
+      phases = λ q other. get_or-set_other w.phases p q (Held (call_of w c)) Idle other;
       locks = λ u q other e. ⊎_elim (λ (h : IsAmong u us). some_none q (lock_at w u) (free_at w.locks us u free h) e) (λ (n : IsAmong u us → ⊥). taken_other p us w.locks u n ∙ e) (among_or u us);
       locks_back = λ u q other e. ⊎_elim (λ (h : IsAmong u us). absurd (other (some_same q p (lock_at v u) e (taken_mine p us w.locks u inside h)))) (λ (n : IsAmong u us → ⊥). sym (taken_other p us w.locks u n) ∙ e) (among_or u us);
       rest = λ u n m. ⊎_elim (λ (h : IsAmong u us). absurd (m (taken_mine p us w.locks u inside h))) (λ (k : IsAmong u us → ⊥). (taken_other p us w.locks u k, refl)) (among_or u us);
       kept = keeps-same (λ u. lock_at w u ≢ Some p) w.state.accounts;
     }
     good.replayed good.limits good.known good.housed good.desks_long (taken_long p us w.locks ∙ good.locks_long)
-    (stage_in w.stages p (Held (call_of w c)) w.sets w.state v.locks there (own, omega arith))
+    (phase_in w.phases p (Held (call_of w c)) w.sets w.state v.locks there (own, omega arith))
     (λ u h. ⊎_elim (λ (e : lock_at w u ≡ Some p). absurd (held_desk w p u Idle good idle e))
     (λ (e : lock_at v u ≡ Some p).
     let mine = own.no_other u e in
-    desk_in w.stages p (Held (call_of w c)) w.sets w.state.accounts u (desk_at w u) (lock_at v u) there e
-    (subst (DeskOf w.sets w.state.accounts w.stages u (desk_at w u)) (free_at w.locks us u free mine) (good.desks u)))
+    desk_in w.phases p (Held (call_of w c)) w.sets w.state.accounts u (desk_at w u) (lock_at v u) there e
+    (subst (DeskOf w.sets w.state.accounts w.phases u (desk_at w u)) (free_at w.locks us u free mine) (good.desks u)))
     h)
   where
     us : List ℕ
     us = units_of w.state c
 
     v : World
-    v = record w { locks = taken p us w.locks; stages = slice_set w.stages p (Held (call_of w c)) }
+    v = record w { locks = taken p us w.locks; phases = slice_set w.phases p (Held (call_of w c)) }
 
     inside : (u : ℕ) → IsAmong u us → u < length w.locks
     inside u h = let less = units_inside w.state c u good.housed h in omega (arith, less, good.locks_long)
@@ -140,13 +140,13 @@ good_taken w p c good idle there some free =
     }
 
 -- the units of a session given back, where their desks rest
-pub good_finished : (w : World) (p : ℕ) (st : Stage) → Good w → stage_at w p ≡ st → p < length w.stages → ((u : ℕ) (d : Option MarkedNets) → HeldDesk w.sets w.state.accounts u d st → Rests w.sets w.state.accounts u d) → Good (finished w p)
+pub good_finished : (w : World) (p : ℕ) (st : Phase) → Good w → phase_at w p ≡ st → p < length w.phases → ((u : ℕ) (d : Option MarkedNets) → HeldDesk w.sets w.state.accounts u d st → Rests w.sets w.state.accounts u d) → Good (finished w p)
 good_finished w p st good is there on =
     good_after w v p good record {
       version = omega arith;
       sets_long = omega arith;
       sets = λ i inside. refl;
-      stages = λ q other. get_or-set_other w.stages p q Idle Idle other;
+      phases = λ q other. get_or-set_other w.phases p q Idle Idle other;
       locks = λ u q other e. freed_at p w.locks u ∙ freed_other p (lock_at w u) (λ (mine : lock_at w u ≡ Some p). other (some_same q p (lock_at w u) e mine)) ∙ e;
       locks_back = λ u q other e. ⊎_elim (λ (mine : lock_at w u ≡ Some p). some_none q (lock_at v u) (freed_at p w.locks u ∙ freed_mine p (lock_at w u) mine) e)
           (λ (n : lock_at w u ≢ Some p). sym (freed_at p w.locks u ∙ freed_other p (lock_at w u) n) ∙ e) (holder (lock_at w u) p);
@@ -154,7 +154,7 @@ good_finished w p st good is there on =
       kept = keeps-same (λ u. lock_at w u ≢ Some p) w.state.accounts;
     }
     good.replayed good.limits good.known good.housed good.desks_long (length-map w.locks (freed p) ∙ good.locks_long)
-    (stage_in w.stages p Idle w.sets w.state v.locks there tt)
+    (phase_in w.phases p Idle w.sets w.state v.locks there tt)
     (λ u h. ⊎_elim (λ (e : lock_at w u ≡ Some p). given_back u e)
     (λ (e : lock_at v u ≡ Some p). ⊎_elim (λ (mine : lock_at w u ≡ Some p). given_back u mine)
     (λ (n : lock_at w u ≢ Some p). absurd (n (sym (freed_at p w.locks u ∙ freed_other p (lock_at w u) n) ∙ e))) (holder (lock_at w u) p))
@@ -163,14 +163,14 @@ good_finished w p st good is there on =
     v : World
     v = finished w p
 
-    given_back : (u : ℕ) → lock_at w u ≡ Some p → DeskOf w.sets w.state.accounts v.stages u (desk_at w u) (lock_at v u)
-    given_back u e = subst (DeskOf w.sets w.state.accounts v.stages u (desk_at w u)) (sym (freed_at p w.locks u ∙ freed_mine p (lock_at w u) e)) (on u (desk_at w u) (held_desk w p u st good is e))
+    given_back : (u : ℕ) → lock_at w u ≡ Some p → DeskOf w.sets w.state.accounts v.phases u (desk_at w u) (lock_at v u)
+    given_back u e = subst (DeskOf w.sets w.state.accounts v.phases u (desk_at w u)) (sym (freed_at p w.locks u ∙ freed_mine p (lock_at w u) e)) (on u (desk_at w u) (held_desk w p u st good is e))
 
 -- Look, that finds a plan
-pub good_looked : (w : World) (p : ℕ) (k : Call) (plan : Plan) → Good w → stage_at w p ≡ Held k → p < length w.stages → plan_of (in_force w) w.state k.command ≡ plan → plan ≢ Nothing → Good (with_stage w p (looked_at w k plan))
+pub good_looked : (w : World) (p : ℕ) (k : Call) (plan : Plan) → Good w → phase_at w p ≡ Held k → p < length w.phases → plan_of (in_force w) w.state k.command ≡ plan → plan ≢ Nothing → Good (with_phase w p (looked_at w k plan))
 good_looked w p k plan good is there found some =
     let ok = session w p (Held k) good is in
-    good_stage w p (Held k) (looked_at w k plan) good is there (
+    good_phase w p (Held k) (looked_at w k plan) good is there (
       ok.0,
       record {
         version = omega arith;

@@ -15,35 +15,35 @@ use Rattle.mgn_machine.specs.declared.request.Request.TheVariants.{Switch}
 use Rattle.mgn_desk.specs.Desks.{DeskRows, MarkedNets}
 use Rattle.mgn_pricing.proofs.Fitting.{default-is}
 use Rattle.mgn_book.specs.BookViews.{Stands, sets_after}
-use Rattle.mgn_world.specs.declared.kept.Kept.{Kept}
-use Rattle.mgn_world.specs.declared.stages.Call.{Call}
-use Rattle.mgn_world.specs.declared.stages.Stage.{Stage}
-use Rattle.mgn_world.specs.declared.stages.Stage.TheVariants.{Idle, Held, Looked, Applied, Failed, Ended, Gathered}
+use Rattle.mgn_world.specs.declared.state.WorldState.{WorldState}
+use Rattle.mgn_world.specs.declared.phases.Call.{Call}
+use Rattle.mgn_world.specs.declared.phases.Phase.{Phase}
+use Rattle.mgn_world.specs.declared.phases.Phase.TheVariants.{Idle, Held, Looked, Applied, Failed, Ended, Gathered}
 use Rattle.mgn_world.specs.DeskMoves.{AreDesks, IsRightIn}
-use Rattle.mgn_world.specs.Stages.{View}
-use Rattle.mgn_world.specs.declared.stages.Seen.{Seen}
-use Rattle.mgn_world.specs.World.{World, applies, are_of, planned_desks, stage_at}
-use Rattle.mgn_world.specs.Worlds.{CanFollowPlan, IsSeen, IsSound, IsStage}
+use Rattle.mgn_world.specs.Phases.{View}
+use Rattle.mgn_world.specs.declared.phases.Seen.{Seen}
+use Rattle.mgn_world.specs.World.{World, applies, are_of, phase_at, planned_desks}
+use Rattle.mgn_world.specs.Worlds.{CanFollowPlan, IsPhase, IsSeen, IsSound}
 
--- the stage of a session, as the code reads it
-pub at_stage : (stages : List Stage) (p : ℕ) (x st : Stage) → p < length stages → x ≡ slice_index_or stages p x → x ≡ st → slice_index_or stages p Idle ≡ st
-at_stage stages p x st inside e is = default-is stages p Idle x inside ∙ sym e ∙ is
+-- the phase of a session, as the code reads it
+pub at_phase : (phases : List Phase) (p : ℕ) (x st : Phase) → p < length phases → x ≡ slice_index_or phases p x → x ≡ st → slice_index_or phases p Idle ≡ st
+at_phase phases p x st inside e is = default-is phases p Idle x inside ∙ sym e ∙ is
 
-pub of_stage : (sets : List Tables) (units : ℕ) (stages : List Stage) (p : ℕ) (st : Stage) → p < length stages → All (IsStage sets units) stages → slice_index_or stages p Idle ≡ st → IsStage sets units st
-of_stage sets units stages p st inside all is = subst (IsStage sets units) is (all p Idle inside)
+pub of_phase : (sets : List Tables) (units : ℕ) (phases : List Phase) (p : ℕ) (st : Phase) → p < length phases → All (IsPhase sets units) phases → slice_index_or phases p Idle ≡ st → IsPhase sets units st
+of_phase sets units phases p st inside all is = subst (IsPhase sets units) is (all p Idle inside)
 
--- one session in another stage
-pub stages_set : (sets : List Tables) (m n : ℕ) (stages : List Stage) (p : ℕ) (st : Stage) → m ≡ n → IsStage sets n st → All (IsStage sets n) stages → All (IsStage sets m) (slice_set stages p st)
-stages_set sets m n stages p st e is all = subst (λ (x : ℕ). All (IsStage sets x) (slice_set stages p st)) (sym e) (All-set (IsStage sets n) stages p st is all)
+-- one session in another phase
+pub phases_set : (sets : List Tables) (m n : ℕ) (phases : List Phase) (p : ℕ) (st : Phase) → m ≡ n → IsPhase sets n st → All (IsPhase sets n) phases → All (IsPhase sets m) (slice_set phases p st)
+phases_set sets m n phases p st e is all = subst (λ (x : ℕ). All (IsPhase sets x) (slice_set phases p st)) (sym e) (All-set (IsPhase sets n) phases p st is all)
 
-pub applies_is : (w : World) (p : ℕ) (k : Call) (l : View) (desks : List (Option MarkedNets)) (stages : List Stage) → stage_at w p ≡ Looked k l → are_of l.version w.desks l.seen ≡ true → desks ≡ planned_desks l.plan w.desks → stages ≡ slice_set w.stages p (Applied k l)
-    → record w { desks = desks; stages = stages } ≡ applies w p (stage_at w p)
-applies_is w p k l desks stages is of moved set =
-    (λ j. record w { desks = moved j; stages = set j })
-    ∙ sym (ap (λ (b : Bool). if b then record w { desks = planned_desks l.plan w.desks; stages = slice_set w.stages p (Applied k l) } else w) of)
+pub applies_is : (w : World) (p : ℕ) (k : Call) (l : View) (desks : List (Option MarkedNets)) (phases : List Phase) → phase_at w p ≡ Looked k l → are_of l.version w.desks l.seen ≡ true → desks ≡ planned_desks l.plan w.desks → phases ≡ slice_set w.phases p (Applied k l)
+    → record w { desks = desks; phases = phases } ≡ applies w p (phase_at w p)
+applies_is w p k l desks phases is of moved set =
+    (λ j. record w { desks = moved j; phases = set j })
+    ∙ sym (ap (λ (b : Bool). if b then record w { desks = planned_desks l.plan w.desks; phases = slice_set w.phases p (Applied k l) } else w) of)
     ∙ ap (applies w p) (sym is)
 
-pub after_back : (sets : List Tables) (units : ℕ) (k : Call) (again : Bool) → IsStage sets units (if again then Held k else Ended k)
+pub after_back : (sets : List Tables) (units : ℕ) (k : Call) (again : Bool) → IsPhase sets units (if again then Held k else Ended k)
 after_back sets units k true = tt
 after_back sets units k false = tt
 
@@ -97,40 +97,40 @@ seen_more sets m n l le is = record {
   plan = is.plan;
 }
 
-stage_more : (sets : List Tables) (m n : ℕ) (st : Stage) → m ≤ n → IsStage sets m st → IsStage sets n st
-stage_more sets m n Idle le is = tt
-stage_more sets m n (Held k) le is = tt
-stage_more sets m n (Looked k l) le is = seen_more sets m n l le is
-stage_more sets m n (Applied k l) le is = seen_more sets m n l le is
-stage_more sets m n (Failed k l again) le is = seen_more sets m n l le is
-stage_more sets m n (Ended k) le is = tt
-stage_more sets m n (Gathered g) le is = is
+phase_more : (sets : List Tables) (m n : ℕ) (st : Phase) → m ≤ n → IsPhase sets m st → IsPhase sets n st
+phase_more sets m n Idle le is = tt
+phase_more sets m n (Held k) le is = tt
+phase_more sets m n (Looked k l) le is = seen_more sets m n l le is
+phase_more sets m n (Applied k l) le is = seen_more sets m n l le is
+phase_more sets m n (Failed k l again) le is = seen_more sets m n l le is
+phase_more sets m n (Ended k) le is = tt
+phase_more sets m n (Gathered g) le is = is
 
-pub stages_more : (sets : List Tables) (m n : ℕ) (stages : List Stage) → m ≤ n → All (IsStage sets m) stages → All (IsStage sets n) stages
-stages_more sets m n stages le all i d inside = stage_more sets m n (get_or stages i d) le (all i d inside)
+pub phases_more : (sets : List Tables) (m n : ℕ) (phases : List Phase) → m ≤ n → All (IsPhase sets m) phases → All (IsPhase sets n) phases
+phases_more sets m n phases le all i d inside = phase_more sets m n (get_or phases i d) le (all i d inside)
 
-pub housed_sound : (w v : Kept) → IsSound w → v.shelf ≡ w.shelf → Stands v.shelf v.book → v.stages ≡ w.stages → AreDesks w.shelf v.desks.items → length w.desks.items ≤ length v.desks.items → IsSound v
-housed_sound w v sound shelf stands stages desks more = record {
+pub housed_sound : (w v : WorldState) → IsSound w → v.shelf ≡ w.shelf → Stands v.shelf v.book → v.phases ≡ w.phases → AreDesks w.shelf v.desks.items → length w.desks.items ≤ length v.desks.items → IsSound v
+housed_sound w v sound shelf stands phases desks more = record {
   book = stands;
-  sixteen = ap (λ (x : Vec Stage Global). length x.items) stages ∙ sound.sixteen;
+  sixteen = ap (λ (x : Vec Phase Global). length x.items) phases ∙ sound.sixteen;
   desks = subst (λ (sets : List Tables). AreDesks sets v.desks.items) (sym shelf) desks;
-  stages = subst (λ (sets : List Tables). All (IsStage sets (length v.desks.items)) v.stages.items) (sym shelf)
-      (subst (λ (x : Vec Stage Global). All (IsStage w.shelf (length v.desks.items)) x.items) (sym stages) (stages_more w.shelf (length w.desks.items) (length v.desks.items) w.stages.items more sound.stages));
+  phases = subst (λ (sets : List Tables). All (IsPhase sets (length v.desks.items)) v.phases.items) (sym shelf)
+      (subst (λ (x : Vec Phase Global). All (IsPhase w.shelf (length v.desks.items)) x.items) (sym phases) (phases_more w.shelf (length w.desks.items) (length v.desks.items) w.phases.items more sound.phases));
 }
 
 pub on_both : {T E A B C : Type 0} (r : Result T E) → (A → B → C) → OnOk r A → OnOk r B → OnOk r C
 on_both (Ok x) f a b = f a b
 on_both (Err e) f a b = tt
 
--- one session in another stage, after a step of the book
-pub after_sound : (w v : Kept) (p : ℕ) (st : Stage) → IsSound w → v.shelf ≡ w.shelf → Stands v.shelf v.book → v.desks ≡ w.desks → IsStage w.shelf (length w.desks.items) st → v.stages.items ≡ slice_set w.stages.items p st → IsSound v
+-- one session in another phase, after a step of the book
+pub after_sound : (w v : WorldState) (p : ℕ) (st : Phase) → IsSound w → v.shelf ≡ w.shelf → Stands v.shelf v.book → v.desks ≡ w.desks → IsPhase w.shelf (length w.desks.items) st → v.phases.items ≡ slice_set w.phases.items p st → IsSound v
 after_sound w v p st sound shelf stands desks is put = record {
   book = stands;
-  sixteen = ap (λ (xs : List Stage). length xs) put ∙ length-set w.stages.items p st ∙ sound.sixteen;
+  sixteen = ap (λ (xs : List Phase). length xs) put ∙ length-set w.phases.items p st ∙ sound.sixteen;
   desks = subst (λ (sets : List Tables). AreDesks sets v.desks.items) (sym shelf) (subst (λ (x : Vec DeskRows Global). AreDesks w.shelf x.items) (sym desks) sound.desks);
-  stages = subst (λ (sets : List Tables). All (IsStage sets (length v.desks.items)) v.stages.items) (sym shelf)
-      (subst (λ (x : Vec DeskRows Global). All (IsStage w.shelf (length x.items)) v.stages.items) (sym desks)
-      (subst (All (IsStage w.shelf (length w.desks.items))) (sym put) (stages_set w.shelf (length w.desks.items) (length w.desks.items) w.stages.items p st refl is sound.stages)));
+  phases = subst (λ (sets : List Tables). All (IsPhase sets (length v.desks.items)) v.phases.items) (sym shelf)
+      (subst (λ (x : Vec DeskRows Global). All (IsPhase w.shelf (length x.items)) v.phases.items) (sym desks)
+      (subst (All (IsPhase w.shelf (length w.desks.items))) (sym put) (phases_set w.shelf (length w.desks.items) (length w.desks.items) w.phases.items p st refl is sound.phases)));
 }
 
 -- more sets are there
@@ -154,14 +154,14 @@ seen_later sets more n l is =
       plan = subst (λ (t : Tables). CanFollowPlan t l.seen l.plan) same is.plan;
     }
 
-stage_later : (sets more : List Tables) (n : ℕ) (st : Stage) → IsStage sets n st → IsStage (sets ++ more) n st
-stage_later sets more n Idle is = tt
-stage_later sets more n (Held k) is = tt
-stage_later sets more n (Looked k l) is = seen_later sets more n l is
-stage_later sets more n (Applied k l) is = seen_later sets more n l is
-stage_later sets more n (Failed k l again) is = seen_later sets more n l is
-stage_later sets more n (Ended k) is = tt
-stage_later sets more n (Gathered g) is = record {
+phase_later : (sets more : List Tables) (n : ℕ) (st : Phase) → IsPhase sets n st → IsPhase (sets ++ more) n st
+phase_later sets more n Idle is = tt
+phase_later sets more n (Held k) is = tt
+phase_later sets more n (Looked k l) is = seen_later sets more n l is
+phase_later sets more n (Applied k l) is = seen_later sets more n l is
+phase_later sets more n (Failed k l again) is = seen_later sets more n l is
+phase_later sets more n (Ended k) is = tt
+phase_later sets more n (Gathered g) is = record {
   inside = within_more sets more g.version is.inside;
   nets = subst (λ (t : Tables). All (AreUnitNets t) g.nets) (sym (set_before sets more g.version is.inside)) is.nets;
 }
@@ -174,22 +174,22 @@ after_more sets t (Totals totals) = ([], sym (append-nil sets))
 after_more sets t (Statement told) = ([], sym (append-nil sets))
 after_more sets t (Refused why) = ([], sym (append-nil sets))
 
-pub grown_sound : (w v : Kept) (p : ℕ) (t : Tables) (reply : Reply) → IsSound w → v.shelf ≡ sets_after w.shelf (Switch t) reply → Stands v.shelf v.book → v.desks ≡ w.desks → v.stages.items ≡ slice_set w.stages.items p Idle → IsSound v
+pub grown_sound : (w v : WorldState) (p : ℕ) (t : Tables) (reply : Reply) → IsSound w → v.shelf ≡ sets_after w.shelf (Switch t) reply → Stands v.shelf v.book → v.desks ≡ w.desks → v.phases.items ≡ slice_set w.phases.items p Idle → IsSound v
 grown_sound w v p t reply sound shelf stands desks put =
     let after = after_more w.shelf t reply in
     let now : v.shelf ≡ w.shelf ++ after.0 = shelf ∙ after.1 in
     record {
       book = stands;
-      sixteen = ap (λ (xs : List Stage). length xs) put ∙ length-set w.stages.items p Idle ∙ sound.sixteen;
+      sixteen = ap (λ (xs : List Phase). length xs) put ∙ length-set w.phases.items p Idle ∙ sound.sixteen;
       desks = subst (λ (sets : List Tables). AreDesks sets v.desks.items) (sym now) (subst (λ (x : Vec DeskRows Global). AreDesks (w.shelf ++ after.0) x.items) (sym desks) record {
         numbered = sound.desks.numbered;
         right = λ i d inside. right_more w.shelf after.0 (get_or w.desks.items i d).marked (sound.desks.right i d inside);
       });
-      stages = subst (λ (sets : List Tables). All (IsStage sets (length v.desks.items)) v.stages.items) (sym now)
-          (subst (λ (x : Vec DeskRows Global). All (IsStage (w.shelf ++ after.0) (length x.items)) v.stages.items) (sym desks)
-          (subst (All (IsStage (w.shelf ++ after.0) (length w.desks.items))) (sym put)
-          (stages_set (w.shelf ++ after.0) (length w.desks.items) (length w.desks.items) w.stages.items p Idle refl tt (λ i d inside. stage_later w.shelf after.0 (length w.desks.items) (get_or w.stages.items i d) (sound.stages i d inside)))));
+      phases = subst (λ (sets : List Tables). All (IsPhase sets (length v.desks.items)) v.phases.items) (sym now)
+          (subst (λ (x : Vec DeskRows Global). All (IsPhase (w.shelf ++ after.0) (length x.items)) v.phases.items) (sym desks)
+          (subst (All (IsPhase (w.shelf ++ after.0) (length w.desks.items))) (sym put)
+          (phases_set (w.shelf ++ after.0) (length w.desks.items) (length w.desks.items) w.phases.items p Idle refl tt (λ i d inside. phase_later w.shelf after.0 (length w.desks.items) (get_or w.phases.items i d) (sound.phases i d inside)))));
     }
 
-pub stands_in : (w v : Kept) → Stands w.shelf w.book → v.shelf ≡ w.shelf → v.book ≡ w.book → Stands v.shelf v.book
+pub stands_in : (w v : WorldState) → Stands w.shelf w.book → v.shelf ≡ w.shelf → v.book ≡ w.book → Stands v.shelf v.book
 stands_in w v stands shelf book = subst (λ (sets : List Tables). Stands sets v.book) (sym shelf) (subst (Stands w.shelf) (sym book) stands)

@@ -7,14 +7,14 @@ use Rattle.mgn_desk.specs.Desks.{MarkedNets}
 use Rattle.mgn_machine.specs.declared.entry.Entry.{Entry}
 use Rattle.mgn_machine.specs.History.{Legal, replay}
 use Rattle.mgn_machine.specs.State.{AccountState, State}
-use Rattle.mgn_world.specs.declared.stages.Call.{Call}
-use Rattle.mgn_world.specs.declared.stages.Deed.{Deed}
-use Rattle.mgn_world.specs.declared.stages.Deed.TheVariants.{Gather}
-use Rattle.mgn_world.specs.declared.stages.Stage.{Stage}
-use Rattle.mgn_world.specs.declared.stages.Stage.TheVariants.{Idle, Held, Looked, Applied, Failed, Ended, Gathered}
-use Rattle.mgn_world.specs.declared.stages.Step.{Step}
-use Rattle.mgn_world.specs.Stages.{View}
-use Rattle.mgn_world.specs.World.{World, desk_at, in_force, opening, planned, run, stage_at, unit_nets}
+use Rattle.mgn_world.specs.declared.phases.Call.{Call}
+use Rattle.mgn_world.specs.declared.phases.Deed.{Deed}
+use Rattle.mgn_world.specs.declared.phases.Deed.TheVariants.{Gather}
+use Rattle.mgn_world.specs.declared.phases.Phase.{Phase}
+use Rattle.mgn_world.specs.declared.phases.Phase.TheVariants.{Idle, Held, Looked, Applied, Failed, Ended, Gathered}
+use Rattle.mgn_world.specs.declared.phases.Step.{Step}
+use Rattle.mgn_world.specs.Phases.{View}
+use Rattle.mgn_world.specs.World.{World, desk_at, in_force, opening, phase_at, planned, run, unit_nets}
 
 -- the history is legal and replays to the state, the last set is in force, and there are at most 1,000,000 entries
 pub record IsRun (sets : List Tables) (state : State) (history : List Entry) : Type 0 where
@@ -60,7 +60,7 @@ HasPlan sets accounts l u (Some m) =
     (m.version ≡ l.version) × (m.nets ≡ planned l.plan (set_at sets l.version) accounts u)
 
 -- the call of a session, which a switch is not
-abbrev pub call_in : Stage → Option Call
+abbrev pub call_in : Phase → Option Call
 call_in Idle = None
 call_in (Held k) = Some k
 call_in (Looked k l) = Some k
@@ -71,7 +71,7 @@ call_in (Gathered g) = None
 
 -- the session at a place is in this call
 abbrev pub IsIn : World → ℕ → Call → Type 0
-IsIn w p k = call_in (stage_at w p) ≡ Some k
+IsIn w p k = call_in (phase_at w p) ≡ Some k
 
 -- the nets of a unit as the state has them, under the set in force
 abbrev pub shown_now : World → ℕ → MarkedNets

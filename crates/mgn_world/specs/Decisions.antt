@@ -7,10 +7,10 @@ use Rattle.mgn_book.specs.BookViews.{BookView, Committed}
 use Rattle.mgn_book.specs.declared.book.Outcome.TheVariants.{Done as Settled}
 use Rattle.mgn_book.specs.declared.by_desks.Decision.{Decision}
 use Rattle.mgn_book.specs.declared.by_desks.Decision.TheVariants.{Apart, Done, Full, Memory, Stale}
-use Rattle.mgn_world.specs.declared.stages.Call.{Call}
-use Rattle.mgn_world.specs.declared.stages.Stage.{Stage}
-use Rattle.mgn_world.specs.declared.stages.Stage.TheVariants.{Idle, Held, Looked, Applied, Failed, Ended, Gathered}
-use Rattle.mgn_world.specs.Stages.{View}
+use Rattle.mgn_world.specs.declared.phases.Call.{Call}
+use Rattle.mgn_world.specs.declared.phases.Phase.{Phase}
+use Rattle.mgn_world.specs.declared.phases.Phase.TheVariants.{Idle, Held, Looked, Applied, Failed, Ended, Gathered}
+use Rattle.mgn_world.specs.Phases.{View}
 use Rattle.mgn_world.specs.World.{World, are_stale, in_force, is_apart, is_full}
 
 -- the tests of the world's definition, in their order, and one step of the machine; desks are never apart
@@ -26,8 +26,8 @@ Decides w p k l (Done place reply) old new =
     × (is_apart w (plan_of (in_force w) w.state k.command) ≡ false)
     × Committed w.sets old (p + 1) (calls (p + 1) old.history + 1) (Do k.command) (Settled place reply) new
 
--- the stage is that of an applied call
-abbrev pub IsApplied : Stage → Type 0
+-- the phase is that of an applied call
+abbrev pub IsApplied : Phase → Type 0
 IsApplied (Applied k l) = Unit {0}
 IsApplied Idle = ⊥
 IsApplied (Held k) = ⊥

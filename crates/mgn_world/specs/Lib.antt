@@ -1,4 +1,4 @@
-pub mod Stages
+pub mod Phases
 pub mod World
 pub mod Claims
 pub mod Standing

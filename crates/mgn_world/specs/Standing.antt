@@ -11,14 +11,14 @@ use Rattle.mgn_machine.specs.State.{AccountState, State}
 use Rattle.mgn_plan.specs.declared.plans.Plan.TheVariants.{Nothing}
 use Rattle.mgn_plan.specs.Plans.{plan_of}
 use Rattle.mgn_world.specs.Claims.{HasPlan, IsAmong, IsReplayed, Rests, before_close}
-use Rattle.mgn_world.specs.declared.stages.Call.{Call}
-use Rattle.mgn_world.specs.declared.stages.Stage.{Stage}
-use Rattle.mgn_world.specs.declared.stages.Stage.TheVariants.{Idle, Held, Looked, Applied, Failed, Ended, Gathered}
-use Rattle.mgn_world.specs.Stages.{View}
-use Rattle.mgn_world.specs.World.{World, desk_at, in_force, lock_at, plan_units, seen_at, stage_at, units_of}
+use Rattle.mgn_world.specs.declared.phases.Call.{Call}
+use Rattle.mgn_world.specs.declared.phases.Phase.{Phase}
+use Rattle.mgn_world.specs.declared.phases.Phase.TheVariants.{Idle, Held, Looked, Applied, Failed, Ended, Gathered}
+use Rattle.mgn_world.specs.Phases.{View}
+use Rattle.mgn_world.specs.World.{World, desk_at, in_force, lock_at, phase_at, plan_units, seen_at, units_of}
 
--- the desk of a unit that a session holds, by the session's stage
-abbrev pub HeldDesk : List Tables → List AccountState → ℕ → Option MarkedNets → Stage → Type 0
+-- the desk of a unit that a session holds, by the session's phase
+abbrev pub HeldDesk : List Tables → List AccountState → ℕ → Option MarkedNets → Phase → Type 0
 HeldDesk sets accounts u d Idle = ⊥
 HeldDesk sets accounts u d (Held k) = Rests sets accounts u d
 HeldDesk sets accounts u d (Looked k l) = Rests sets accounts u d
@@ -28,9 +28,9 @@ HeldDesk sets accounts u d (Ended k) = Rests sets accounts u d
 HeldDesk sets accounts u d (Gathered g) = ⊥
 
 -- the desk of any unit
-abbrev pub DeskOf : List Tables → List AccountState → List Stage → ℕ → Option MarkedNets → Option ℕ → Type 0
-DeskOf sets accounts stages u d None = Rests sets accounts u d
-DeskOf sets accounts stages u d (Some p) = HeldDesk sets accounts u d (slice_index_or stages p Idle)
+abbrev pub DeskOf : List Tables → List AccountState → List Phase → ℕ → Option MarkedNets → Option ℕ → Type 0
+DeskOf sets accounts phases u d None = Rests sets accounts u d
+DeskOf sets accounts phases u d (Some p) = HeldDesk sets accounts u d (slice_index_or phases p Idle)
 
 -- Sessions.
 
@@ -53,15 +53,15 @@ abbrev pub IsPassed : Bool → ℕ → ℕ → Type 0
 IsPassed false looked now = Unit {0}
 IsPassed true looked now = looked < now
 
--- what is true of a session, by its stage
-abbrev pub StageOf : List Tables → State → List (Option ℕ) → ℕ → Stage → Type 0
-StageOf sets s locks p Idle = Unit {0}
-StageOf sets s locks p (Held k) = Owns locks s p k.command × (k.looks + k.began ≤ s.version)
-StageOf sets s locks p (Looked k l) = Owns locks s p k.command × Sees sets s k l
-StageOf sets s locks p (Applied k l) = Owns locks s p k.command × Sees sets s k l
-StageOf sets s locks p (Failed k l again) = Owns locks s p k.command × Sees sets s k l × IsPassed again l.version s.version
-StageOf sets s locks p (Ended k) = Owns locks s p k.command × (k.looks + k.began ≤ s.version + 1)
-StageOf sets s locks p (Gathered g) = IsWithinLimits g.set
+-- what is true of a session, by its phase
+abbrev pub PhaseOf : List Tables → State → List (Option ℕ) → ℕ → Phase → Type 0
+PhaseOf sets s locks p Idle = Unit {0}
+PhaseOf sets s locks p (Held k) = Owns locks s p k.command × (k.looks + k.began ≤ s.version)
+PhaseOf sets s locks p (Looked k l) = Owns locks s p k.command × Sees sets s k l
+PhaseOf sets s locks p (Applied k l) = Owns locks s p k.command × Sees sets s k l
+PhaseOf sets s locks p (Failed k l again) = Owns locks s p k.command × Sees sets s k l × IsPassed again l.version s.version
+PhaseOf sets s locks p (Ended k) = Owns locks s p k.command × (k.looks + k.began ≤ s.version + 1)
+PhaseOf sets s locks p (Gathered g) = IsWithinLimits g.set
 
 -- The units of accounts and of netted origins were made.
 pub record IsHoused (s : State) : Type 0 where
@@ -77,5 +77,5 @@ pub record Good (w : World) : Type 0 where
   pub housed : IsHoused w.state
   pub desks_long : length w.desks ≡ w.state.units
   pub locks_long : length w.locks ≡ w.state.units
-  pub desks : (u : ℕ) → DeskOf w.sets w.state.accounts w.stages u (desk_at w u) (lock_at w u)
-  pub sessions : (p : ℕ) → StageOf w.sets w.state w.locks p (stage_at w p)
+  pub desks : (u : ℕ) → DeskOf w.sets w.state.accounts w.phases u (desk_at w u) (lock_at w u)
+  pub sessions : (p : ℕ) → PhaseOf w.sets w.state w.locks p (phase_at w p)

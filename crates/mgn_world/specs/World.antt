@@ -29,17 +29,17 @@ use Rattle.mgn_plan.specs.declared.plans.UnitChange.{UnitChange}
 use Rattle.mgn_plan.specs.Plans.{plan_of, planned_nets}
 use Rattle.mgn_pricing.specs.Desks.{moves_of}
 use Rattle.mgn_book.specs.BookViews.{sets_after}
-use Rattle.mgn_world.specs.declared.stages.Call.{Call}
-use Rattle.mgn_world.specs.declared.stages.Deed.{Deed}
-use Rattle.mgn_world.specs.declared.stages.Deed.TheVariants.{Begin, Look, Mark, Apply, Commit, Back, End, Gather, Prepare}
-use Rattle.mgn_world.specs.declared.stages.Stage.{Stage}
-use Rattle.mgn_world.specs.declared.stages.Stage.TheVariants.{Idle, Held, Looked, Applied, Failed, Ended, Gathered}
-use Rattle.mgn_world.specs.declared.stages.Step.{Step}
-use Rattle.mgn_world.specs.Stages.{Gathering, View}
-use Rattle.mgn_world.specs.declared.stages.Seen.{Seen}
+use Rattle.mgn_world.specs.declared.phases.Call.{Call}
+use Rattle.mgn_world.specs.declared.phases.Deed.{Deed}
+use Rattle.mgn_world.specs.declared.phases.Deed.TheVariants.{Begin, Look, Mark, Apply, Commit, Back, End, Gather, Prepare}
+use Rattle.mgn_world.specs.declared.phases.Phase.{Phase}
+use Rattle.mgn_world.specs.declared.phases.Phase.TheVariants.{Idle, Held, Looked, Applied, Failed, Ended, Gathered}
+use Rattle.mgn_world.specs.declared.phases.Step.{Step}
+use Rattle.mgn_world.specs.Phases.{Gathering, View}
+use Rattle.mgn_world.specs.declared.phases.Seen.{Seen}
 
 -- The sets by version, the machine's state and history; by unit a desk, which is empty or has nets under the set of a
--- version, and the place of the session that holds it; and the stages of the 16 sessions. A unit has one holder at
+-- version, and the place of the session that holds it; and the phases of the 16 sessions. A unit has one holder at
 -- most.
 pub record World : Type 0 where
   pub sets : List Tables
@@ -47,7 +47,7 @@ pub record World : Type 0 where
   pub history : List Entry
   pub desks : List (Option MarkedNets)
   pub locks : List (Option ℕ)
-  pub stages : List Stage
+  pub phases : List Phase
 
 -- before the first step: no unit, and 16 idle sessions
 abbrev pub opening : Tables → World
@@ -57,7 +57,7 @@ opening set = record {
   history = [];
   desks = [];
   locks = [];
-  stages = replicate 16 Idle;
+  phases = replicate 16 Idle;
 }
 
 abbrev pub desk_at : World → ℕ → Option MarkedNets
@@ -66,11 +66,11 @@ desk_at w u = slice_index_or w.desks u None
 abbrev pub lock_at : World → ℕ → Option ℕ
 lock_at w u = slice_index_or w.locks u None
 
-abbrev pub stage_at : World → ℕ → Stage
-stage_at w p = slice_index_or w.stages p Idle
+abbrev pub phase_at : World → ℕ → Phase
+phase_at w p = slice_index_or w.phases p Idle
 
-abbrev pub with_stage : World → ℕ → Stage → World
-with_stage w p stage = record w { stages = slice_set w.stages p stage }
+abbrev pub with_phase : World → ℕ → Phase → World
+with_phase w p phase = record w { phases = slice_set w.phases p phase }
 
 -- the set in force
 abbrev pub in_force : World → Tables
@@ -128,7 +128,7 @@ freed p (Some holder) = if holder == p then None else Some holder
 
 -- all units of a session given back, and its call over
 abbrev pub finished : World → ℕ → World
-finished w p = record w { locks = map (freed p) w.locks; stages = slice_set w.stages p Idle }
+finished w p = record w { locks = map (freed p) w.locks; phases = slice_set w.phases p Idle }
 
 -- Commits.
 
@@ -148,7 +148,7 @@ stepped w p request after = record {
   history = w.history ++ entry (p + 1) (calls (p + 1) w.history + 1) (recorded request after.1) after.1 ∷ [];
   desks = lengthened after.0.units w.desks;
   locks = lengthened after.0.units w.locks;
-  stages = w.stages;
+  phases = w.phases;
 }
 
 -- the same; a full history takes nothing
@@ -162,11 +162,11 @@ begin_on w p c (u ∷ us) =
     if are_free w.locks (u ∷ us) then
     record w {
       locks = taken p (u ∷ us) w.locks;
-      stages = slice_set w.stages p (Held record { command = c; began = w.state.version; looks = 0 });
+      phases = slice_set w.phases p (Held record { command = c; began = w.state.version; looks = 0 });
     }
     else w
 
-abbrev pub begins : World → ℕ → Command → Stage → World
+abbrev pub begins : World → ℕ → Command → Phase → World
 begins w p c Idle = begin_on w p c (units_of w.state c)
 begins w p c _ = w
 
@@ -182,7 +182,7 @@ plan_units (Two u v) = in_order u.unit v.unit
 abbrev pub seen_at : Tables → List AccountState → ℕ → Seen
 seen_at set accounts u = record { unit = u; nets = unit_nets set accounts u }
 
-abbrev pub looked_at : World → Call → Plan → Stage
+abbrev pub looked_at : World → Call → Plan → Phase
 looked_at w k plan = Looked record { command = k.command; began = k.began; looks = k.looks + 1 } record {
   version = w.state.version;
   plan = plan;
@@ -191,10 +191,10 @@ looked_at w k plan = Looked record { command = k.command; began = k.began; looks
 
 abbrev pub look_on : World → ℕ → Call → Plan → World
 look_on w p k Nothing = finished (entered w p (Do k.command)) p
-look_on w p k (One u) = with_stage w p (looked_at w k (One u))
-look_on w p k (Two u v) = with_stage w p (looked_at w k (Two u v))
+look_on w p k (One u) = with_phase w p (looked_at w k (One u))
+look_on w p k (Two u v) = with_phase w p (looked_at w k (Two u v))
 
-abbrev pub looks : World → ℕ → Stage → World
+abbrev pub looks : World → ℕ → Phase → World
 looks w p (Held k) = look_on w p k (plan_of (in_force w) w.state k.command)
 looks w p _ = w
 
@@ -209,7 +209,7 @@ mark_first version (x ∷ xs) desks =
     if is_of version (slice_index_or desks x.unit None) then mark_first version xs desks
     else slice_set desks x.unit (Some record { version = version; nets = x.nets })
 
-abbrev pub marks : World → Stage → World
+abbrev pub marks : World → Phase → World
 marks w (Looked k l) = record w { desks = mark_first l.version l.seen w.desks }
 marks w _ = w
 
@@ -226,10 +226,10 @@ planned_desks Nothing desks = desks
 planned_desks (One u) desks = desks_with u desks
 planned_desks (Two u v) desks = desks_with v (desks_with u desks)
 
-abbrev pub applies : World → ℕ → Stage → World
+abbrev pub applies : World → ℕ → Phase → World
 applies w p (Looked k l) =
     if are_of l.version w.desks l.seen then
-    record w { desks = planned_desks l.plan w.desks; stages = slice_set w.stages p (Applied k l) }
+    record w { desks = planned_desks l.plan w.desks; phases = slice_set w.phases p (Applied k l) }
     else w
 applies w p _ = w
 
@@ -273,16 +273,16 @@ is_done _ = false
 
 abbrev pub placed : World → ℕ → Call → View → State × Reply → World
 placed w p k l after =
-    with_stage (stepped w p (Do k.command) after) p (if is_done after.1 then Ended k else Failed k l false)
+    with_phase (stepped w p (Do k.command) after) p (if is_done after.1 then Ended k else Failed k l false)
 
 -- A switch always ends its call.
-abbrev pub commits : World → ℕ → Stage → World
+abbrev pub commits : World → ℕ → Phase → World
 commits w p (Applied k l) =
-    if is_full w then with_stage w p (Failed k l false) else
-    if are_stale w.state.version w.desks l.seen then with_stage w p (Failed k l true) else
-    if is_apart w (plan_of (in_force w) w.state k.command) then with_stage w p (Failed k l false) else
+    if is_full w then with_phase w p (Failed k l false) else
+    if are_stale w.state.version w.desks l.seen then with_phase w p (Failed k l true) else
+    if is_apart w (plan_of (in_force w) w.state k.command) then with_phase w p (Failed k l false) else
     placed w p k l (step w.sets w.state (Do k.command))
-commits w p (Gathered g) = with_stage (entered w p (Switch g.set)) p Idle
+commits w p (Gathered g) = with_phase (entered w p (Switch g.set)) p Idle
 commits w p _ = w
 
 -- Back: the plan is taken back from its desks.
@@ -295,20 +295,20 @@ unplanned_desks Nothing desks = desks
 unplanned_desks (One u) desks = desks_without u desks
 unplanned_desks (Two u v) desks = desks_without u (desks_without v desks)
 
-abbrev pub backs : World → ℕ → Stage → World
+abbrev pub backs : World → ℕ → Phase → World
 backs w p (Failed k l again) =
-    record w { desks = unplanned_desks l.plan w.desks; stages = slice_set w.stages p (if again then Held k else Ended k) }
+    record w { desks = unplanned_desks l.plan w.desks; phases = slice_set w.phases p (if again then Held k else Ended k) }
 backs w p _ = w
 
 -- End: the units are free, the session idle.
-abbrev pub ends : World → ℕ → Stage → World
+abbrev pub ends : World → ℕ → Phase → World
 ends w p (Ended k) = finished w p
 ends w p _ = w
 
 -- Gather begins a switch with a copy of all nets. Prepare works one unit out, if the set has each contract in which its
 -- net is not 0.
-abbrev pub gathers : World → ℕ → Tables → Stage → World
-gathers w p set Idle = with_stage w p (Gathered record {
+abbrev pub gathers : World → ℕ → Tables → Phase → World
+gathers w p set Idle = with_phase w p (Gathered record {
   set = set;
   version = w.state.version;
   nets = map (unit_nets (in_force w) w.state.accounts) (range_with_len 0 w.state.units);
@@ -326,25 +326,25 @@ prepared_more old u g =
     record g { prepared = slice_set g.prepared u true }
     else g
 
-abbrev pub prepares : World → ℕ → ℕ → Stage → World
-prepares w p u (Gathered g) = with_stage w p (Gathered (prepared_more (set_at w.sets g.version) u g))
+abbrev pub prepares : World → ℕ → ℕ → Phase → World
+prepares w p u (Gathered g) = with_phase w p (Gathered (prepared_more (set_at w.sets g.version) u g))
 prepares w p u _ = w
 
 -- A step of the session at a place. Where it is not the next one of the session's call, nothing changes.
 abbrev pub does : World → ℕ → Deed → World
-does w p (Begin c) = begins w p c (stage_at w p)
-does w p Look = looks w p (stage_at w p)
-does w p Mark = marks w (stage_at w p)
-does w p Apply = applies w p (stage_at w p)
-does w p Commit = commits w p (stage_at w p)
-does w p Back = backs w p (stage_at w p)
-does w p End = ends w p (stage_at w p)
-does w p (Gather set) = gathers w p set (stage_at w p)
-does w p (Prepare u) = prepares w p u (stage_at w p)
+does w p (Begin c) = begins w p c (phase_at w p)
+does w p Look = looks w p (phase_at w p)
+does w p Mark = marks w (phase_at w p)
+does w p Apply = applies w p (phase_at w p)
+does w p Commit = commits w p (phase_at w p)
+does w p Back = backs w p (phase_at w p)
+does w p End = ends w p (phase_at w p)
+does w p (Gather set) = gathers w p set (phase_at w p)
+does w p (Prepare u) = prepares w p u (phase_at w p)
 
 abbrev pub does_as : World → ℕ → Deed → World
 does_as w zero deed = w
-does_as w (suc p) deed = if nat_lt p (length w.stages) then does w p deed else w
+does_as w (suc p) deed = if nat_lt p (length w.phases) then does w p deed else w
 
 abbrev pub next : World → Step → World
 next w e = does_as w e.session e.deed

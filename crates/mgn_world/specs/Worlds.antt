@@ -12,23 +12,23 @@ use Rattle.mgn_plan.specs.declared.plans.Plan.{Plan}
 use Rattle.mgn_plan.specs.declared.plans.Plan.TheVariants.{Nothing, One, Two}
 use Rattle.mgn_pricing.specs.Desks.{moves_of}
 use Rattle.mgn_book.specs.BookViews.{Stands}
-use Rattle.mgn_world.specs.declared.stages.Stage.{Stage}
-use Rattle.mgn_world.specs.declared.stages.Stage.TheVariants.{Idle, Held, Looked, Applied, Failed, Ended, Gathered}
-use Rattle.mgn_world.specs.declared.kept.Kept.{Kept}
+use Rattle.mgn_world.specs.declared.phases.Phase.{Phase}
+use Rattle.mgn_world.specs.declared.phases.Phase.TheVariants.{Idle, Held, Looked, Applied, Failed, Ended, Gathered}
+use Rattle.mgn_world.specs.declared.state.WorldState.{WorldState}
 use Rattle.mgn_world.specs.DeskMoves.{AreDesks, desk_shown}
-use Rattle.mgn_world.specs.Stages.{Gathering, View}
-use Rattle.mgn_world.specs.declared.stages.Seen.{Seen}
+use Rattle.mgn_world.specs.Phases.{Gathering, View}
+use Rattle.mgn_world.specs.declared.phases.Seen.{Seen}
 use Rattle.mgn_world.specs.World.{World, in_force, no_nets}
 
 -- the world that is kept, as the definition has it
-abbrev pub shown : Kept → World
+abbrev pub shown : WorldState → World
 shown w = record {
   sets = w.shelf;
   state = w.book.book.state;
   history = w.book.history;
   desks = map desk_shown w.desks.items;
   locks = w.locks.items;
-  stages = w.stages.items;
+  phases = w.phases.items;
 }
 
 -- rows of a world: one for each unit that was made, worked out from lots, holds and collateral under the set in force
@@ -79,19 +79,19 @@ pub record IsGathered (sets : List Tables) (g : Gathering) : Type 0 where
   pub inside : g.version < length sets
   pub nets : All (AreUnitNets (set_at sets g.version)) g.nets
 
-abbrev pub IsStage : List Tables → ℕ → Stage → Type 0
-IsStage sets units Idle = Unit {0}
-IsStage sets units (Held k) = Unit {0}
-IsStage sets units (Looked k l) = IsSeen sets units l
-IsStage sets units (Applied k l) = IsSeen sets units l
-IsStage sets units (Failed k l again) = IsSeen sets units l
-IsStage sets units (Ended k) = Unit {0}
-IsStage sets units (Gathered g) = IsGathered sets g
+abbrev pub IsPhase : List Tables → ℕ → Phase → Type 0
+IsPhase sets units Idle = Unit {0}
+IsPhase sets units (Held k) = Unit {0}
+IsPhase sets units (Looked k l) = IsSeen sets units l
+IsPhase sets units (Applied k l) = IsSeen sets units l
+IsPhase sets units (Failed k l again) = IsSeen sets units l
+IsPhase sets units (Ended k) = Unit {0}
+IsPhase sets units (Gathered g) = IsGathered sets g
 
 -- what is true of the world that is kept after every step, beside what is true of the definition's: the rows of the book
 -- are those of its state, all that desks keep is right, and each view and gathering was one of the sets of then
-pub record IsSound (w : Kept) : Type 0 where
+pub record IsSound (w : WorldState) : Type 0 where
   pub book : Stands w.shelf w.book
-  pub sixteen : length w.stages.items ≡ 16
+  pub sixteen : length w.phases.items ≡ 16
   pub desks : AreDesks w.shelf w.desks.items
-  pub stages : All (IsStage w.shelf (length w.desks.items)) w.stages.items
+  pub phases : All (IsPhase w.shelf (length w.desks.items)) w.phases.items

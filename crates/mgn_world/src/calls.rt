@@ -1,15 +1,15 @@
 //! The steps of a call.
 
 ghost use Rattle.std.specs.Prelude.{◌≡◌, ◌<◌, ◌∷◌, [], if◌then◌else◌, All, IfOk, OnOk, length, map};
-ghost use Rattle.mgn_world.specs.declared.stages.Stage.TheVariants.{Ended, Held};
+ghost use Rattle.mgn_world.specs.declared.phases.Phase.TheVariants.{Ended, Held};
 ghost use Rattle.mgn_world.specs.Standing.{Good};
-ghost use Rattle.mgn_world.specs.World.{applies, backs, begins, ends, looks, marks, plan_units, stage_at};
+ghost use Rattle.mgn_world.specs.World.{applies, backs, begins, ends, looks, marks, phase_at, plan_units};
 ghost use Rattle.mgn_world.specs.Worlds.{IsSound, seen_in, shown};
 
-use crate::kept::Kept;
-use crate::stages::{Call, Seen, Stage, View, set_applied, set_stage};
+use crate::phases::{Call, Phase, Seen, View, set_applied, set_phase};
+use crate::state::WorldState;
 use crate::unit_desks::{apply, are_of, mark_first, take_back};
-use crate::units::Units;
+use crate::units::CommandUnits;
 use mgn_machine::Command;
 use mgn_plan::{Plan, UnitChange};
 use mgn_unit::Row;
@@ -66,18 +66,18 @@ fn see(alloc: Global, rows: &[Row], plan: &Plan) -> Result<Vec<Seen>, AllocError
     }
 }
 
-// The stage of a failed call once its plan is taken back.
-fn after_back(call: Call, again: bool) -> Stage
+// The phase of a failed call once its plan is taken back.
+fn after_back(call: Call, again: bool) -> Phase
     ensures { result ≡ (if again then Held call else Ended call) }
 {
     if again {
-        Stage::Held(call)
+        Phase::Held(call)
     } else {
-        Stage::Ended(call)
+        Phase::Ended(call)
     }
 }
 
-impl Kept {
+impl WorldState {
     /// Begin: the units of the command become the session's own, if none of them is held. A command without units
     /// commits at once. An error says that memory was refused.
     pub(crate) fn begin(
@@ -90,14 +90,14 @@ impl Kept {
         requires sound { IsSound self.old }
         requires place { place < 16 }
         ensures step { OnOk result (shown self.new ≡
-            begins (shown self.old) place command (stage_at (shown self.old) place)) }
+            begins (shown self.old) place command (phase_at (shown self.old) place)) }
         ensures sound { OnOk result (IsSound self.new) }
     {
-        let Stage::Idle = &self.stages[place] else {
+        let Phase::Idle = &self.phases[place] else {
             return Ok(());
         };
-        let units = Units::of(&self.book, &command);
-        if let Units::Nothing = units {
+        let units = CommandUnits::of(&self.book, &command);
+        if let CommandUnits::Nothing = units {
             return self.enter(alloc, place, &command);
         }
         if units.are_free(self.locks.as_slice()) {
@@ -107,7 +107,7 @@ impl Kept {
                 began: self.book.version(),
                 looks: 0,
             };
-            set_stage(&mut self.stages, place, Stage::Held(call));
+            set_phase(&mut self.phases, place, Phase::Held(call));
         }
         Ok(())
     }
@@ -118,10 +118,10 @@ impl Kept {
         requires good { Good (shown self.old) }
         requires sound { IsSound self.old }
         requires place { place < 16 }
-        ensures step { OnOk result (shown self.new ≡ looks (shown self.old) place (stage_at (shown self.old) place)) }
+        ensures step { OnOk result (shown self.new ≡ looks (shown self.old) place (phase_at (shown self.old) place)) }
         ensures sound { OnOk result (IsSound self.new) }
     {
-        let Stage::Held(call) = &self.stages[place] else {
+        let Phase::Held(call) = &self.phases[place] else {
             return Ok(());
         };
         let call = *call;
@@ -145,7 +145,7 @@ impl Kept {
             plan,
             seen,
         };
-        set_stage(&mut self.stages, place, Stage::Looked(looked, view));
+        set_phase(&mut self.phases, place, Phase::Looked(looked, view));
         Ok(())
     }
 
@@ -155,10 +155,10 @@ impl Kept {
         requires good { Good (shown self.old) }
         requires sound { IsSound self.old }
         requires place { place < 16 }
-        ensures step { OnOk result (shown self.new ≡ marks (shown self.old) (stage_at (shown self.old) place)) }
+        ensures step { OnOk result (shown self.new ≡ marks (shown self.old) (phase_at (shown self.old) place)) }
         ensures sound { OnOk result (IsSound self.new) }
     {
-        let Stage::Looked(_, view) = &self.stages[place] else {
+        let Phase::Looked(_, view) = &self.phases[place] else {
             return Ok(());
         };
         mark_first(
@@ -175,10 +175,10 @@ impl Kept {
         requires good { Good (shown self.old) }
         requires sound { IsSound self.old }
         requires place { place < 16 }
-        ensures step { shown self.new ≡ applies (shown self.old) place (stage_at (shown self.old) place) }
+        ensures step { shown self.new ≡ applies (shown self.old) place (phase_at (shown self.old) place) }
         ensures sound { IsSound self.new }
     {
-        let Stage::Looked(_, view) = &self.stages[place] else {
+        let Phase::Looked(_, view) = &self.phases[place] else {
             return;
         };
         if !are_of(self.desks.as_slice(), view.version, view.seen.as_slice()) {
@@ -190,7 +190,7 @@ impl Kept {
             view.version,
             &view.plan,
         );
-        set_applied(&mut self.stages, place);
+        set_applied(&mut self.phases, place);
     }
 
     /// Back: takes the plan back from its desks.
@@ -198,10 +198,10 @@ impl Kept {
         requires good { Good (shown self.old) }
         requires sound { IsSound self.old }
         requires place { place < 16 }
-        ensures step { shown self.new ≡ backs (shown self.old) place (stage_at (shown self.old) place) }
+        ensures step { shown self.new ≡ backs (shown self.old) place (phase_at (shown self.old) place) }
         ensures sound { IsSound self.new }
     {
-        let Stage::Failed(call, view, again) = &self.stages[place] else {
+        let Phase::Failed(call, view, again) = &self.phases[place] else {
             return;
         };
         let next = after_back(*call, *again);
@@ -211,7 +211,7 @@ impl Kept {
             view.version,
             &view.plan,
         );
-        set_stage(&mut self.stages, place, next);
+        set_phase(&mut self.phases, place, next);
     }
 
     /// End: the units are free, and the session idle.
@@ -219,10 +219,10 @@ impl Kept {
         requires good { Good (shown self.old) }
         requires sound { IsSound self.old }
         requires place { place < 16 }
-        ensures step { shown self.new ≡ ends (shown self.old) place (stage_at (shown self.old) place) }
+        ensures step { shown self.new ≡ ends (shown self.old) place (phase_at (shown self.old) place) }
         ensures sound { IsSound self.new }
     {
-        if matches!(&self.stages[place], Stage::Ended(_)) {
+        if matches!(&self.phases[place], Phase::Ended(_)) {
             self.finish(place);
         }
     }

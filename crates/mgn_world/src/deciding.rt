@@ -3,15 +3,15 @@
 ghost use Rattle.std.specs.Prelude.{◌≡◌, ◌<◌, OnOk};
 ghost use Rattle.mgn_book.specs.BookViews.{Stands};
 ghost use Rattle.mgn_world.specs.Decisions.{Decides, IsApplied};
-ghost use Rattle.mgn_world.specs.declared.stages.Call.{Call as AnyCall};
-ghost use Rattle.mgn_world.specs.declared.stages.Stage.TheVariants.{Applied};
-ghost use Rattle.mgn_world.specs.Stages.{View as AnyView};
+ghost use Rattle.mgn_world.specs.declared.phases.Call.{Call as AnyCall};
+ghost use Rattle.mgn_world.specs.declared.phases.Phase.TheVariants.{Applied};
+ghost use Rattle.mgn_world.specs.Phases.{View as AnyView};
 ghost use Rattle.mgn_world.specs.Standing.{Good};
-ghost use Rattle.mgn_world.specs.World.{commits, is_done, stage_at};
+ghost use Rattle.mgn_world.specs.World.{commits, is_done, phase_at};
 ghost use Rattle.mgn_world.specs.Worlds.{IsSound, shown};
 
-use crate::kept::{Kept, session_at};
-use crate::stages::{Stage, set_failed, set_settled};
+use crate::phases::{Phase, set_failed, set_settled};
+use crate::state::{WorldState, session_at};
 use mgn_book::Decision;
 use mgn_machine::Reply;
 use mgn_params::Work;
@@ -24,22 +24,22 @@ fn is_done(reply: &Reply) -> bool
     matches!(reply, Reply::Done)
 }
 
-impl Kept {
+impl WorldState {
     // What the commit of an applied call comes to, by the desks of its plan's units.
     fn decide(&mut self, alloc: Global, place: usize) -> Decision
         requires good { Good (shown self.old) }
         requires sound { IsSound self.old }
         requires place { place < 16 }
-        requires applied { IsApplied (stage_at (shown self.old) place) }
+        requires applied { IsApplied (phase_at (shown self.old) place) }
         ensures stands { Stands self.new.shelf self.new.book }
-        ensures decided { (k : AnyCall) (l : AnyView) → stage_at (shown self.old) place ≡ Applied k l →
+        ensures decided { (k : AnyCall) (l : AnyView) → phase_at (shown self.old) place ≡ Applied k l →
             Decides (shown self.old) place k l result self.old.book self.new.book }
         ensures shelf { self.new.shelf ≡ self.old.shelf }
         ensures desks { self.new.desks ≡ self.old.desks }
         ensures locks { self.new.locks ≡ self.old.locks }
-        ensures stages { self.new.stages ≡ self.old.stages }
+        ensures phases { self.new.phases ≡ self.old.phases }
     {
-        let Stage::Applied(call, view) = &self.stages[place] else {
+        let Phase::Applied(call, view) = &self.phases[place] else {
             unreachable!();
         };
         let session = session_at(place);
@@ -80,25 +80,25 @@ impl Kept {
         requires good { Good (shown self.old) }
         requires sound { IsSound self.old }
         requires place { place < 16 }
-        requires applied { IsApplied (stage_at (shown self.old) place) }
+        requires applied { IsApplied (phase_at (shown self.old) place) }
         ensures step { OnOk result (shown self.new ≡
-            commits (shown self.old) place (stage_at (shown self.old) place)) }
+            commits (shown self.old) place (phase_at (shown self.old) place)) }
         ensures sound { OnOk result (IsSound self.new) }
     {
         let reply = match self.decide(alloc, place) {
             Decision::Done(_, reply) => reply,
             Decision::Full => {
-                set_failed(&mut self.stages, place, false);
+                set_failed(&mut self.phases, place, false);
                 return Ok(());
             }
             Decision::Stale(_) => {
-                set_failed(&mut self.stages, place, true);
+                set_failed(&mut self.phases, place, true);
                 return Ok(());
             }
             Decision::Memory => return Err(AllocError),
             Decision::Apart => unreachable!(),
         };
-        set_settled(&mut self.stages, place, is_done(&reply));
+        set_settled(&mut self.phases, place, is_done(&reply));
         self.house()
     }
 
@@ -109,12 +109,12 @@ impl Kept {
         requires sound { IsSound self.old }
         requires place { place < 16 }
         ensures step { OnOk result (shown self.new ≡
-            commits (shown self.old) place (stage_at (shown self.old) place)) }
+            commits (shown self.old) place (phase_at (shown self.old) place)) }
         ensures sound { OnOk result (IsSound self.new) }
     {
-        match &self.stages[place] {
-            Stage::Applied(..) => self.commit_call(alloc, place),
-            Stage::Gathered(_) => self.commit_set(alloc, place),
+        match &self.phases[place] {
+            Phase::Applied(..) => self.commit_call(alloc, place),
+            Phase::Gathered(_) => self.commit_set(alloc, place),
             _ => Ok(()),
         }
     }

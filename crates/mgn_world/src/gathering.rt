@@ -6,7 +6,7 @@ ghost use Rattle.mgn_unit.specs.NewSets.{ArePrepared};
 ghost use Rattle.mgn_unit.specs.Rows.{nets_in};
 ghost use Rattle.mgn_world.specs.World.{prepared_more};
 
-use crate::stages::Gathering;
+use crate::phases::Gathering;
 use mgn_params::{ParamSet, Version, Work};
 use mgn_unit::{PreparedUnit, Row, Switch, is_unit_covered};
 use std::alloc::{AllocError, Global};

@@ -8,12 +8,12 @@ ghost use Rattle.mgn_machine.specs.declared.request.Request.TheVariants.{Do};
 ghost use Rattle.mgn_machine.specs.Step.{step};
 ghost use Rattle.mgn_plan.specs.Plans.{plan_of};
 ghost use Rattle.mgn_world.specs.Claims.{HasPlan, IsAmong, IsIn, IsReached, IsReplayed, KeepsSets, Rests, Switches, before_close, shown_now};
-ghost use Rattle.mgn_world.specs.declared.stages.Call.{Call};
-ghost use Rattle.mgn_world.specs.declared.stages.Deed.TheVariants.{Commit};
-ghost use Rattle.mgn_world.specs.declared.stages.Stage.TheVariants.{Applied, Ended, Failed};
-ghost use Rattle.mgn_world.specs.declared.stages.Step.{Step};
-ghost use Rattle.mgn_world.specs.Stages.{View};
-ghost use Rattle.mgn_world.specs.World.{World, are_stale, desk_at, in_force, is_apart, is_full, lock_at, next, opening, placed, plan_units, run, stage_at, units_of};
+ghost use Rattle.mgn_world.specs.declared.phases.Call.{Call};
+ghost use Rattle.mgn_world.specs.declared.phases.Deed.TheVariants.{Commit};
+ghost use Rattle.mgn_world.specs.declared.phases.Phase.TheVariants.{Applied, Ended, Failed};
+ghost use Rattle.mgn_world.specs.declared.phases.Step.{Step};
+ghost use Rattle.mgn_world.specs.Phases.{View};
+ghost use Rattle.mgn_world.specs.World.{World, are_stale, desk_at, in_force, is_apart, is_full, lock_at, next, opening, phase_at, placed, plan_units, run, units_of};
 
 /// A law, and no work: after every list of steps of any sessions, however they interleave, the history is legal and the
 /// state is its replay by the machine of one thread. So each reply, with its figures and totals, is that of the machine
@@ -32,13 +32,13 @@ pub fn free_unit_rests()
 /// at, but for the end of the day.
 pub fn applied_desks_have_the_plan()
     ensures applied { (w : World) (p u : ℕ) (k : Call) (l : View)
-        → IsReached w → stage_at w p ≡ Applied k l → IsAmong u (plan_units l.plan)
+        → IsReached w → phase_at w p ≡ Applied k l → IsAmong u (plan_units l.plan)
         → HasPlan w.sets w.state.accounts l u (desk_at w u) }
     ensures failed { (w : World) (p u : ℕ) (k : Call) (l : View) (again : Bool)
-        → IsReached w → stage_at w p ≡ Failed k l again → IsAmong u (plan_units l.plan)
+        → IsReached w → phase_at w p ≡ Failed k l again → IsAmong u (plan_units l.plan)
         → HasPlan w.sets w.state.accounts l u (desk_at w u) }
     ensures plan { (w : World) (p : ℕ) (k : Call) (l : View)
-        → IsReached w → stage_at w p ≡ Applied k l
+        → IsReached w → phase_at w p ≡ Applied k l
         → plan_of (set_at w.sets l.version) (before_close w.state) k.command ≡ l.plan }
 {}
 
@@ -46,7 +46,7 @@ pub fn applied_desks_have_the_plan()
 /// every world. So no commit is refused for desks that do not fit.
 pub fn never_apart()
     ensures { (w : World) (p : ℕ) (k : Call) (l : View)
-        → IsReached w → stage_at w p ≡ Applied k l → are_stale w.state.version w.desks l.seen ≡ false
+        → IsReached w → phase_at w p ≡ Applied k l → are_stale w.state.version w.desks l.seen ≡ false
         → is_apart w (plan_of (in_force w) w.state k.command) ≡ false }
 {}
 
@@ -54,7 +54,7 @@ pub fn never_apart()
 /// set came into force since the call looked.
 pub fn a_commit_is_one_step()
     ensures { (w : World) (p : ℕ) (k : Call) (l : View)
-        → IsReached w → stage_at w p ≡ Applied k l → is_full w ≡ false
+        → IsReached w → phase_at w p ≡ Applied k l → is_full w ≡ false
         → are_stale w.state.version w.desks l.seen ≡ false
         → next w record { session = suc p; deed = Commit } ≡ placed w p k l (step w.sets w.state (Do k.command)) }
 {}
@@ -63,8 +63,8 @@ pub fn a_commit_is_one_step()
 /// then, under the set in force.
 pub fn done_commit_shows_the_nets()
     ensures { (w : World) (p u : ℕ) (k m : Call) (l : View)
-        → IsReached w → stage_at w p ≡ Applied k l → IsAmong u (plan_units l.plan)
-        → stage_at (next w record { session = suc p; deed = Commit }) p ≡ Ended m
+        → IsReached w → phase_at w p ≡ Applied k l → IsAmong u (plan_units l.plan)
+        → phase_at (next w record { session = suc p; deed = Commit }) p ≡ Ended m
         → desk_at (next w record { session = suc p; deed = Commit }) u
         ≡ Some (shown_now (next w record { session = suc p; deed = Commit }) u) }
 {}
@@ -72,7 +72,7 @@ pub fn done_commit_shows_the_nets()
 /// A law, and no work: where a commit was stale, another set came into force since the call looked.
 pub fn stale_call_was_passed()
     ensures { (w : World) (p : ℕ) (k : Call) (l : View)
-        → IsReached w → stage_at w p ≡ Failed k l true → l.version < w.state.version }
+        → IsReached w → phase_at w p ≡ Failed k l true → l.version < w.state.version }
 {}
 
 /// A law, and no work: a call looks at most once more than sets came into force since its Begin.

@@ -4,10 +4,10 @@
 mod calls;
 mod deciding;
 mod gathering;
-mod kept;
 pub mod laws;
+pub mod phases;
 mod run;
-pub mod stages;
+mod state;
 mod switches;
 mod unit_desks;
 mod units;

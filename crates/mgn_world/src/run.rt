@@ -7,8 +7,8 @@ ghost use Rattle.mgn_world.specs.Standing.{Good};
 ghost use Rattle.mgn_world.specs.World.{desk_at, next, opening, run};
 ghost use Rattle.mgn_world.specs.Worlds.{AreRows, IsSound, required, shown};
 
-use crate::kept::Kept;
-use crate::stages::{Deed, Step};
+use crate::phases::{Deed, Step};
+use crate::state::WorldState;
 use mgn_book::Book;
 use mgn_desk::Desk;
 use mgn_params::ParamSet;
@@ -27,7 +27,7 @@ impl Step {
     }
 }
 
-impl Kept {
+impl WorldState {
     // One step. Where it is not the next one of its session's call, nothing changes. An error says that memory was
     // refused.
     fn step(&mut self, alloc: Global, step: Step) -> Result<(), AllocError>
@@ -41,7 +41,7 @@ impl Kept {
         let Some(place) = step.session.checked_sub(1) else {
             return Ok(());
         };
-        if place >= self.stages.len() {
+        if place >= self.phases.len() {
             return Ok(());
         }
         match step.deed {
@@ -71,7 +71,7 @@ impl Kept {
 /// state, and that each desk has the number of its unit, and what its own nets require under the set of its version.
 #[derive(Drop)]
 pub struct World {
-    kept: Kept,
+    kept: WorldState,
 }
 
 impl Model for World {
@@ -94,7 +94,7 @@ impl World {
         ensures replayed { IfOk result IsReplayed }
     {
         first.limits();
-        let mut kept = Kept::new(alloc, first)?;
+        let mut kept = WorldState::new(alloc, first)?;
         for step in steps {
             kept.step(alloc, step)?;
         }

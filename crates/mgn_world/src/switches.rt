@@ -1,20 +1,20 @@
 //! The steps of a switch to another set.
 
 ghost use Rattle.std.specs.Prelude.{◌≡◌, ◌<◌, OnOk};
-ghost use Rattle.mgn_world.specs.declared.stages.Stage.TheVariants.{Gathered};
-ghost use Rattle.mgn_world.specs.Stages.{Gathering as AnyGathering};
+ghost use Rattle.mgn_world.specs.declared.phases.Phase.TheVariants.{Gathered};
+ghost use Rattle.mgn_world.specs.Phases.{Gathering as AnyGathering};
 ghost use Rattle.mgn_world.specs.Standing.{Good};
-ghost use Rattle.mgn_world.specs.World.{commits, gathers, prepares, stage_at};
+ghost use Rattle.mgn_world.specs.World.{commits, gathers, phase_at, prepares};
 ghost use Rattle.mgn_world.specs.Worlds.{IsSound, shown};
 
-use crate::kept::{Kept, session_at};
-use crate::stages::{Gathering, Stage, set_stage, take_gathering};
+use crate::phases::{Gathering, Phase, set_phase, take_gathering};
+use crate::state::{WorldState, session_at};
 use mgn_book::Outcome;
 use mgn_params::{ParamSet, Shelf, Work};
 use mgn_unit::PreparedUnits;
 use std::alloc::{AllocError, Global};
 
-impl Kept {
+impl WorldState {
     /// Gather: begins a switch with a copy of all nets. An error says that memory was refused.
     pub(crate) fn gather(
         &mut self,
@@ -26,14 +26,14 @@ impl Kept {
         requires sound { IsSound self.old }
         requires place { place < 16 }
         ensures step { OnOk result (shown self.new ≡
-            gathers (shown self.old) place set (stage_at (shown self.old) place)) }
+            gathers (shown self.old) place set (phase_at (shown self.old) place)) }
         ensures sound { OnOk result (IsSound self.new) }
     {
-        let Stage::Idle = &self.stages[place] else {
+        let Phase::Idle = &self.phases[place] else {
             return Ok(());
         };
         let gathering = Gathering::new(alloc, set, self.book.version(), self.book.rows())?;
-        set_stage(&mut self.stages, place, Stage::Gathered(gathering));
+        set_phase(&mut self.phases, place, Phase::Gathered(gathering));
         Ok(())
     }
 
@@ -48,17 +48,17 @@ impl Kept {
         requires sound { IsSound self.old }
         requires place { place < 16 }
         ensures step { OnOk result (shown self.new ≡
-            prepares (shown self.old) place unit (stage_at (shown self.old) place)) }
+            prepares (shown self.old) place unit (phase_at (shown self.old) place)) }
         ensures sound { OnOk result (IsSound self.new) }
     {
-        let Some(mut gathering) = take_gathering(&mut self.stages, place) else {
+        let Some(mut gathering) = take_gathering(&mut self.phases, place) else {
             return Ok(());
         };
         let Some(old) = self.shelf.get(gathering.version) else {
             unreachable!();
         };
         gathering.prepare(alloc, old, unit)?;
-        set_stage(&mut self.stages, place, Stage::Gathered(gathering));
+        set_phase(&mut self.phases, place, Phase::Gathered(gathering));
         Ok(())
     }
 
@@ -67,11 +67,11 @@ impl Kept {
         requires good { Good (shown self.old) }
         requires sound { IsSound self.old }
         requires place { place < 16 }
-        ensures step { OnOk result ((g : AnyGathering) → stage_at (shown self.old) place ≡ Gathered g →
+        ensures step { OnOk result ((g : AnyGathering) → phase_at (shown self.old) place ≡ Gathered g →
             shown self.new ≡ commits (shown self.old) place (Gathered g)) }
         ensures sound { OnOk result (IsSound self.new) }
     {
-        let Some(gathering) = take_gathering(&mut self.stages, place) else {
+        let Some(gathering) = take_gathering(&mut self.phases, place) else {
             return Ok(());
         };
         let (set, units) = gathering.into_parts();

@@ -6,10 +6,10 @@ ghost use Rattle.mgn_nets.specs.Portfolios.{AreUnitNets};
 ghost use Rattle.mgn_desk.specs.Portfolios.{opposite};
 ghost use Rattle.mgn_pricing.specs.Desks.{moves_of};
 ghost use Rattle.mgn_world.specs.DeskMoves.{AreDesks, AreReadyFor, CanGiveBack, IsReadyFor, desk_shown};
-ghost use Rattle.mgn_world.specs.declared.stages.Seen.{Seen as SeenNets};
+ghost use Rattle.mgn_world.specs.declared.phases.Seen.{Seen as SeenNets};
 ghost use Rattle.mgn_world.specs.World.{are_of, desks_with, desks_without, mark_first, planned_desks, unplanned_desks};
 
-use crate::stages::Seen;
+use crate::phases::Seen;
 use mgn_desk::Desk;
 use mgn_params::{SetList, Shelf, Version, Work};
 use mgn_plan::{Plan, UnitChange};

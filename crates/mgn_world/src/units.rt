@@ -11,7 +11,7 @@ use mgn_machine::Command;
 
 /// The margin units that a command needs.
 #[derive(Clone, Copy)]
-pub(crate) enum Units {
+pub(crate) enum CommandUnits {
     /// None, or an account is not there.
     Nothing,
     /// That of its account.
@@ -21,31 +21,31 @@ pub(crate) enum Units {
 }
 
 // That of an account.
-fn one_unit(book: &Book, account: AccountName) -> Units
+fn one_unit(book: &Book, account: AccountName) -> CommandUnits
     ensures units { units_by result ≡ unit_found book.now.book.state (place_of book.now.book.state account) }
     ensures within { All (λ u. u < length book.now.book.rows) (units_by result) }
 {
     match book.unit_of(&account) {
-        Some(unit) => Units::One(unit),
-        None => Units::Nothing,
+        Some(unit) => CommandUnits::One(unit),
+        None => CommandUnits::Nothing,
     }
 }
 
 // Those of a giver and a taker.
-fn two_units(book: &Book, from: AccountName, to: AccountName) -> Units
+fn two_units(book: &Book, from: AccountName, to: AccountName) -> CommandUnits
     ensures units { let state = book.now.book.state in
         units_by result ≡ units_found state (place_of state from) (place_of state to) }
     ensures within { All (λ u. u < length book.now.book.rows) (units_by result) }
 {
     match (book.unit_of(&from), book.unit_of(&to)) {
-        (Some(giver), Some(taker)) => Units::Two(giver, taker),
-        _ => Units::Nothing,
+        (Some(giver), Some(taker)) => CommandUnits::Two(giver, taker),
+        _ => CommandUnits::Nothing,
     }
 }
 
-impl Units {
+impl CommandUnits {
     /// The units of a command.
-    pub fn of(book: &Book, command: &Command) -> Units
+    pub fn of(book: &Book, command: &Command) -> CommandUnits
         ensures units { units_by result ≡ units_of book.now.book.state command.now }
         ensures within { All (λ u. u < length book.now.book.rows) (units_by result) }
     {
@@ -63,7 +63,7 @@ impl Units {
             | Command::Ask(_)
             | Command::Total(_)
             | Command::Statement(_)
-            | Command::EndDay => Units::Nothing,
+            | Command::EndDay => CommandUnits::Nothing,
         }
     }
 
@@ -73,9 +73,9 @@ impl Units {
         ensures { result ≡ are_free locks.now (units_by self) }
     {
         match self {
-            Units::Nothing => true,
-            Units::One(unit) => locks[unit].is_none(),
-            Units::Two(giver, taker) => locks[giver].is_none() && locks[taker].is_none(),
+            CommandUnits::Nothing => true,
+            CommandUnits::One(unit) => locks[unit].is_none(),
+            CommandUnits::Two(giver, taker) => locks[giver].is_none() && locks[taker].is_none(),
         }
     }
 
@@ -85,9 +85,9 @@ impl Units {
         ensures { locks.new ≡ taken place (units_by self) locks.old }
     {
         match self {
-            Units::Nothing => {}
-            Units::One(unit) => locks[unit] = Some(place),
-            Units::Two(giver, taker) => {
+            CommandUnits::Nothing => {}
+            CommandUnits::One(unit) => locks[unit] = Some(place),
+            CommandUnits::Two(giver, taker) => {
                 locks[giver] = Some(place);
                 locks[taker] = Some(place);
             }

@@ -1,6 +1,6 @@
 //! The text of each kind of reply, and of what lines and files lack.
 
-use mgn_machine::{Answer, Figures, NewSet, Refusal, Reply, Totals};
+use mgn_machine::{Answer, NewSet, Refusal, Reply, Totals, UnitFigures};
 use mgn_num::Cents;
 use mgn_wire::{LineFault, LineReply, reply_text};
 use std::alloc::Global;
@@ -14,7 +14,7 @@ fn figures(cents: [i64; 5]) -> Reply {
         exposure_value,
         room,
     ] = cents;
-    Reply::Figures(Figures {
+    Reply::Figures(UnitFigures {
         requirement: Cents::new(i128::from(requirement)),
         exposure_requirement: Cents::new(i128::from(exposure_requirement)),
         value: Cents::new(i128::from(value)),

@@ -10,7 +10,7 @@ ghost use Rattle.mgn_nets.specs.Portfolios.{AreUnitNets};
 ghost use Rattle.mgn_unit.specs.NewSets.{ArePrepared};
 ghost use Rattle.mgn_prepare.specs.Marks.{mark_of};
 
-use command_line::Request;
+use command_line::Invocation;
 use mgn_ids::SessionNo;
 use mgn_params::ParamSet;
 use mgn_service::Workers;
@@ -24,9 +24,9 @@ use std::process::ExitCode;
 
 fn main(rt: HostRuntime) -> ExitCode {
     let ended = match command_line::read(&rt) {
-        Ok(Request::Script(file)) => script::run(&rt, &file),
-        Ok(Request::Check(file)) => check::run(&rt, &file),
-        Ok(Request::Serve(options)) => {
+        Ok(Invocation::Script(file)) => script::run(&rt, &file),
+        Ok(Invocation::Check(file)) => check::run(&rt, &file),
+        Ok(Invocation::Serve(options)) => {
             let mut source = Folder::new(&rt, options.file.dir.as_str());
             let marking = move |session: SessionNo, old: &ParamSet, new: &ParamSet, nets: Vec<
                 CopiedNets,

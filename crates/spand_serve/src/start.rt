@@ -4,6 +4,7 @@ use crate::day::{Serving, serve};
 use crate::fault_lines::FaultLines;
 use crate::marking::WORKERS;
 use mgn_book::MOST_ENTRIES;
+use mgn_ids::MOST_SESSIONS;
 use mgn_ledger::DayImage;
 use mgn_params::ParamSet;
 use mgn_seat::Switches;
@@ -19,9 +20,6 @@ use std::marker::Brand;
 use std::net::TcpListener;
 use std::sync::{Mutex, Wait};
 use std::thread::Threads;
-
-/// How many sessions there are at most.
-const MOST_SESSIONS: usize = 16;
 
 /// Who is served.
 #[derive(Drop)]
@@ -66,7 +64,7 @@ pub fn run<
 
 // So many copies of a source.
 fn copies<S: Copy + Drop>(alloc: Global, source: S, count: u8) -> Result<Vec<S>, AllocError> {
-    let mut copies = Vec::with_capacity(alloc, MOST_SESSIONS)?;
+    let mut copies = Vec::with_capacity(alloc, usize::from(MOST_SESSIONS))?;
     for _ in 0..count {
         copies.push(source)?;
     }

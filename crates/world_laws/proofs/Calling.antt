@@ -12,13 +12,13 @@ use Rattle.mgn_plan.specs.declared.plans.Plan.{Plan}
 use Rattle.mgn_plan.specs.declared.plans.Plan.TheVariants.{Nothing, One, Two}
 use Rattle.mgn_plan.specs.Plans.{plan_of}
 use Rattle.mgn_world.specs.Claims.{IsAmong, IsReached, Rests}
-use Rattle.mgn_world.specs.declared.stages.Call.{Call}
-use Rattle.mgn_world.specs.declared.stages.Deed.{Deed}
-use Rattle.mgn_world.specs.declared.stages.Deed.TheVariants.{Apply, Back, End, Look}
-use Rattle.mgn_world.specs.declared.stages.Stage.{Stage}
-use Rattle.mgn_world.specs.declared.stages.Stage.TheVariants.{Idle, Held, Looked, Applied, Failed, Ended}
-use Rattle.mgn_world.specs.Stages.{View}
-use Rattle.mgn_world.specs.World.{World, applies, are_of, backs, desk_at, does, ends, finished, freed, in_force, is_full, is_of, lengthened, lock_at, look_on, looked_at, looks, next, planned_desks, seen_at, stage_at, stepped, with_stage}
+use Rattle.mgn_world.specs.declared.phases.Call.{Call}
+use Rattle.mgn_world.specs.declared.phases.Deed.{Deed}
+use Rattle.mgn_world.specs.declared.phases.Deed.TheVariants.{Apply, Back, End, Look}
+use Rattle.mgn_world.specs.declared.phases.Phase.{Phase}
+use Rattle.mgn_world.specs.declared.phases.Phase.TheVariants.{Idle, Held, Looked, Applied, Failed, Ended}
+use Rattle.mgn_world.specs.Phases.{View}
+use Rattle.mgn_world.specs.World.{World, applies, are_of, backs, desk_at, does, ends, finished, freed, in_force, is_full, is_of, lengthened, lock_at, look_on, looked_at, looks, next, phase_at, planned_desks, seen_at, stepped, with_phase}
 use Rattle.mgn_world.proofs.Decided.{not_full}
 use Rattle.mgn_world.proofs.Locks.{freed_at, freed_mine, freed_other, lengthened_at}
 use Rattle.mgn_world.proofs.Said.{good_reached}
@@ -28,50 +28,50 @@ use Rattle.world_laws.specs.Moves.{ComesTo, Enters, Frees, KeepsBook, KeepsOther
 use Rattle.world_laws.proofs.Places.{busy_inside, by_does, next_out, there_or}
 use Rattle.world_laws.proofs.Turning.{others_stay, turn_as}
 
--- nothing but a session's stage
-pub comes : (w : World) (p : ℕ) (st : Stage) → p < length w.stages → ComesTo p st w (with_stage w p st)
+-- nothing but a session's phase
+pub comes : (w : World) (p : ℕ) (st : Phase) → p < length w.phases → ComesTo p st w (with_phase w p st)
 comes w p st there = record {
-  stage = get_or-set_same w.stages p st Idle there;
-  others = λ q other. get_or-set_other w.stages p q st Idle other;
+  phase = get_or-set_same w.phases p st Idle there;
+  others = λ q other. get_or-set_other w.phases p q st Idle other;
   book = record { sets = refl; state = refl; history = refl };
   units = record { desks = λ u. refl; holders = λ u. refl };
 }
 
-pub held_there : (w : World) (p : ℕ) (k : Call) → stage_at w p ≡ Held k → p < length w.stages
+pub held_there : (w : World) (p : ℕ) (k : Call) → phase_at w p ≡ Held k → p < length w.phases
 held_there w p k is = busy_inside w p (Held k) is (λ (e : Held k ≡ Idle). cc)
 
-pub looked_there : (w : World) (p : ℕ) (k : Call) (l : View) → stage_at w p ≡ Looked k l → p < length w.stages
+pub looked_there : (w : World) (p : ℕ) (k : Call) (l : View) → phase_at w p ≡ Looked k l → p < length w.phases
 looked_there w p k l is = busy_inside w p (Looked k l) is (λ (e : Looked k l ≡ Idle). cc)
 
-pub applied_there : (w : World) (p : ℕ) (k : Call) (l : View) → stage_at w p ≡ Applied k l → p < length w.stages
+pub applied_there : (w : World) (p : ℕ) (k : Call) (l : View) → phase_at w p ≡ Applied k l → p < length w.phases
 applied_there w p k l is = busy_inside w p (Applied k l) is (λ (e : Applied k l ≡ Idle). cc)
 
-pub failed_there : (w : World) (p : ℕ) (k : Call) (l : View) (again : Bool) → stage_at w p ≡ Failed k l again → p < length w.stages
+pub failed_there : (w : World) (p : ℕ) (k : Call) (l : View) (again : Bool) → phase_at w p ≡ Failed k l again → p < length w.phases
 failed_there w p k l again is = busy_inside w p (Failed k l again) is (λ (e : Failed k l again ≡ Idle). cc)
 
-pub ended_there : (w : World) (p : ℕ) (k : Call) → stage_at w p ≡ Ended k → p < length w.stages
+pub ended_there : (w : World) (p : ℕ) (k : Call) → phase_at w p ≡ Ended k → p < length w.phases
 ended_there w p k is = busy_inside w p (Ended k) is (λ (e : Ended k ≡ Idle). cc)
 
 -- Look
 
-look_on_is : (w : World) (p : ℕ) (k : Call) (plan : Plan) → plan ≢ Nothing → look_on w p k plan ≡ with_stage w p (looked_at w k plan)
+look_on_is : (w : World) (p : ℕ) (k : Call) (plan : Plan) → plan ≢ Nothing → look_on w p k plan ≡ with_phase w p (looked_at w k plan)
 look_on_is w p k Nothing some = absurd (some refl)
 look_on_is w p k (One u) some = refl
 look_on_is w p k (Two u v) some = refl
 
-does_look : (w : World) (p : ℕ) (k : Call) (plan : Plan) → stage_at w p ≡ Held k → plan_of (in_force w) w.state k.command ≡ plan → does w p Look ≡ look_on w p k plan
+does_look : (w : World) (p : ℕ) (k : Call) (plan : Plan) → phase_at w p ≡ Held k → plan_of (in_force w) w.state k.command ≡ plan → does w p Look ≡ look_on w p k plan
 does_look w p k plan is found = ap (looks w p) is ∙ ap (look_on w p k) found
 
-pub look_comes : (w : World) (p : ℕ) (k : Call) (plan : Plan) → stage_at w p ≡ Held k → plan_of (in_force w) w.state k.command ≡ plan → plan ≢ Nothing → ComesTo p (looked_at w k plan) w (next w (step_of p Look))
+pub look_comes : (w : World) (p : ℕ) (k : Call) (plan : Plan) → phase_at w p ≡ Held k → plan_of (in_force w) w.state k.command ≡ plan → plan ≢ Nothing → ComesTo p (looked_at w k plan) w (next w (step_of p Look))
 look_comes w p k plan is found some =
     let there = held_there w p k is in
-    by_does (ComesTo p (looked_at w k plan) w) w (with_stage w p (looked_at w k plan)) p Look there (does_look w p k plan is found ∙ look_on_is w p k plan some) (comes w p (looked_at w k plan) there)
+    by_does (ComesTo p (looked_at w k plan) w) w (with_phase w p (looked_at w k plan)) p Look there (does_look w p k plan is found ∙ look_on_is w p k plan some) (comes w p (looked_at w k plan) there)
 
 -- all units of a session given back, after a step of the machine or none
-frees_when : (w : World) (p : ℕ) (k : Call) (full : Bool) → p < length w.stages → Frees p w (finished (if full then w else stepped w p (Do k.command) (step w.sets w.state (Do k.command))) p)
+frees_when : (w : World) (p : ℕ) (k : Call) (full : Bool) → p < length w.phases → Frees p w (finished (if full then w else stepped w p (Do k.command) (step w.sets w.state (Do k.command))) p)
 frees_when w p k true there = record {
-  stage = get_or-set_same w.stages p Idle Idle there;
-  others = λ q other. get_or-set_other w.stages p q Idle Idle other;
+  phase = get_or-set_same w.phases p Idle Idle there;
+  others = λ q other. get_or-set_other w.phases p q Idle Idle other;
   mine = λ u e. freed_at p w.locks u ∙ freed_mine p (lock_at w u) e;
   theirs = λ u n. freed_at p w.locks u ∙ freed_other p (lock_at w u) n;
   desks = λ u. refl;
@@ -79,14 +79,14 @@ frees_when w p k true there = record {
 frees_when w p k false there =
     let units : ℕ = (step w.sets w.state (Do k.command)).0.units in
     record {
-      stage = get_or-set_same w.stages p Idle Idle there;
-      others = λ q other. get_or-set_other w.stages p q Idle Idle other;
+      phase = get_or-set_same w.phases p Idle Idle there;
+      others = λ q other. get_or-set_other w.phases p q Idle Idle other;
       mine = λ u e. freed_at p (lengthened units w.locks) u ∙ freed_mine p _ (lengthened_at units w.locks u ∙ e);
       theirs = λ u n. freed_at p (lengthened units w.locks) u ∙ ap (freed p) (lengthened_at units w.locks u) ∙ freed_other p (lock_at w u) n;
       desks = λ u. lengthened_at units w.desks u;
     }
 
-pub look_frees : (w : World) (p : ℕ) (k : Call) → stage_at w p ≡ Held k → plan_of (in_force w) w.state k.command ≡ Nothing → Frees p w (next w (step_of p Look))
+pub look_frees : (w : World) (p : ℕ) (k : Call) → phase_at w p ≡ Held k → plan_of (in_force w) w.state k.command ≡ Nothing → Frees p w (next w (step_of p Look))
 look_frees w p k is none =
     let there = held_there w p k is in
     by_does (Frees p w) w (look_on w p k Nothing) p Look there (does_look w p k Nothing is none) (frees_when w p k (is_full w) there)
@@ -95,7 +95,7 @@ enters_when : (w : World) (p : ℕ) (k : Call) (full : Bool) → full ≡ false 
 enters_when w p k true e = cc
 enters_when w p k false e = record { state = refl; sets = refl; history = refl }
 
-pub look_enters : (w : World) (p : ℕ) (k : Call) → stage_at w p ≡ Held k → plan_of (in_force w) w.state k.command ≡ Nothing → length w.history < 1000000 → Enters p (Do k.command) w (next w (step_of p Look))
+pub look_enters : (w : World) (p : ℕ) (k : Call) → phase_at w p ≡ Held k → plan_of (in_force w) w.state k.command ≡ Nothing → length w.history < 1000000 → Enters p (Do k.command) w (next w (step_of p Look))
 look_enters w p k is none few =
     by_does (Enters p (Do k.command) w) w (look_on w p k Nothing) p Look (held_there w p k is) (does_look w p k Nothing is none) (enters_when w p k (is_full w) (not_full (length w.history) few))
 
@@ -115,18 +115,18 @@ all_of version desks t accounts (u ∷ us) each =
     ∙ all_of version desks t accounts us (λ x h. each x (inr h))
 
 -- where all desks are of the version, the call is applied
-pub does_apply : (w : World) (p : ℕ) (k : Call) (l : View) → stage_at w p ≡ Looked k l → are_of l.version w.desks l.seen ≡ true → does w p Apply ≡ record w { desks = planned_desks l.plan w.desks; stages = slice_set w.stages p (Applied k l) }
+pub does_apply : (w : World) (p : ℕ) (k : Call) (l : View) → phase_at w p ≡ Looked k l → are_of l.version w.desks l.seen ≡ true → does w p Apply ≡ record w { desks = planned_desks l.plan w.desks; phases = slice_set w.phases p (Applied k l) }
 does_apply w p k l is of =
-    ap (applies w p) is ∙ ap (λ (b : Bool). if b then record w { desks = planned_desks l.plan w.desks; stages = slice_set w.stages p (Applied k l) } else w) of
+    ap (applies w p) is ∙ ap (λ (b : Bool). if b then record w { desks = planned_desks l.plan w.desks; phases = slice_set w.phases p (Applied k l) } else w) of
 
 -- Back
 
-pub back_comes : (w : World) (p : ℕ) (k : Call) (l : View) (again : Bool) → stage_at w p ≡ Failed k l again → stage_at (next w (step_of p Back)) p ≡ (if again then Held k else Ended k)
+pub back_comes : (w : World) (p : ℕ) (k : Call) (l : View) (again : Bool) → phase_at w p ≡ Failed k l again → phase_at (next w (step_of p Back)) p ≡ (if again then Held k else Ended k)
 back_comes w p k l again is =
     let there = failed_there w p k l again is in
-    by_does (λ v. stage_at v p ≡ (if again then Held k else Ended k)) w (backs w p (Failed k l again)) p Back there (ap (backs w p) is) (get_or-set_same w.stages p (if again then Held k else Ended k) Idle there)
+    by_does (λ v. phase_at v p ≡ (if again then Held k else Ended k)) w (backs w p (Failed k l again)) p Back there (ap (backs w p) is) (get_or-set_same w.phases p (if again then Held k else Ended k) Idle there)
 
--- every step leaves the other sessions in their stages
+-- every step leaves the other sessions in their phases
 pub others_in : (w : World) (p : ℕ) (d : Deed) → KeepsOthers p w (next w (step_of p d))
 others_in w p d = λ q other. others_stay w (next w (step_of p d)) p _ (turn_as w p d) q other
 
@@ -135,22 +135,22 @@ record Keeps (w v : World) : Type 0 where
   book : KeepsBook w v
   locks : v.locks ≡ w.locks
 
-back_keeps : (w : World) (p : ℕ) (st : Stage) → Keeps w (backs w p st)
+back_keeps : (w : World) (p : ℕ) (st : Phase) → Keeps w (backs w p st)
 back_keeps w p (Failed k l again) = record { book = record { sets = refl; state = refl; history = refl }; locks = refl }
 back_keeps w p st = record { book = record { sets = refl; state = refl; history = refl }; locks = refl }
 
 -- what holds of a step that is made, and of none
 pub in_any : (P : World → Type 0) (w : World) (p : ℕ) (d : Deed) → P w → P (does w p d) → P (next w (step_of p d))
 in_any P w p d same done = ⊎_elim
-    (λ (there : p < length w.stages). by_does P w (does w p d) p d there refl done)
-    (λ (out : length w.stages ≤ p). subst P (sym (next_out w p d out)) same)
+    (λ (there : p < length w.phases). by_does P w (does w p d) p d there refl done)
+    (λ (out : length w.phases ≤ p). subst P (sym (next_out w p d out)) same)
     (there_or w p)
 
 pub same_book : (w : World) → KeepsBook w w
 same_book w = record { sets = refl; state = refl; history = refl }
 
 back_all : (w : World) (p : ℕ) → Keeps w (next w (step_of p Back))
-back_all w p = in_any (Keeps w) w p Back record { book = same_book w; locks = refl } (back_keeps w p (stage_at w p))
+back_all w p = in_any (Keeps w) w p Back record { book = same_book w; locks = refl } (back_keeps w p (phase_at w p))
 
 pub back_book : (w : World) (p : ℕ) → KeepsBook w (next w (step_of p Back))
 back_book w p = (back_all w p).book
@@ -160,25 +160,25 @@ back_holders w p u = ap (λ (locks : List (Option ℕ)). slice_index_or locks u 
 
 -- End
 
-end_keeps : (w : World) (p : ℕ) (st : Stage) → KeepsBook w (ends w p st)
+end_keeps : (w : World) (p : ℕ) (st : Phase) → KeepsBook w (ends w p st)
 end_keeps w p (Ended k) = record { sets = refl; state = refl; history = refl }
 end_keeps w p st = record { sets = refl; state = refl; history = refl }
 
 pub end_book : (w : World) (p : ℕ) → KeepsBook w (next w (step_of p End))
-end_book w p = in_any (KeepsBook w) w p End (same_book w) (end_keeps w p (stage_at w p))
+end_book w p = in_any (KeepsBook w) w p End (same_book w) (end_keeps w p (phase_at w p))
 
-pub end_frees : (w : World) (p : ℕ) (k : Call) → stage_at w p ≡ Ended k → Frees p w (next w (step_of p End))
+pub end_frees : (w : World) (p : ℕ) (k : Call) → phase_at w p ≡ Ended k → Frees p w (next w (step_of p End))
 end_frees w p k is =
     let there = ended_there w p k is in
     by_does (Frees p w) w (finished w p) p End there (ap (ends w p) is) (frees_when w p k true there)
 
 -- Desks of units that are held
 
-pub held_rests : (w : World) (p u : ℕ) (k : Call) → IsReached w → stage_at w p ≡ Held k → lock_at w u ≡ Some p → Rests w.sets w.state.accounts u (desk_at w u)
+pub held_rests : (w : World) (p u : ℕ) (k : Call) → IsReached w → phase_at w p ≡ Held k → lock_at w u ≡ Some p → Rests w.sets w.state.accounts u (desk_at w u)
 held_rests w p u k reached is mine = held_desk w p u (Held k) (good_reached w reached) is mine
 
-pub looked_rests : (w : World) (p u : ℕ) (k : Call) (l : View) → IsReached w → stage_at w p ≡ Looked k l → lock_at w u ≡ Some p → Rests w.sets w.state.accounts u (desk_at w u)
+pub looked_rests : (w : World) (p u : ℕ) (k : Call) (l : View) → IsReached w → phase_at w p ≡ Looked k l → lock_at w u ≡ Some p → Rests w.sets w.state.accounts u (desk_at w u)
 looked_rests w p u k l reached is mine = held_desk w p u (Looked k l) (good_reached w reached) is mine
 
-pub ended_rests : (w : World) (p u : ℕ) (k : Call) → IsReached w → stage_at w p ≡ Ended k → lock_at w u ≡ Some p → Rests w.sets w.state.accounts u (desk_at w u)
+pub ended_rests : (w : World) (p u : ℕ) (k : Call) → IsReached w → phase_at w p ≡ Ended k → lock_at w u ≡ Some p → Rests w.sets w.state.accounts u (desk_at w u)
 ended_rests w p u k reached is mine = held_desk w p u (Ended k) (good_reached w reached) is mine

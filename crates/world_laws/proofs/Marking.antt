@@ -10,13 +10,13 @@ use Rattle.mgn_machine.specs.State.{AccountState}
 use Rattle.mgn_plan.specs.declared.plans.Plan.{Plan}
 use Rattle.mgn_plan.specs.declared.plans.Plan.TheVariants.{Nothing, One, Two}
 use Rattle.mgn_world.specs.Claims.{IsAmong, IsReached}
-use Rattle.mgn_world.specs.declared.stages.Call.{Call}
-use Rattle.mgn_world.specs.declared.stages.Deed.TheVariants.{Mark}
-use Rattle.mgn_world.specs.declared.stages.Stage.TheVariants.{Looked}
-use Rattle.mgn_world.specs.Stages.{View}
-use Rattle.mgn_world.specs.declared.stages.Seen.{Seen}
+use Rattle.mgn_world.specs.declared.phases.Call.{Call}
+use Rattle.mgn_world.specs.declared.phases.Deed.TheVariants.{Mark}
+use Rattle.mgn_world.specs.declared.phases.Phase.TheVariants.{Looked}
+use Rattle.mgn_world.specs.Phases.{View}
+use Rattle.mgn_world.specs.declared.phases.Seen.{Seen}
 use Rattle.mgn_world.specs.Standing.{Good, Owns, Sees}
-use Rattle.mgn_world.specs.World.{World, are_of, desk_at, is_of, mark_first, marks, next, plan_units, seen_at, stage_at, unit_nets}
+use Rattle.mgn_world.specs.World.{World, are_of, desk_at, is_of, mark_first, marks, next, phase_at, plan_units, seen_at, unit_nets}
 use Rattle.mgn_world.proofs.Desks.{plan_held}
 use Rattle.mgn_world.proofs.Locks.{lock_inside}
 use Rattle.mgn_world.proofs.Said.{good_reached}
@@ -119,7 +119,7 @@ seen_there : (n : ℕ) (t : Tables) (accounts : List AccountState) (us : List �
 seen_there n t accounts [] inside = tt
 seen_there n t accounts (u ∷ us) inside = (inside u (inl refl), seen_there n t accounts us (λ x h. inside x (inr h)))
 
-pub two_marks : (w : World) (p : ℕ) (k : Call) (l : View) → Good w → stage_at w p ≡ Looked k l → are_of l.version (mark_first l.version l.seen (mark_first l.version l.seen w.desks)) l.seen ≡ true
+pub two_marks : (w : World) (p : ℕ) (k : Call) (l : View) → Good w → phase_at w p ≡ Looked k l → are_of l.version (mark_first l.version l.seen (mark_first l.version l.seen w.desks)) l.seen ≡ true
 two_marks w p k l good is =
     let ok = session w p (Looked k l) good is in
     let inside : (u : ℕ) → IsAmong u (plan_units l.plan) → u < length w.desks = λ (u : ℕ) (h : IsAmong u (plan_units l.plan)). let less = lock_inside w.locks u p (plan_held w p u k l ok.0 ok.1 h) in omega (arith, less, good.locks_long, good.desks_long) in
@@ -162,10 +162,10 @@ marks_of version t accounts (u ∷ us) desks inside = by (is_of version (slice_i
         rest
     by false e rest = inr (u, (inl refl, not_of version (slice_index_or desks u None) e, get_or-set_same desks u now None (inside u (inl refl)), λ x other. get_or-set_other desks u x now None other))
 
-pub marks_one : (w : World) (p : ℕ) (k : Call) (l : View) → IsReached w → stage_at w p ≡ Looked k l → MarksOne p l w (next w (step_of p Mark))
+pub marks_one : (w : World) (p : ℕ) (k : Call) (l : View) → IsReached w → phase_at w p ≡ Looked k l → MarksOne p l w (next w (step_of p Mark))
 marks_one w p k l reached is =
     by_does (MarksOne p l w) w (record w { desks = mark_first l.version l.seen w.desks }) p Mark (looked_there w p k l is) (ap (marks w) is) record {
-      stages = λ q. refl;
+      phases = λ q. refl;
       holders = λ u. refl;
       book = record { sets = refl; state = refl; history = refl };
       desks = ⊎_elim

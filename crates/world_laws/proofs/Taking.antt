@@ -8,9 +8,9 @@ use Rattle.mgn_machine.specs.declared.reply.Refusal.{Refusal}
 use Rattle.mgn_machine.specs.Refusals.{place_of}
 use Rattle.mgn_machine.specs.State.{State, account_at}
 use Rattle.mgn_world.specs.Claims.{IsAmong, IsReached}
-use Rattle.mgn_world.specs.declared.stages.Deed.TheVariants.{Begin}
-use Rattle.mgn_world.specs.declared.stages.Stage.TheVariants.{Held, Idle}
-use Rattle.mgn_world.specs.World.{World, are_free, begin_on, begins, is_free, lock_at, next, stage_at, taken, unit_found, units_found, units_of}
+use Rattle.mgn_world.specs.declared.phases.Deed.TheVariants.{Begin}
+use Rattle.mgn_world.specs.declared.phases.Phase.TheVariants.{Held, Idle}
+use Rattle.mgn_world.specs.World.{World, are_free, begin_on, begins, is_free, lock_at, next, phase_at, taken, unit_found, units_found, units_of}
 use Rattle.mgn_world.proofs.Frames.{some_none}
 use Rattle.mgn_world.proofs.Locks.{free_at, taken_mine, taken_other}
 use Rattle.mgn_world.proofs.Said.{good_reached}
@@ -125,19 +125,19 @@ listed_some w (name ∷ names) (u ∷ us) some are = λ (e : u ∷ us ≡ []). c
 
 -- a session holds these units
 abbrev holding : World → ℕ → Command → List ℕ → World
-holding w p c us = record w { locks = taken p us w.locks; stages = slice_set w.stages p (Held record { command = c; began = w.state.version; looks = 0 }) }
+holding w p c us = record w { locks = taken p us w.locks; phases = slice_set w.phases p (Held record { command = c; began = w.state.version; looks = 0 }) }
 
 begin_on_is : (w : World) (p : ℕ) (c : Command) (us : List ℕ) → us ≢ [] → are_free w.locks us ≡ true → begin_on w p c us ≡ holding w p c us
 begin_on_is w p c [] some free = absurd (some refl)
 begin_on_is w p c (u ∷ us) some free = ap (λ (b : Bool). if b then holding w p c (u ∷ us) else w) free
 
-pub begins_by : (w : World) (p : ℕ) (c : Command) → p < length w.stages → stage_at w p ≡ Idle → next w (step_of p (Begin c)) ≡ begin_on w p c (units_of w.state c)
+pub begins_by : (w : World) (p : ℕ) (c : Command) → p < length w.phases → phase_at w p ≡ Idle → next w (step_of p (Begin c)) ≡ begin_on w p c (units_of w.state c)
 begins_by w p c there idle = next_is w p (Begin c) there ∙ ap (begins w p c) idle
 
-pub takes : (w : World) (p : ℕ) (c : Command) → IsReached w → p < length w.stages → stage_at w p ≡ Idle → accounts_of c ≢ [] → AreFree w (accounts_of c) → Takes p c w (next w (step_of p (Begin c)))
+pub takes : (w : World) (p : ℕ) (c : Command) → IsReached w → p < length w.phases → phase_at w p ≡ Idle → accounts_of c ≢ [] → AreFree w (accounts_of c) → Takes p c w (next w (step_of p (Begin c)))
 takes w p c reached there idle some free = subst (Takes p c w) (sym now) record {
-  stage = get_or-set_same w.stages p (Held record { command = c; began = w.state.version; looks = 0 }) Idle there;
-  others = λ q other. get_or-set_other w.stages p q (Held record { command = c; began = w.state.version; looks = 0 }) Idle other;
+  phase = get_or-set_same w.phases p (Held record { command = c; began = w.state.version; looks = 0 }) Idle there;
+  others = λ q other. get_or-set_other w.phases p q (Held record { command = c; began = w.state.version; looks = 0 }) Idle other;
   mine = λ u h. taken_mine p us w.locks u inside (listed_back w (accounts_of c) us u listed h);
   theirs = λ u n. taken_other p us w.locks u (λ h. n (listed_into w (accounts_of c) us u listed h));
   desks = λ u. refl;
@@ -165,11 +165,11 @@ waits_on : (w : World) (p : ℕ) (c : Command) (us : List ℕ) (u q : ℕ) → I
 waits_on w p c [] u q h held = absurd h
 waits_on w p c (x ∷ us) u q h held = ap (λ (b : Bool). if b then holding w p c (x ∷ us) else w) (held_not_free w.locks (x ∷ us) u q _ refl h held)
 
-waits_there : (w : World) (p u q : ℕ) (c : Command) → p < length w.stages → stage_at w p ≡ Idle → IsAmong u (units_of w.state c) → lock_at w u ≡ Some q → next w (step_of p (Begin c)) ≡ w
+waits_there : (w : World) (p u q : ℕ) (c : Command) → p < length w.phases → phase_at w p ≡ Idle → IsAmong u (units_of w.state c) → lock_at w u ≡ Some q → next w (step_of p (Begin c)) ≡ w
 waits_there w p u q c there idle h held = begins_by w p c there idle ∙ waits_on w p c (units_of w.state c) u q h held
 
-pub waits : (w : World) (p u q : ℕ) (c : Command) → stage_at w p ≡ Idle → IsAmong u (units_of w.state c) → lock_at w u ≡ Some q → next w (step_of p (Begin c)) ≡ w
+pub waits : (w : World) (p u q : ℕ) (c : Command) → phase_at w p ≡ Idle → IsAmong u (units_of w.state c) → lock_at w u ≡ Some q → next w (step_of p (Begin c)) ≡ w
 waits w p u q c idle h held = ⊎_elim
-    (λ (there : p < length w.stages). waits_there w p u q c there idle h held)
-    (λ (out : length w.stages ≤ p). next_out w p (Begin c) out)
+    (λ (there : p < length w.phases). waits_there w p u q c there idle h held)
+    (λ (out : length w.phases ≤ p). next_out w p (Begin c) out)
     (there_or w p)

@@ -9,17 +9,17 @@ use Rattle.mgn_machine.specs.declared.request.Request.{Request}
 use Rattle.mgn_machine.specs.Refusals.{place_of}
 use Rattle.mgn_machine.specs.State.{State, account_at}
 use Rattle.mgn_world.specs.Claims.{IsAmong}
-use Rattle.mgn_world.specs.declared.stages.Call.{Call}
-use Rattle.mgn_world.specs.declared.stages.Deed.{Deed}
-use Rattle.mgn_world.specs.declared.stages.Deed.TheVariants.{Begin, Look, Mark, Apply, Commit, Back, End, Gather, Prepare}
-use Rattle.mgn_world.specs.declared.stages.Stage.{Stage}
-use Rattle.mgn_world.specs.declared.stages.Stage.TheVariants.{Idle, Held, Looked, Applied, Failed, Ended, Gathered}
-use Rattle.mgn_world.specs.Stages.{View}
-use Rattle.mgn_world.specs.World.{World, desk_at, lock_at, plan_units, stage_at, unit_nets}
+use Rattle.mgn_world.specs.declared.phases.Call.{Call}
+use Rattle.mgn_world.specs.declared.phases.Deed.{Deed}
+use Rattle.mgn_world.specs.declared.phases.Deed.TheVariants.{Begin, Look, Mark, Apply, Commit, Back, End, Gather, Prepare}
+use Rattle.mgn_world.specs.declared.phases.Phase.{Phase}
+use Rattle.mgn_world.specs.declared.phases.Phase.TheVariants.{Idle, Held, Looked, Applied, Failed, Ended, Gathered}
+use Rattle.mgn_world.specs.Phases.{View}
+use Rattle.mgn_world.specs.World.{World, desk_at, lock_at, phase_at, plan_units, unit_nets}
 use Rattle.world_laws.specs.Moves.{Enters, KeepsBook, KeepsOthers, KeepsUnits}
 
--- the steps that a session in a stage may make
-abbrev pub is_next : Stage → Deed → Bool
+-- the steps that a session in a phase may make
+abbrev pub is_next : Phase → Deed → Bool
 is_next Idle (Begin c) = true
 is_next Idle (Gather set) = true
 is_next (Held k) Look = true
@@ -30,7 +30,7 @@ is_next (Failed k l again) Back = true
 is_next (Ended k) End = true
 is_next (Gathered g) (Prepare u) = true
 is_next (Gathered g) Commit = true
-is_next stage deed = false
+is_next phase deed = false
 
 -- the accounts whose units a command has
 abbrev pub accounts_of : Command → List (List ℕ)
@@ -69,16 +69,16 @@ IsOfOne s (name ∷ names) u =
 
 -- a session begins the call of a command: it holds the units of its accounts, and nothing else changes
 pub record Takes (p : ℕ) (c : Command) (w v : World) : Type 0 where
-  pub stage : stage_at v p ≡ Held record { command = c; began = w.state.version; looks = 0 }
+  pub phase : phase_at v p ≡ Held record { command = c; began = w.state.version; looks = 0 }
   pub others : KeepsOthers p w v
   pub mine : (u : ℕ) → IsOfOne w.state (accounts_of c) u → lock_at v u ≡ Some p
   pub theirs : (u : ℕ) → (IsOfOne w.state (accounts_of c) u → ⊥) → lock_at v u ≡ lock_at w u
   pub desks : (u : ℕ) → desk_at v u ≡ desk_at w u
   pub book : KeepsBook w v
 
--- a session comes to a stage with one step of the machine; desks and holders are as they were
-pub record Commits (p : ℕ) (request : Request) (to : Stage) (w v : World) : Type 0 where
-  pub stage : stage_at v p ≡ to
+-- a session comes to a phase with one step of the machine; desks and holders are as they were
+pub record Commits (p : ℕ) (request : Request) (to : Phase) (w v : World) : Type 0 where
+  pub phase : phase_at v p ≡ to
   pub others : KeepsOthers p w v
   pub enters : Enters p request w v
   pub units : KeepsUnits w v
@@ -98,16 +98,16 @@ pub record MarksDesk (l : View) (u : ℕ) (w v : World) : Type 0 where
 
 -- a Mark sets one such desk, or all desks of the plan are of the looked version and it changes none
 pub record MarksOne (p : ℕ) (l : View) (w v : World) : Type 0 where
-  pub stages : (q : ℕ) → stage_at v q ≡ stage_at w q
+  pub phases : (q : ℕ) → phase_at v q ≡ phase_at w q
   pub holders : (u : ℕ) → lock_at v u ≡ lock_at w u
   pub book : KeepsBook w v
   pub desks : (((u : ℕ) → IsAmong u (plan_units l.plan) → marked_under (desk_at w u) ≡ Some l.version)
       × ((u : ℕ) → desk_at v u ≡ desk_at w u))
       ⊎ ((u : ℕ) × MarksDesk l u w v)
 
--- a call is applied: beside its stage, only desks of units of its plan change
+-- a call is applied: beside its phase, only desks of units of its plan change
 pub record AppliesPlan (p : ℕ) (k : Call) (l : View) (w v : World) : Type 0 where
-  pub stage : stage_at v p ≡ Applied k l
+  pub phase : phase_at v p ≡ Applied k l
   pub others : KeepsOthers p w v
   pub holders : (u : ℕ) → lock_at v u ≡ lock_at w u
   pub desks : (u : ℕ) → (IsAmong u (plan_units l.plan) → ⊥) → desk_at v u ≡ desk_at w u

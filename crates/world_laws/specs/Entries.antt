@@ -3,11 +3,11 @@ use Rattle.std.specs.Prelude.{ℕ, ◌≡◌, ◌++◌, Bool, true, false, List,
 use Rattle.mgn_machine.specs.declared.entry.Entry.{Entry}
 use Rattle.mgn_plan.specs.declared.plans.Plan.TheVariants.{Nothing}
 use Rattle.mgn_plan.specs.Plans.{plan_of}
-use Rattle.mgn_world.specs.declared.stages.Deed.{Deed}
-use Rattle.mgn_world.specs.declared.stages.Deed.TheVariants.{Begin, Look, Mark, Apply, Commit, Back, End, Gather, Prepare}
-use Rattle.mgn_world.specs.declared.stages.Stage.{Stage}
-use Rattle.mgn_world.specs.declared.stages.Stage.TheVariants.{Idle, Held, Looked, Applied, Failed, Ended, Gathered}
-use Rattle.mgn_world.specs.declared.stages.Step.{Step}
+use Rattle.mgn_world.specs.declared.phases.Deed.{Deed}
+use Rattle.mgn_world.specs.declared.phases.Deed.TheVariants.{Begin, Look, Mark, Apply, Commit, Back, End, Gather, Prepare}
+use Rattle.mgn_world.specs.declared.phases.Phase.{Phase}
+use Rattle.mgn_world.specs.declared.phases.Phase.TheVariants.{Idle, Held, Looked, Applied, Failed, Ended, Gathered}
+use Rattle.mgn_world.specs.declared.phases.Step.{Step}
 use Rattle.mgn_world.specs.World.{World, in_force, units_of}
 
 -- the history has one entry more, which is of the session
@@ -15,15 +15,15 @@ abbrev pub AddsOne : ℕ → World → World → Type 0
 AddsOne session w v = (e : Entry) × ((e.session ≡ session) × (v.history ≡ w.history ++ e ∷ []))
 
 -- the steps that answer: a Begin without units, a Look without a plan, the Commit of an applied call or of a gathered set
-abbrev pub Answers : World → Stage → Deed → Type 0
+abbrev pub Answers : World → Phase → Deed → Type 0
 Answers w Idle (Begin c) = units_of w.state c ≡ []
 Answers w (Held k) Look = plan_of (in_force w) w.state k.command ≡ Nothing
 Answers w (Applied k l) Commit = Unit {0}
 Answers w (Gathered g) Commit = Unit {0}
-Answers w stage deed = ⊥
+Answers w phase deed = ⊥
 
 -- a call that is applied looked under the set in force
-abbrev pub IsCurrent : World → Stage → Type 0
+abbrev pub IsCurrent : World → Phase → Type 0
 IsCurrent w Idle = Unit {0}
 IsCurrent w (Held k) = Unit {0}
 IsCurrent w (Looked k l) = Unit {0}
@@ -33,7 +33,7 @@ IsCurrent w (Ended k) = Unit {0}
 IsCurrent w (Gathered g) = Unit {0}
 
 -- there is no call, or it was answered
-abbrev pub IsAnswered : Stage → Type 0
+abbrev pub IsAnswered : Phase → Type 0
 IsAnswered Idle = Unit {0}
 IsAnswered (Held k) = ⊥
 IsAnswered (Looked k l) = ⊥

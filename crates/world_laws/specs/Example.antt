@@ -9,10 +9,10 @@ use Rattle.mgn_machine.specs.declared.command.Command.TheVariants.{NewOrigin, Ne
 use Rattle.mgn_machine.specs.declared.command.Mode.TheVariants.{Gross}
 use Rattle.mgn_plan.specs.declared.plans.Plan.TheVariants.{One}
 use Rattle.mgn_unit.specs.Changes.{hold_change}
-use Rattle.mgn_world.specs.declared.stages.Call.{Call}
-use Rattle.mgn_world.specs.declared.stages.Deed.TheVariants.{Begin, Look, Mark, Apply, Commit, Back, End, Gather, Prepare}
-use Rattle.mgn_world.specs.declared.stages.Step.{Step}
-use Rattle.mgn_world.specs.Stages.{View}
+use Rattle.mgn_world.specs.declared.phases.Call.{Call}
+use Rattle.mgn_world.specs.declared.phases.Deed.TheVariants.{Begin, Look, Mark, Apply, Commit, Back, End, Gather, Prepare}
+use Rattle.mgn_world.specs.declared.phases.Step.{Step}
+use Rattle.mgn_world.specs.Phases.{View}
 use Rattle.world_laws.specs.Moves.{step_of}
 
 -- a future of one commodity, of which one contract loses at most a number of cents

@@ -4,19 +4,19 @@ use Rattle.mgn_machine.specs.declared.request.Request.{Request}
 use Rattle.mgn_machine.specs.History.{calls, entry, recorded}
 use Rattle.mgn_machine.specs.Step.{step}
 use Rattle.mgn_book.specs.BookViews.{sets_after}
-use Rattle.mgn_world.specs.declared.stages.Deed.{Deed}
-use Rattle.mgn_world.specs.declared.stages.Stage.{Stage}
-use Rattle.mgn_world.specs.declared.stages.Stage.TheVariants.{Idle}
-use Rattle.mgn_world.specs.declared.stages.Step.{Step}
-use Rattle.mgn_world.specs.World.{World, desk_at, lock_at, stage_at}
+use Rattle.mgn_world.specs.declared.phases.Deed.{Deed}
+use Rattle.mgn_world.specs.declared.phases.Phase.{Phase}
+use Rattle.mgn_world.specs.declared.phases.Phase.TheVariants.{Idle}
+use Rattle.mgn_world.specs.declared.phases.Step.{Step}
+use Rattle.mgn_world.specs.World.{World, desk_at, lock_at, phase_at}
 
 -- a step of the session at a place
 abbrev pub step_of : ℕ → Deed → Step
 step_of p deed = record { session = suc p; deed = deed }
 
--- the other sessions are in the stages that they were in
+-- the other sessions are in the phases that they were in
 abbrev pub KeepsOthers : ℕ → World → World → Type 0
-KeepsOthers p w v = (q : ℕ) → q ≢ p → stage_at v q ≡ stage_at w q
+KeepsOthers p w v = (q : ℕ) → q ≢ p → phase_at v q ≡ phase_at w q
 
 -- sets, state and history are as they were
 pub record KeepsBook (w v : World) : Type 0 where
@@ -29,9 +29,9 @@ pub record KeepsUnits (w v : World) : Type 0 where
   pub desks : (u : ℕ) → desk_at v u ≡ desk_at w u
   pub holders : (u : ℕ) → lock_at v u ≡ lock_at w u
 
--- a session comes to a stage, and nothing else changes
-pub record ComesTo (p : ℕ) (to : Stage) (w v : World) : Type 0 where
-  pub stage : stage_at v p ≡ to
+-- a session comes to a phase, and nothing else changes
+pub record ComesTo (p : ℕ) (to : Phase) (w v : World) : Type 0 where
+  pub phase : phase_at v p ≡ to
   pub others : KeepsOthers p w v
   pub book : KeepsBook w v
   pub units : KeepsUnits w v
@@ -44,7 +44,7 @@ pub record Enters (p : ℕ) (request : Request) (w v : World) : Type 0 where
 
 -- what a session held is free, all else is held as it was, and the session is idle
 pub record Frees (p : ℕ) (w v : World) : Type 0 where
-  pub stage : stage_at v p ≡ Idle
+  pub phase : phase_at v p ≡ Idle
   pub others : KeepsOthers p w v
   pub mine : (u : ℕ) → lock_at w u ≡ Some p → lock_at v u ≡ None
   pub theirs : (u : ℕ) → lock_at w u ≢ Some p → lock_at v u ≡ lock_at w u

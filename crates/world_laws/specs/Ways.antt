@@ -1,7 +1,7 @@
 -- Steps that bring a session to its end.
 use Rattle.std.specs.Prelude.{ℕ, ◌≡◌, List, [], ◌∷◌, map}
-use Rattle.mgn_world.specs.declared.stages.Deed.TheVariants.{Look, Mark, Apply, Commit, Back, End}
-use Rattle.mgn_world.specs.declared.stages.Step.{Step}
+use Rattle.mgn_world.specs.declared.phases.Deed.TheVariants.{Look, Mark, Apply, Commit, Back, End}
+use Rattle.mgn_world.specs.declared.phases.Step.{Step}
 use Rattle.world_laws.specs.Moves.{step_of}
 
 -- twelve steps of the session at a place; those that are not its next one do nothing

@@ -5,7 +5,7 @@ ghost use Rattle.std.specs.Prelude.{◌<◌};
 use crate::commands::{CLOSING, OPENING, command, has_units, line};
 use mgn_params::ParamSet;
 use mgn_setfile::read_set;
-use mgn_world::stages::{Deed, Step};
+use mgn_world::phases::{Deed, Step};
 use rand::RngExt;
 use rand_pcg::Pcg32;
 use std::alloc::Global;

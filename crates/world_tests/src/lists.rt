@@ -5,7 +5,7 @@ use mgn_machine::Answer;
 use mgn_setfile::read_set;
 use mgn_wire::{LineReply, reply_text};
 use mgn_world::World;
-use mgn_world::stages::{Deed, Step};
+use mgn_world::phases::{Deed, Step};
 use std::alloc::Global;
 use std::process::Abort;
 use std::test::Fail;

@@ -5,7 +5,7 @@ use crate::one_thread::{OneThread, text};
 use mgn_book::Book;
 use mgn_machine::{Refusal, Reply};
 use mgn_world::World;
-use mgn_world::stages::{Deed, Step};
+use mgn_world::phases::{Deed, Step};
 use std::alloc::{AllocError, Global};
 use std::process::Abort;
 use std::test::Fail;

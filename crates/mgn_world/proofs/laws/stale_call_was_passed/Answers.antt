@@ -1,4 +1,4 @@
-use Rattle.mgn_world.specs.declared.stages.Stage.TheVariants.{Failed}
+use Rattle.mgn_world.specs.declared.phases.Phase.TheVariants.{Failed}
 use Rattle.mgn_world.proofs.Said.{good_reached}
 use Rattle.mgn_world.proofs.Simple.{session}
 use Rattle.std.specs.Prelude.{true}

@@ -4,7 +4,7 @@ use Rattle.world_laws.proofs.calls.a_step_leaves_others_alone.Goals as goal
 
 pub returns : goal.returns
 returns c = record {
-  stages = λ w p d. others_in w p d;
+  phases = λ w p d. others_in w p d;
   holders = λ w p u q d other e. holders_alone w p u q d other e;
   desks = λ w p u d reached n. desks_alone w p u d reached n;
 }

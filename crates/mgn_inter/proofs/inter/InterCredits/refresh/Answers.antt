@@ -6,7 +6,7 @@ use Rattle.mgn_inter.specs.Told.{credits_at, told_of}
 use Rattle.mgn_inter.proofs.ToldLemmas.{told_alike, told_are, told_once}
 use Rattle.mgn_inter.proofs.TurnLemmas.{turn_first}
 use Rattle.mgn_inter.proofs.inter.InterCredits.refresh.Goals as goal
-use Rattle.mgn_inter.proofs.inter.InterCredits.refresh.Goals.{After-pass_all, After-rework_reached, After-write_numbers}
+use Rattle.mgn_inter.proofs.inter.InterCredits.refresh.Goals.{After-rework_reached, After-write_numbers}
 
 -- the numbers are written, and no spread is formed again
 at_first : (c : After-write_numbers) → IsAtTurn c.args.set.now c.args.g c.args.self.now (slice_set (replicate 256 false) c.args.g true) 0 c.write_numbers.new.self

@@ -1,6 +1,5 @@
-use Rattle.std.proofs.Common.{◌≡◌, ◌∙◌, ◌+◌, ◌<◌, ◌≤◌, ◌*◌, ℕ, List, ap, arith, get_or, length, pos, rules, subst, sym, vec_len}
-use Rattle.std.specs.Prelude.{ℤ, IfSome, Option}
-use Rattle.std.proofs.Math.Nat.{div-eq_of_lt-le}
+use Rattle.std.proofs.Common.{◌≡◌, ◌∙◌, ◌+◌, ◌<◌, ◌≤◌, ℕ, List, ap, arith, get_or, length, pos, rules, subst, sym, vec_len}
+use Rattle.std.specs.Prelude.{ℤ, IfSome}
 use Rattle.std.proofs.lemmas.Grind.{get_or_default_zero}
 use Rattle.mgn_span.specs.Scan.{value_at}
 use Rattle.mgn_nets.proofs.Paged.{found-in, held-in, page-cell, page-none, page-within, passed-in}

@@ -8,7 +8,7 @@ use Rattle.mgn_machine.specs.Refusals.{is_over}
 use Rattle.mgn_machine.specs.Holding.{entered, hold_places, new_hold, with_hold}
 use Rattle.mgn_unit.specs.Changes.{hold_change}
 use Rattle.mgn_machine.specs.State.{AccountState, account_at}
-use Rattle.mgn_register.specs.declared.fault.Fault.{Fault}
+use Rattle.mgn_register.specs.declared.step_fault.StepFault.{StepFault}
 use Rattle.mgn_register.specs.BookStates.{BookState, IsKept, Steps, book_state}
 use Rattle.mgn_register.specs.RoomAsked.{AsksRoom}
 use Rattle.mgn_register.proofs.Kept.{names-kept}
@@ -89,7 +89,7 @@ returns-in_err-enter_hold-clause-steps c =
     same-state r.origins.items r.accounts.items r.rows.items r.closed r.version at.0 c.unit.result a c.enter_hold.new.owner row c.enter_hold.new.row c.index_mut-owner.ensures.value c.index_mut-row.ensures.value same same_row
     in
     let returned : c.from_residual-in_err-enter_hold.result ≡ Err c.in_err-enter_hold.field-0.0 = search rules in
-    subst (λ (x : Result (Unit {0}) Fault). Steps (entered set' c.args.self.now.state c.args.hold.now) x c.args.self.now new) (sym returned)
+    subst (λ (x : Result (Unit {0}) StepFault). Steps (entered set' c.args.self.now.state c.args.hold.now) x c.args.self.now new) (sym returned)
     (subst (λ (g : BookState). Steps {X = Unit {0}} (entered set' g.state c.args.hold.now) (Err c.in_err-enter_hold.field-0.0) g new) c.self.view_is
     (hold-refused set' f new at a row c.args.hold.now c.in_err-enter_hold.field-0.0 reads places asks stays))
 

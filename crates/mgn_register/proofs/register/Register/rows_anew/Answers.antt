@@ -1,4 +1,4 @@
-use Rattle.std.proofs.Common.{◌≡◌, ◌<◌, ◌∙◌, List, get_or, length, arith, refl, rules}
+use Rattle.std.proofs.Common.{◌≡◌, ◌<◌, ◌∙◌, get_or, length, arith, refl, rules}
 use Rattle.mgn_unit.specs.NewSets.{row_under, unit_gain}
 use Rattle.mgn_register.specs.BookStates.{BookState}
 use Rattle.mgn_register.proofs.Switches.{found-carried, found-current, found-prepared, row-kept, rows-pushed, worths-kept}
