@@ -1,13 +1,13 @@
 //! What is kept of nets, beside the calculation recomputed from scratch, after each of many changes.
 
-mod kept;
 mod limits;
+mod running_parts;
 
 ghost use Rattle.std.specs.Prelude.{◌<◌};
 
 use crate::sets::{WITH_CONTRACTS, Worked, read_text};
-use kept::Kept;
 use mgn_params::ParamSet;
+use running_parts::RunningParts;
 use std::alloc::Global;
 use std::process::Abort;
 use std::test::Fail;
@@ -47,7 +47,12 @@ const CHANGES: [(usize, i64); 28] = [
 ];
 
 // Makes the changes, and compares after each.
-fn follow_all(rt: &impl Abort, alloc: Global, kept: &mut Kept, count: usize) -> Result<(), Fail>
+fn follow_all(
+    rt: &impl Abort,
+    alloc: Global,
+    kept: &mut RunningParts,
+    count: usize,
+) -> Result<(), Fail>
     requires { 0 < count }
 {
     for (contract, net) in &CHANGES {
@@ -61,7 +66,7 @@ fn follow_all(rt: &impl Abort, alloc: Global, kept: &mut Kept, count: usize) -> 
 fn agree_after_all(rt: &impl Abort, alloc: Global, set: &ParamSet) -> Result<(), Fail> {
     let count = set.contract_count();
     assert!(rt; 0 < count);
-    let mut kept = Kept::new(alloc, set)?;
+    let mut kept = RunningParts::new(alloc, set)?;
     follow_all(rt, alloc, &mut kept, count)
 }
 
@@ -98,7 +103,12 @@ fn contracts_of(k: usize) -> i64
 }
 
 // Many changes, each compared.
-fn follow_many(rt: &impl Abort, alloc: Global, kept: &mut Kept, count: usize) -> Result<(), Fail>
+fn follow_many(
+    rt: &impl Abort,
+    alloc: Global,
+    kept: &mut RunningParts,
+    count: usize,
+) -> Result<(), Fail>
     requires { 0 < count }
 {
     for k in 0..300 {
@@ -112,7 +122,7 @@ fn follow_many(rt: &impl Abort, alloc: Global, kept: &mut Kept, count: usize) ->
 fn agree_after_many(rt: &impl Abort, alloc: Global, set: &ParamSet) -> Result<(), Fail> {
     let count = set.contract_count();
     assert!(rt; 0 < count);
-    let mut kept = Kept::new(alloc, set)?;
+    let mut kept = RunningParts::new(alloc, set)?;
     follow_many(rt, alloc, &mut kept, count)
 }
 

@@ -144,7 +144,7 @@ fn server_options(alloc: Global, found: &ArgMatches<'_>) -> Result<ServerOptions
 }
 
 // What the words that were found ask for.
-fn request_in(alloc: Global, matches: &ArgMatches<'_>) -> Result<Invocation, Error> {
+fn invocation_in(alloc: Global, matches: &ArgMatches<'_>) -> Result<Invocation, Error> {
     match matches.subcommand() {
         Some(("script", found)) => Ok(Invocation::Script(set_path(alloc, found)?)),
         Some(("serve", found)) => Ok(Invocation::Serve(server_options(alloc, found)?)),
@@ -153,9 +153,9 @@ fn request_in(alloc: Global, matches: &ArgMatches<'_>) -> Result<Invocation, Err
     }
 }
 
-fn request_of(alloc: Global, words: &[String]) -> Result<Invocation, Error> {
+fn invocation_of(alloc: Global, words: &[String]) -> Result<Invocation, Error> {
     let matches = command(alloc)?.try_get_matches_from(words)?;
-    request_in(alloc, &matches)
+    invocation_in(alloc, &matches)
 }
 
 // The words of the command line. Words that are no text are a wrong command line.
@@ -171,5 +171,5 @@ fn words<R: Env + AllocGlobal>(rt: &R) -> Result<Vec<String>, Error> {
 /// to the caller of the program.
 pub fn read<R: Env + AllocGlobal>(rt: &R) -> Result<Invocation, Error> {
     let words = words(rt)?;
-    request_of(rt.alloc(), words.as_slice())
+    invocation_of(rt.alloc(), words.as_slice())
 }

@@ -10,7 +10,7 @@ use mgn_params::{Class, ParamSet};
 pub const MOST_CASH: u64 = 1_000_000_000_000_000;
 
 /// The most units of a class that an account may have posted.
-pub const MOST_UNITS: u64 = 1_000_000_000;
+pub const MOST_CLASS_UNITS: u64 = 1_000_000_000;
 
 /// Whether a name is that of cash.
 pub fn is_cash(class: &ClassName) -> bool
@@ -33,7 +33,7 @@ pub fn most_of(class: &ClassName) -> u64
     if is_cash(class) {
         MOST_CASH
     } else {
-        MOST_UNITS
+        MOST_CLASS_UNITS
     }
 }
 

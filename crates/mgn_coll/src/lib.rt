@@ -4,5 +4,5 @@
 pub mod amounts;
 pub mod collateral;
 
-pub use amounts::{MOST_CASH, MOST_UNITS, class_value, is_known, most_of};
+pub use amounts::{MOST_CASH, MOST_CLASS_UNITS, class_value, is_known, most_of};
 pub use collateral::Collateral;

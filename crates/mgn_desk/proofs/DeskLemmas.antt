@@ -5,7 +5,7 @@ use Rattle.mgn_nets.specs.Portfolios.{AreNets, AreUnitNets, UnitNets}
 use Rattle.mgn_desk.specs.declared.desk.Marked.{Marked}
 use Rattle.mgn_desk.specs.declared.moves.Moves.{Moves}
 use Rattle.mgn_desk.specs.Desks.{AreNetsOf, CanMoveMarked, IsMarkedBy}
-use Rattle.mgn_desk.specs.Kept.{IsPortfolio, Kept}
+use Rattle.mgn_desk.specs.WorkedPortfolios.{IsPortfolio, WorkedPortfolio}
 use Rattle.mgn_desk.proofs.BranchLemmas.{branch_is}
 use Rattle.mgn_desk.specs.Portfolios.{CanMove, branch_of}
 
@@ -15,7 +15,7 @@ can_move_marked m None n are can = tt
 can_move_marked m (Some x) n are can = subst (λ (k : UnitNets). CanMove m k) are can
 
 -- the nets of a desk are one for each contract and within their limit
-nets_are : (t : Tables) (p : Kept) → IsPortfolio t p → AreNets t p.nets
+nets_are : (t : Tables) (p : WorkedPortfolio) → IsPortfolio t p → AreNets t p.nets
 nets_are t p is = record { one_each = is.ready.parts.totals.one_each; small = is.ready.parts.totals.small }
 
 pub marked_nets_are : (t : Tables) (marked : Option Marked) (n : UnitNets) → IsMarkedBy t marked → AreNetsOf marked n → AreUnitNets t n

@@ -18,7 +18,7 @@ use Rattle.mgn_span.proofs.PositionLemmas.{position_count-set, position_sum-set}
 use Rattle.mgn_span.proofs.ScanLemmas.{price_risk2_same, scan_risk_same}
 use Rattle.mgn_span.proofs.ShareLemmas.{scenario_share_out, short_share_out}
 use Rattle.mgn_tiers.proofs.StartLemmas.{net_moved, starts_kept}
-use Rattle.mgn_desk.specs.Kept.{charge_of, SameBut}
+use Rattle.mgn_desk.specs.WorkedPortfolios.{charge_of, SameBut}
 
 -- a net with a quantity more
 abbrev pub changed : List ℤ → ℕ → ℤ → List ℤ

@@ -5,7 +5,7 @@ pub mod RiskLemmas
 pub mod FrameLemmas
 pub mod MoveLemmas
 pub mod CreditLemmas
-pub mod KeptLemmas
+pub mod WorkedLemmas
 pub mod StartLemmas
 pub mod MovedLemmas
 pub mod BranchLemmas

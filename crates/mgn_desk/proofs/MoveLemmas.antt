@@ -18,7 +18,7 @@ use Rattle.mgn_scan.specs.Totals.{AreTotals}
 use Rattle.mgn_option.specs.Sums.{AreSums, Sums}
 use Rattle.mgn_tiers.specs.Tiers.{AreTiersOf, Tiers}
 use Rattle.mgn_tiers.proofs.StartLemmas.{net_moved}
-use Rattle.mgn_desk.specs.Kept.{AreParts, charge_of, Kept}
+use Rattle.mgn_desk.specs.WorkedPortfolios.{AreParts, charge_of, WorkedPortfolio}
 use Rattle.mgn_desk.proofs.FrameLemmas.{changed, deltas_changed}
 use Rattle.mgn_span.proofs.DeltaLemmas.{month_delta_small, net_delta_small}
 
@@ -30,7 +30,7 @@ changed_small : (nets : List ℤ) (i : ℕ) (q : ℤ) → All IsNet nets → IsN
 changed_small nets i q small net = All-set IsNet nets i (value_at nets i +ℤ q) net small
 
 -- the delta of the contract's month is within its limit
-pub month_delta_after : (t : Tables) (p : Kept) (i : ℕ) (q : ℤ) → IsWithinLimits t → AreParts t p → i < length t.contracts → IsNet (value_at p.nets i +ℤ q) → let c = contract_at t.contracts i in IsDelta (value_at p.tiers.deltas c.month +ℤ q *ℤ c.delta)
+pub month_delta_after : (t : Tables) (p : WorkedPortfolio) (i : ℕ) (q : ℤ) → IsWithinLimits t → AreParts t p → i < length t.contracts → IsNet (value_at p.nets i +ℤ q) → let c = contract_at t.contracts i in IsDelta (value_at p.tiers.deltas c.month +ℤ q *ℤ c.delta)
 month_delta_after t p i q limits are h net =
     let c = contract_at t.contracts i in
     let long = are.totals.one_each in
@@ -45,7 +45,7 @@ month_delta_after t p i q limits are h net =
     rw are.deltas (omega (arith, ints, small, read, moved, written))
 
 -- and so is the net delta of its commodity
-pub net_delta_after : (t : Tables) (p : Kept) (i : ℕ) (q : ℤ) → IsWithinLimits t → AreParts t p → i < length t.contracts → IsNet (value_at p.nets i +ℤ q) → let c = contract_at t.contracts i in IsDelta (net_delta_by t.months p.tiers.deltas (month_at t.months c.month).commodity +ℤ q *ℤ c.delta)
+pub net_delta_after : (t : Tables) (p : WorkedPortfolio) (i : ℕ) (q : ℤ) → IsWithinLimits t → AreParts t p → i < length t.contracts → IsNet (value_at p.nets i +ℤ q) → let c = contract_at t.contracts i in IsDelta (net_delta_by t.months p.tiers.deltas (month_at t.months c.month).commodity +ℤ q *ℤ c.delta)
 net_delta_after t p i q limits are h net =
     let c = contract_at t.contracts i in
     let g = (month_at t.months c.month).commodity in
@@ -60,7 +60,7 @@ net_delta_after t p i q limits are h net =
     rw are.deltas (omega (arith, ints, small, is, moved, own))
 
 -- all of them are those of the changed nets
-pub parts_after : (t : Tables) (p : Kept) (i : ℕ) (q : ℤ) (nets : List ℤ) (totals : List (List ℤ)) (sums : Sums) (tiers : Tiers) → IsWithinLimits t → AreParts t p → i < length t.contracts → nets ≡ changed p.nets i q → AreTotals t (changed p.nets i q) totals → AreSums t (changed p.nets i q) sums → AreTiersOf t tiers → (let c = contract_at t.contracts i in tiers.deltas ≡ slice_set p.tiers.deltas c.month (value_at p.tiers.deltas c.month +ℤ q *ℤ c.delta)) → AreParts t (record p { nets = nets; totals = totals; sums = sums; tiers = tiers })
+pub parts_after : (t : Tables) (p : WorkedPortfolio) (i : ℕ) (q : ℤ) (nets : List ℤ) (totals : List (List ℤ)) (sums : Sums) (tiers : Tiers) → IsWithinLimits t → AreParts t p → i < length t.contracts → nets ≡ changed p.nets i q → AreTotals t (changed p.nets i q) totals → AreSums t (changed p.nets i q) sums → AreTiersOf t tiers → (let c = contract_at t.contracts i in tiers.deltas ≡ slice_set p.tiers.deltas c.month (value_at p.tiers.deltas c.month +ℤ q *ℤ c.delta)) → AreParts t (record p { nets = nets; totals = totals; sums = sums; tiers = tiers })
 parts_after t p i q nets totals sums tiers limits are h is total_are sums_are tiers_are deltas =
     let c = contract_at t.contracts i in
     record {
@@ -71,14 +71,14 @@ parts_after t p i q nets totals sums tiers limits are h is total_are sums_are ti
     }
 
 -- the risk before credits by what is kept
-pub charge_is : (t : Tables) (p : Kept) (g : ℕ) (scan intra spot : ℤ) → AreParts t p → scan ≡ scan_of (positions t.contracts p.nets) g → intra ≡ pos (intra_charge_by t p.tiers.deltas g) → spot ≡ pos (spot_charge_by t p.tiers.deltas g) → scan +ℤ intra +ℤ spot ≡ charge_of t (positions t.contracts p.nets) g
+pub charge_is : (t : Tables) (p : WorkedPortfolio) (g : ℕ) (scan intra spot : ℤ) → AreParts t p → scan ≡ scan_of (positions t.contracts p.nets) g → intra ≡ pos (intra_charge_by t p.tiers.deltas g) → spot ≡ pos (spot_charge_by t p.tiers.deltas g) → scan +ℤ intra +ℤ spot ≡ charge_of t (positions t.contracts p.nets) g
 charge_is t p g scan intra spot are scan_is intra_is spot_is =
-    let held = positions t.contracts p.nets in
-    let first = intra_is ∙ ap (λ (ds : List ℤ). pos (intra_charge_by t ds g)) are.deltas ∙ ap pos (intra_charge_by-month_deltas t held g) in
-    let second = spot_is ∙ ap (λ (ds : List ℤ). pos (spot_charge_by t ds g)) are.deltas ∙ ap pos (spot_charge_by-month_deltas t held g) in
+    let portfolio = positions t.contracts p.nets in
+    let first = intra_is ∙ ap (λ (ds : List ℤ). pos (intra_charge_by t ds g)) are.deltas ∙ ap pos (intra_charge_by-month_deltas t portfolio g) in
+    let second = spot_is ∙ ap (λ (ds : List ℤ). pos (spot_charge_by t ds g)) are.deltas ∙ ap pos (spot_charge_by-month_deltas t portfolio g) in
     rw (scan_is, first, second) refl
 
 -- the net delta
-pub net_delta_is : (t : Tables) (p : Kept) (g : ℕ) → AreParts t p → net_delta_by t.months p.tiers.deltas g ≡ net_delta t.months (positions t.contracts p.nets) g
+pub net_delta_is : (t : Tables) (p : WorkedPortfolio) (g : ℕ) → AreParts t p → net_delta_by t.months p.tiers.deltas g ≡ net_delta t.months (positions t.contracts p.nets) g
 net_delta_is t p g are =
     ap (λ (ds : List ℤ). net_delta_by t.months ds g) are.deltas ∙ net_delta_by-month_deltas t.months (positions t.contracts p.nets) g

@@ -18,7 +18,7 @@ use Rattle.mgn_option.specs.Sums.{AreSums}
 use Rattle.mgn_tiers.specs.Tiers.{AreTiersOf}
 use Rattle.mgn_tiers.proofs.StartLemmas.{net_none}
 use Rattle.mgn_inter.specs.Credited.{AreCreditsOf}
-use Rattle.mgn_desk.specs.Kept.{charge_of, IsPortfolio, Kept}
+use Rattle.mgn_desk.specs.WorkedPortfolios.{charge_of, IsPortfolio, WorkedPortfolio}
 use Rattle.mgn_desk.specs.Risks.{IsRisk}
 
 abbrev flat_nets : Tables → List ℤ
@@ -51,10 +51,10 @@ flat_row : {X : Type 0} (f : ℕ → X) (zero : X) (n : ℕ) → ((k : ℕ) → 
 flat_row {X} f zero n all =
     fill_by_all f (replicate n zero) n zero (length-replicate {A = X} n zero) (λ k h. get_or-replicate n k zero zero h ∙ sym (all k))
 
-pub flat_portfolio : (t : Tables) (p : Kept) → p.nets ≡ flat_nets t → AreTotals t (flat_nets t) p.totals → AreSums t (flat_nets t) p.sums → AreTiersOf t p.tiers → p.tiers.deltas ≡ replicate (length t.months) (pos 0) → AreCreditsOf t p.credits → p.credits.deltas ≡ replicate (length t.commodities) (pos 0) → p.credits.risks ≡ replicate (length t.commodities) 0 → p.charges ≡ replicate (length t.commodities) (pos 0) → p.risks ≡ replicate (length t.commodities) (pos 0) → IsPortfolio t p
+pub flat_portfolio : (t : Tables) (p : WorkedPortfolio) → p.nets ≡ flat_nets t → AreTotals t (flat_nets t) p.totals → AreSums t (flat_nets t) p.sums → AreTiersOf t p.tiers → p.tiers.deltas ≡ replicate (length t.months) (pos 0) → AreCreditsOf t p.credits → p.credits.deltas ≡ replicate (length t.commodities) (pos 0) → p.credits.risks ≡ replicate (length t.commodities) 0 → p.charges ≡ replicate (length t.commodities) (pos 0) → p.risks ≡ replicate (length t.commodities) (pos 0) → IsPortfolio t p
 flat_portfolio t p nets totals sums tiers deltas credits net_deltas price_risks charges risks =
     let n = length t.commodities in
-    let held = none_held t in
+    let portfolio = none_held t in
     record {
       ready = record {
         parts = record {
@@ -65,8 +65,8 @@ flat_portfolio t p nets totals sums tiers deltas credits net_deltas price_risks 
         };
         credits = record {
           of_set = credits;
-          net_deltas = rw nets (net_deltas ∙ flat_row (net_delta t.months held) (pos 0) n (net_delta_flat t));
-          price_risks = rw nets (price_risks ∙ flat_row (λ g. unsigned_abs (price_risk2 (scenario_total g held))) 0 n (price_risk_flat t));
+          net_deltas = rw nets (net_deltas ∙ flat_row (net_delta t.months portfolio) (pos 0) n (net_delta_flat t));
+          price_risks = rw nets (price_risks ∙ flat_row (λ g. unsigned_abs (price_risk2 (scenario_total g portfolio))) 0 n (price_risk_flat t));
         };
         charges = record {
           one_each = ap length charges ∙ length-replicate {A = ℤ} n (pos 0);

@@ -1,6 +1,6 @@
 -- What is kept of the nets of a portfolio, and the desk of a margin unit.
 pub mod Risks
-pub mod Kept
+pub mod WorkedPortfolios
 pub mod PortfolioRows
 pub mod Moved
 pub mod Portfolios

@@ -1,9 +1,9 @@
 -- How a portfolio is kept.
 use Rattle.mgn_desk.specs.declared.portfolio.Portfolio.TheInside.{Inside}
-use Rattle.mgn_desk.specs.Kept.{Kept}
+use Rattle.mgn_desk.specs.WorkedPortfolios.{WorkedPortfolio}
 
-abbrev pub kept_of : Inside → Kept
-kept_of p = record {
+abbrev pub worked_of : Inside → WorkedPortfolio
+worked_of p = record {
   nets = p.nets;
   totals = p.totals;
   sums = p.sums;

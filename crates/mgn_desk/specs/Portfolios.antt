@@ -9,11 +9,11 @@ use Rattle.mgn_nets.specs.Portfolios.{UnitNets}
 use Rattle.mgn_desk.specs.declared.moves.Moves.{Moves}
 use Rattle.mgn_desk.specs.declared.branch.Branch.{Branch}
 use Rattle.mgn_desk.specs.declared.unit_portfolios.UnitPortfolios.{UnitPortfolios}
-use Rattle.mgn_desk.specs.Kept.{ArePortfolioRows, IsPortfolio, Kept}
+use Rattle.mgn_desk.specs.WorkedPortfolios.{ArePortfolioRows, IsPortfolio, WorkedPortfolio}
 use Rattle.mgn_desk.specs.Moved.{arrays_of_quantity, more_of}
 
 -- what is kept of a branch: its own where it is apart, else that of the lots
-abbrev pub branch_of : Kept → Branch → Kept
+abbrev pub branch_of : WorkedPortfolio → Branch → WorkedPortfolio
 branch_of lots b = if b.apart then b.own else lots
 
 abbrev pub nets_of : UnitPortfolios → UnitNets
@@ -46,7 +46,7 @@ pub record ArePortfolios (set : Tables) (p : UnitPortfolios) : Type 0 where
 -- a branch beside lots: under this set, and with these nets wherever the lots have theirs
 pub record IsBranch (set : Tables) (lots row : List ℤ) (b : Branch) : Type 0 where
   pub under : IsUnder set b
-  pub nets : (p : Kept) → p.nets ≡ lots → (branch_of p b).nets ≡ row
+  pub nets : (p : WorkedPortfolio) → p.nets ≡ lots → (branch_of p b).nets ≡ row
 
 -- the branches with buys, sales and all of these nets
 pub record AreBranches (set : Tables) (n : UnitNets) (three : Branch × Branch × Branch) : Type 0 where

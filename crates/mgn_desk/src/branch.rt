@@ -2,7 +2,7 @@ ghost use Rattle.std.specs.Prelude.{◌≡◌, ◌<◌, ◌+ℤ◌, length, true
 ghost use Rattle.mgn_params.specs.Tables.{Tables};
 ghost use Rattle.mgn_span.specs.Positions.{IsNet};
 ghost use Rattle.mgn_span.specs.Scan.{value_at};
-ghost use Rattle.mgn_desk.specs.Kept.{ArePortfolioRows, IsPortfolio, Kept};
+ghost use Rattle.mgn_desk.specs.WorkedPortfolios.{ArePortfolioRows, IsPortfolio, WorkedPortfolio};
 ghost use Rattle.mgn_desk.specs.Moved.{arrays_of_quantity, counted, more_of};
 
 use crate::portfolio::Portfolio;
@@ -32,7 +32,7 @@ impl Branch {
         requires one_each { length nets.now ≡ length set.now.contracts }
         requires nets { All IsNet nets.now }
         ensures portfolio { IfOk result (IsUnder set.now) }
-        ensures nets { IfOk result (λ b. (p : Kept) → p.nets ≡ lots.now → (branch_of p b).nets ≡ nets.now) }
+        ensures nets { IfOk result (λ b. (p : WorkedPortfolio) → p.nets ≡ lots.now → (branch_of p b).nets ≡ nets.now) }
         ensures together { IfOk result (λ b. nets.now ≡ lots.now → b.apart ≡ false) }
     {
         if nets.is_same(lots) {
@@ -49,7 +49,7 @@ impl Branch {
         requires one_each { length nets.now ≡ length set.now.contracts }
         requires nets { All IsNet nets.now }
         ensures portfolio { IsUnder set.now self.new }
-        ensures nets { (p : Kept) → p.nets ≡ lots.now → (branch_of p self.new).nets ≡ nets.now }
+        ensures nets { (p : WorkedPortfolio) → p.nets ≡ lots.now → (branch_of p self.new).nets ≡ nets.now }
         ensures together { nets.now ≡ lots.now → self.new.apart ≡ false }
     {
         if nets.is_same(lots) {

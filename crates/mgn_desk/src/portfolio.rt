@@ -6,7 +6,7 @@ ghost use Rattle.mgn_params.specs.Tables.{Tables, credit_spread_at, legs_of};
 ghost use Rattle.mgn_span.specs.Positions.{IsNet, positions};
 ghost use Rattle.mgn_span.specs.Requirement.{requirement, scan_of};
 ghost use Rattle.mgn_span.specs.Scan.{price_risk2, scenario_total, value_at};
-ghost use Rattle.mgn_desk.specs.Kept.{AreParts, ArePortfolioRows, charge_of, IsBehind, IsPortfolio, IsReady, kept_risk, KeepsParts, KeepsRest, with_charges, with_credits, with_risks};
+ghost use Rattle.mgn_desk.specs.WorkedPortfolios.{AreParts, ArePortfolioRows, charge_of, IsBehind, IsPortfolio, IsReady, KeepsParts, KeepsRest, with_charges, with_credits, with_risks, worked_risk};
 ghost use Rattle.mgn_desk.specs.Moved.{arrays_of_quantity, counted, more_of};
 ghost use Rattle.mgn_desk.specs.Risks.{IsRisk};
 
@@ -40,13 +40,13 @@ pub struct Portfolio {
 }
 
 impl Model for Portfolio {
-    ghost use Rattle.mgn_desk.specs.Kept.{Kept};
+    ghost use Rattle.mgn_desk.specs.WorkedPortfolios.{WorkedPortfolio};
 
-    ghost Value = { Kept };
+    ghost Value = { WorkedPortfolio };
 
-    ghost use Rattle.mgn_desk.specs.PortfolioRows.{kept_of};
+    ghost use Rattle.mgn_desk.specs.PortfolioRows.{worked_of};
 
-    ghost view = { kept_of };
+    ghost view = { worked_of };
 }
 
 // Contracts at a scaled delta for each.
@@ -287,7 +287,7 @@ impl Portfolio {
     // The risk of the commodity at a place, by what is kept.
     fn risk(&self, g: usize) -> Cents
         requires { (set : Tables) × IsReady set self.now × (g < length set.commodities) }
-        ensures risk { result ≡ kept_risk self.now g }
+        ensures risk { result ≡ worked_risk self.now g }
         ensures small { IsRisk result }
     {
         let least = self.sums.minimum(g);
@@ -298,7 +298,7 @@ impl Portfolio {
     fn mend(&mut self, g: usize)
         requires ready { (set : Tables) × IsReady set self.old × (g < length set.commodities) }
         requires risks { g < length self.old.risks }
-        ensures { self.new ≡ with_risks self.old (slice_set self.old.risks g (kept_risk self.old g)) }
+        ensures { self.new ≡ with_risks self.old (slice_set self.old.risks g (worked_risk self.old g)) }
     {
         let risk = self.risk(g);
         self.risks.write(g, risk);
@@ -313,7 +313,7 @@ impl Portfolio {
         ensures kept { self.new ≡ with_risks self.old self.new.risks }
         ensures long { length self.new.risks ≡ length self.old.risks }
         ensures risks { (k : ℕ) → k < length self.old.risks → value_at self.new.risks k ≡
-            (if names k legs.now then kept_risk self.old k else value_at self.old.risks k) }
+            (if names k legs.now then worked_risk self.old k else value_at self.old.risks k) }
     {
         for leg in legs {
             self.mend(leg.commodity);
@@ -328,7 +328,7 @@ impl Portfolio {
         ensures kept { self.new ≡ with_risks self.old self.new.risks }
         ensures long { length self.new.risks ≡ length self.old.risks }
         ensures risks { (k : ℕ) → k < length self.old.risks → value_at self.new.risks k ≡
-            (if names k (legs_of (credit_spread_at set.now.credits i)) then kept_risk self.old k else value_at self.old.risks k) }
+            (if names k (legs_of (credit_spread_at set.now.credits i)) then worked_risk self.old k else value_at self.old.risks k) }
     {
         set.limits();
         let spread = spread_at(set.credits(), i);
@@ -343,7 +343,7 @@ impl Portfolio {
         ensures kept { self.new ≡ with_risks self.old self.new.risks }
         ensures long { length self.new.risks ≡ length self.old.risks }
         ensures risks { (k : ℕ) → k < length self.old.risks → value_at self.new.risks k ≡
-            (if named k set.now.credits places.now then kept_risk self.old k else value_at self.old.risks k) }
+            (if named k set.now.credits places.now then worked_risk self.old k else value_at self.old.risks k) }
     {
         for place in places {
             self.mend_spread(set, usize::from(*place));

@@ -176,21 +176,21 @@ named_all P g (leg ∷ legs) all h =
 
 -- The rests that are brought are those of the turn: where a rest has moved the row has it, and else the leg's place.
 pub brought_is : (moved : List Bool) (rests : List ℤ) (legs : List Leg) (kept : List ℤ) (turn : ℕ → ℤ) (k : ℕ) → length legs ≤ length kept → All (λ leg. leg.commodity < length rests) legs → ((c : ℕ) → moved_at moved c ≡ true → value_at rests c ≡ turn c) → ((j : ℕ) → j < length legs → moved_at moved (leg_at legs j).commodity ≡ false → value_at kept j ≡ turn (leg_at legs j).commodity) → (names k legs ≡ false → value_at rests k ≡ turn k) → value_at (brought moved rests legs kept) k ≡ turn k
-brought_is moved rests [] kept turn k few there held own out = out refl
-brought_is moved rests (leg ∷ legs) [] turn k few there held own out = absurd (omega arith)
-brought_is moved rests (leg ∷ legs) (x ∷ kept) turn k few there held own out =
+brought_is moved rests [] kept turn k few there stands own out = out refl
+brought_is moved rests (leg ∷ legs) [] turn k few there stands own out = absurd (omega arith)
+brought_is moved rests (leg ∷ legs) (x ∷ kept) turn k few there stands own out =
     let c = leg.commodity in
     let v = if moved_at moved c then value_at rests c else x in
     let low : c < length rests = All-head (λ (l : Leg). l.commodity < length rests) leg legs there in
     let tail = All-tail (λ (l : Leg). l.commodity < length rests) leg legs there in
     let row = slice_set rests c v in
     let long : length row ≡ length rests = length-set rests c v in
-    let here : v ≡ turn c = either_is (moved_at moved c) (value_at rests c) x (turn c) (held c) (own 0 (omega arith)) in
+    let here : v ≡ turn c = either_is (moved_at moved c) (value_at rests c) x (turn c) (stands c) (own 0 (omega arith)) in
     let at_own : (n : ℕ) → n ≡ c → value_at row n ≡ turn n = λ n e. rw e (get_or-set_same rests c v (pos 0) low ∙ here) in
     brought_is moved row legs kept turn k (omega arith) (λ j d h. omega (arith, tail j d h, long)) (λ n yes.
     ⊎_elim
     (at_own n)
-    (λ (other : n ≢ c). get_or-set_other rests c n v (pos 0) other ∙ held n yes)
+    (λ (other : n ≢ c). get_or-set_other rests c n v (pos 0) other ∙ stands n yes)
     (cases_eq n c)) (λ j h. own (suc j) (omega arith)) (λ none.
     ⊎_elim
     (at_own k)

@@ -11,7 +11,7 @@ use Rattle.mgn_params.specs.Tables.{Tables, credit_spread_at, legs_of}
 use Rattle.mgn_span.specs.Credits.{fits, forms, rest_fits}
 use Rattle.mgn_span.specs.Scan.{value_at}
 use Rattle.mgn_span.specs.Words.{leg_at}
-use Rattle.mgn_inter.specs.declared.kept.Kept.{Kept}
+use Rattle.mgn_inter.specs.declared.spread_state.SpreadState.{SpreadState}
 use Rattle.mgn_inter.specs.Credited.{IsAtTurn}
 use Rattle.mgn_inter.specs.Quiet.{AreAlike, IsMoved, IsRowMoved, NoneForms}
 use Rattle.mgn_inter.specs.Rows.{Credited, IsKept, Misses, kept_at, moved_at, rests_at, share_of, state_of}
@@ -76,7 +76,7 @@ quiet_forms set g was i places c rest at inside low is alike misses none bit =
     ∙ none i inside bit
 
 -- what is kept of it
-quiet_kept : (set : Tables) (g : ℕ) (was : Credited) (i : ℕ) (c : Credited) (own : Kept) (rest : ℤ) → IsAtTurn set g was (slice_set (replicate 256 false) g true) i c → i < length set.credits → g < 256 → value_at c.rests g ≡ rest → forms (rests_at was.deltas was.risks set.credits i) (legs_of (credit_spread_at set.credits i)) ≡ false → forms (rests_at c.deltas c.risks set.credits i) (legs_of (credit_spread_at set.credits i)) ≡ false
+quiet_kept : (set : Tables) (g : ℕ) (was : Credited) (i : ℕ) (c : Credited) (own : SpreadState) (rest : ℤ) → IsAtTurn set g was (slice_set (replicate 256 false) g true) i c → i < length set.credits → g < 256 → value_at c.rests g ≡ rest → forms (rests_at was.deltas was.risks set.credits i) (legs_of (credit_spread_at set.credits i)) ≡ false → forms (rests_at c.deltas c.risks set.credits i) (legs_of (credit_spread_at set.credits i)) ≡ false
     → IsMoved g rest (legs_of (credit_spread_at set.credits i)) (kept_at c.kept i) own → IsKept c.deltas c.risks (rests_at c.deltas c.risks set.credits i) (credit_spread_at set.credits i) own
 quiet_kept set g was i c own rest at inside low is they_dont they_dont_now moved =
     let spreads = set.credits in
@@ -113,7 +113,7 @@ quiet_kept set g was i c own rest at inside low is they_dont they_dont_now moved
     }
 
 -- the turn of a spread that forms neither before nor after
-pub turn_quiet : (set : Tables) (g : ℕ) (was : Credited) (i : ℕ) (c : Credited) (own : Kept) (rest : ℤ) → IsAtTurn set g was (slice_set (replicate 256 false) g true) i c → i < length set.credits → g < 256 → value_at c.rests g ≡ rest → forms (rests_at was.deltas was.risks set.credits i) (legs_of (credit_spread_at set.credits i)) ≡ false → forms (rests_at c.deltas c.risks set.credits i) (legs_of (credit_spread_at set.credits i)) ≡ false
+pub turn_quiet : (set : Tables) (g : ℕ) (was : Credited) (i : ℕ) (c : Credited) (own : SpreadState) (rest : ℤ) → IsAtTurn set g was (slice_set (replicate 256 false) g true) i c → i < length set.credits → g < 256 → value_at c.rests g ≡ rest → forms (rests_at was.deltas was.risks set.credits i) (legs_of (credit_spread_at set.credits i)) ≡ false → forms (rests_at c.deltas c.risks set.credits i) (legs_of (credit_spread_at set.credits i)) ≡ false
     → IsMoved g rest (legs_of (credit_spread_at set.credits i)) (kept_at c.kept i) own → IsAtTurn set g was (slice_set (replicate 256 false) g true) (i + 1) (record c { kept = slice_set c.kept i own })
 turn_quiet set g was i c own rest at inside low is they_dont they_dont_now moved =
     let spreads = set.credits in

@@ -11,7 +11,7 @@ use Rattle.mgn_span.specs.Credits.{credits_after, fits, formed, forms, is_long, 
 use Rattle.mgn_params.specs.Limits.{IsCreditSpread}
 use Rattle.mgn_span.specs.Scan.{value_at}
 use Rattle.mgn_params.specs.Tables.{is_side_a, legs_of}
-use Rattle.mgn_inter.specs.declared.kept.Kept.{Kept}
+use Rattle.mgn_inter.specs.declared.spread_state.SpreadState.{SpreadState}
 use Rattle.mgn_inter.specs.Rows.{IsKept, names, share_of}
 use Rattle.mgn_span.specs.Words.{AreRests, AreNumbers, IsCreditable, leg_at}
 use Rattle.mgn_inter.proofs.LegLemmas.{Agree, AgreeOn, either_is, credits_after_out, credits_after_same, credits_after_shares, forms_same, rests_after_out, rests_after_same, share_none, spread_amount_same}
@@ -95,7 +95,7 @@ formed_alike deltas were risks was a b x s same deltas_same alike =
     ∙ ap (λ (p : List ℤ × List ℕ). p.1) (sym (formed_is were was (b, x) s))
 
 -- what is kept for the rests at the turn, once it is worked out by rests that are equal for the legs' commodities
-pub kept_same : (deltas were : List ℤ) (risks was : List ℕ) (a b : List ℤ) (s : CreditSpread) (k : Kept) → length deltas ≡ length were → length a ≡ length b → Agree a b (legs_of s) → Agree deltas were (legs_of s) → AgreeOn risks was (legs_of s) → IsKept were was b s k → IsKept deltas risks a s k
+pub kept_same : (deltas were : List ℤ) (risks was : List ℕ) (a b : List ℤ) (s : CreditSpread) (k : SpreadState) → length deltas ≡ length were → length a ≡ length b → Agree a b (legs_of s) → Agree deltas were (legs_of s) → AgreeOn risks was (legs_of s) → IsKept were was b s k → IsKept deltas risks a s k
 kept_same deltas were risks was a b s k each long same deltas_same alike is = record {
   rests_long = is.rests_long;
   after_long = is.after_long;
@@ -132,7 +132,7 @@ formed_no deltas risks now s they_dont =
     ∙ ap (λ (b : Bool). outcome deltas risks now s amount b) they_dont
     ∙ outcome_no deltas risks now s amount
 
-pub kept_yes : (deltas : List ℤ) (risks : List ℕ) (rests : List ℤ) (s : CreditSpread) (k : Kept) → All (λ leg. leg.commodity < length deltas) (legs_of s) → length (legs_of s) ≤ 4 → forms rests (legs_of s) ≡ true → length k.rests ≡ 4 → length k.after ≡ 4 → length k.credits ≡ 4 → let legs = legs_of s in let amount = spread_amount rests legs in ((j : ℕ) → j < length legs → value_at k.rests j ≡ value_at rests (leg_at legs j).commodity) → ((j : ℕ) → j < length legs → value_at k.after j ≡ value_at (rests_after rests amount legs) (leg_at legs j).commodity) → ((j : ℕ) → j < length legs → slice_index k.credits j ≡ leg_credit deltas risks s.rate amount (leg_at legs j)) → IsKept deltas risks rests s k
+pub kept_yes : (deltas : List ℤ) (risks : List ℕ) (rests : List ℤ) (s : CreditSpread) (k : SpreadState) → All (λ leg. leg.commodity < length deltas) (legs_of s) → length (legs_of s) ≤ 4 → forms rests (legs_of s) ≡ true → length k.rests ≡ 4 → length k.after ≡ 4 → length k.credits ≡ 4 → let legs = legs_of s in let amount = spread_amount rests legs in ((j : ℕ) → j < length legs → value_at k.rests j ≡ value_at rests (leg_at legs j).commodity) → ((j : ℕ) → j < length legs → value_at k.after j ≡ value_at (rests_after rests amount legs) (leg_at legs j).commodity) → ((j : ℕ) → j < length legs → slice_index k.credits j ≡ leg_credit deltas risks s.rate amount (leg_at legs j)) → IsKept deltas risks rests s k
 kept_yes deltas risks rests s k there few they_do rests_long after_long credits_long rests_are after_are credits_are =
     let legs = legs_of s in
     let amount = spread_amount rests legs in
@@ -150,7 +150,7 @@ kept_yes deltas risks rests s k there few they_do rests_long after_long credits_
           ∙ credits_after_shares deltas risks s.rate amount x legs k.credits g (omega (arith, few, credits_long)) (λ j d low. omega (arith, there j d low, h)) credits_are;
     }
 
-pub kept_no : (deltas : List ℤ) (risks : List ℕ) (rests : List ℤ) (s : CreditSpread) (k : Kept) → forms rests (legs_of s) ≡ false → length k.rests ≡ 4 → length k.after ≡ 4 → let legs = legs_of s in ((j : ℕ) → j < length legs → value_at k.rests j ≡ value_at rests (leg_at legs j).commodity) → ((j : ℕ) → j < length legs → value_at k.after j ≡ value_at rests (leg_at legs j).commodity) → k.credits ≡ replicate 4 0 → IsKept deltas risks rests s k
+pub kept_no : (deltas : List ℤ) (risks : List ℕ) (rests : List ℤ) (s : CreditSpread) (k : SpreadState) → forms rests (legs_of s) ≡ false → length k.rests ≡ 4 → length k.after ≡ 4 → let legs = legs_of s in ((j : ℕ) → j < length legs → value_at k.rests j ≡ value_at rests (leg_at legs j).commodity) → ((j : ℕ) → j < length legs → value_at k.after j ≡ value_at rests (leg_at legs j).commodity) → k.credits ≡ replicate 4 0 → IsKept deltas risks rests s k
 kept_no deltas risks rests s k they_dont rests_long after_long rests_are after_are credits =
     let legs = legs_of s in
     let is = λ (x : List ℕ). (let now : List ℤ × List ℕ = (rests, x) in formed_no deltas risks now s they_dont) in
@@ -183,7 +183,7 @@ formed_small deltas risks rests credits s n g numbers are count limits =
     rw (formed_is deltas risks (rests, credits) s) (outcome_small deltas risks rests credits s n (forms rests (legs_of s)) g numbers are count limits refl)
 
 -- what is kept of a spread credits a commodity at most as much
-pub kept_small : (deltas : List ℤ) (risks : List ℕ) (rests : List ℤ) (s : CreditSpread) (k : Kept) (n g : ℕ) → AreNumbers deltas risks → AreRests deltas rests → n ≡ length deltas → IsCreditSpread n s → IsKept deltas risks rests s k → share_of g (legs_of s) k.credits ≤ 4 * 10 ^ 33
+pub kept_small : (deltas : List ℤ) (risks : List ℕ) (rests : List ℤ) (s : CreditSpread) (k : SpreadState) (n g : ℕ) → AreNumbers deltas risks → AreRests deltas rests → n ≡ length deltas → IsCreditSpread n s → IsKept deltas risks rests s k → share_of g (legs_of s) k.credits ≤ 4 * 10 ^ 33
 kept_small deltas risks rests s k n g numbers are count limits is =
     let none = replicate (length deltas) 0 in
     let small = formed_small deltas risks rests none s n g numbers are count limits in

@@ -8,7 +8,7 @@ use Rattle.mgn_span.specs.Credits.{formed}
 use Rattle.mgn_span.specs.Scan.{value_at}
 use Rattle.mgn_params.specs.Limits.{IsCreditSpread}
 use Rattle.mgn_params.specs.Tables.{credit_spread_at, legs_of, no_credit_spread}
-use Rattle.mgn_inter.specs.declared.kept.Kept.{Kept}
+use Rattle.mgn_inter.specs.declared.spread_state.SpreadState.{SpreadState}
 use Rattle.mgn_inter.specs.Rows.{IsKept, kept_at, nothing_kept, rests_at, share_at, share_of, state_of}
 use Rattle.mgn_inter.specs.Shares.{shares}
 use Rattle.mgn_span.specs.Words.{AreRests, leg_at}
@@ -46,14 +46,14 @@ none_at n g =
 
 -- What spreads credit by what is kept of each.
 
-pub shares_small : (spreads : List CreditSpread) (kept : List Kept) (g most n : ℕ) → ((i : ℕ) → i < n → share_at spreads kept g i ≤ most) → shares spreads kept g n ≤ n * most
+pub shares_small : (spreads : List CreditSpread) (kept : List SpreadState) (g most n : ℕ) → ((i : ℕ) → i < n → share_at spreads kept g i ≤ most) → shares spreads kept g n ≤ n * most
 shares_small spreads kept g most zero small = omega arith
 shares_small spreads kept g most (suc n) small =
     let before = shares_small spreads kept g most n (λ i h. small i (omega arith)) in
     let own = small n (omega arith) in
     omega (arith, before, own)
 
-pub shares_one : (spreads : List CreditSpread) (kept : List Kept) (g n i : ℕ) → i < n → share_at spreads kept g i ≤ shares spreads kept g n
+pub shares_one : (spreads : List CreditSpread) (kept : List SpreadState) (g n i : ℕ) → i < n → share_at spreads kept g i ≤ shares spreads kept g n
 shares_one spreads kept g zero i h = absurd (omega arith)
 shares_one spreads kept g (suc n) i h =
     ⊎_elim
@@ -62,27 +62,27 @@ shares_one spreads kept g (suc n) i h =
     (cases_eq i n)
 
 -- one of them is kept anew
-pub kept_own : (kept : List Kept) (i : ℕ) (own : Kept) → i < length kept → kept_at (slice_set kept i own) i ≡ own
+pub kept_own : (kept : List SpreadState) (i : ℕ) (own : SpreadState) → i < length kept → kept_at (slice_set kept i own) i ≡ own
 kept_own kept i own h = get_or-set_same kept i own nothing_kept h
 
-pub kept_other : (kept : List Kept) (i j : ℕ) (own : Kept) → j ≢ i → kept_at (slice_set kept i own) j ≡ kept_at kept j
+pub kept_other : (kept : List SpreadState) (i j : ℕ) (own : SpreadState) → j ≢ i → kept_at (slice_set kept i own) j ≡ kept_at kept j
 kept_other kept i j own h = get_or-set_other kept i j own nothing_kept h
 
-share_other : (spreads : List CreditSpread) (kept : List Kept) (g i j : ℕ) (own : Kept) → j ≢ i → share_at spreads (slice_set kept i own) g j ≡ share_at spreads kept g j
+share_other : (spreads : List CreditSpread) (kept : List SpreadState) (g i j : ℕ) (own : SpreadState) → j ≢ i → share_at spreads (slice_set kept i own) g j ≡ share_at spreads kept g j
 share_other spreads kept g i j own h =
-    ap (λ (k : Kept). share_of g (legs_of (credit_spread_at spreads j)) k.credits) (kept_other kept i j own h)
+    ap (λ (k : SpreadState). share_of g (legs_of (credit_spread_at spreads j)) k.credits) (kept_other kept i j own h)
 
-shares_below : (spreads : List CreditSpread) (kept : List Kept) (g i n : ℕ) (own : Kept) → n ≤ i → shares spreads (slice_set kept i own) g n ≡ shares spreads kept g n
+shares_below : (spreads : List CreditSpread) (kept : List SpreadState) (g i n : ℕ) (own : SpreadState) → n ≤ i → shares spreads (slice_set kept i own) g n ≡ shares spreads kept g n
 shares_below spreads kept g i zero own h = refl
 shares_below spreads kept g i (suc n) own h =
     rw (shares_below spreads kept g i n own (omega arith), share_other spreads kept g i n own (λ e. omega (arith, e, h))) refl
 
-pub shares_set : (spreads : List CreditSpread) (kept : List Kept) (g i n : ℕ) (own : Kept) → i < n → i < length kept → shares spreads (slice_set kept i own) g n + share_at spreads kept g i ≡ shares spreads kept g n + share_of g (legs_of (credit_spread_at spreads i)) own.credits
+pub shares_set : (spreads : List CreditSpread) (kept : List SpreadState) (g i n : ℕ) (own : SpreadState) → i < n → i < length kept → shares spreads (slice_set kept i own) g n + share_at spreads kept g i ≡ shares spreads kept g n + share_of g (legs_of (credit_spread_at spreads i)) own.credits
 shares_set spreads kept g i zero own h low = absurd (omega arith)
 shares_set spreads kept g i (suc n) own h low =
     ⊎_elim
     (λ (here : i ≡ n).
-    let mine : share_at spreads (slice_set kept i own) g i ≡ share_of g (legs_of (credit_spread_at spreads i)) own.credits = ap (λ (k : Kept). share_of g (legs_of (credit_spread_at spreads i)) k.credits) (kept_own kept i own low) in
+    let mine : share_at spreads (slice_set kept i own) g i ≡ share_of g (legs_of (credit_spread_at spreads i)) own.credits = ap (λ (k : SpreadState). share_of g (legs_of (credit_spread_at spreads i)) k.credits) (kept_own kept i own low) in
     subst (λ (m : ℕ). shares spreads (slice_set kept i own) g m + share_at spreads (slice_set kept i own) g m + share_at spreads kept g i ≡ shares spreads kept g m + share_at spreads kept g m + share_of g (legs_of (credit_spread_at spreads i)) own.credits) here (omega (arith, shares_below spreads kept g i i own (omega arith), mine)))
     (λ (other : i ≢ n).
     let before = shares_set spreads kept g i n own (omega arith) low in
@@ -91,7 +91,7 @@ shares_set spreads kept g i (suc n) own h low =
     (cases_eq i n)
 
 -- together they are the credits of the definition
-pub shares_are : (deltas : List ℤ) (risks : List ℕ) (spreads : List CreditSpread) (kept : List Kept) (g n : ℕ) → n ≤ length spreads → ((i : ℕ) → i < n → IsKept deltas risks (rests_at deltas risks spreads i) (credit_spread_at spreads i) (kept_at kept i)) → slice_index (state_of deltas risks (take n spreads)).1 g ≡ shares spreads kept g n
+pub shares_are : (deltas : List ℤ) (risks : List ℕ) (spreads : List CreditSpread) (kept : List SpreadState) (g n : ℕ) → n ≤ length spreads → ((i : ℕ) → i < n → IsKept deltas risks (rests_at deltas risks spreads i) (credit_spread_at spreads i) (kept_at kept i)) → slice_index (state_of deltas risks (take n spreads)).1 g ≡ shares spreads kept g n
 shares_are deltas risks spreads kept g zero h are = none_at (length deltas) g
 shares_are deltas risks spreads kept g (suc n) h are =
     let inside : n < length spreads = omega arith in

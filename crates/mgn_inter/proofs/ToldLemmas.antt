@@ -8,7 +8,7 @@ use Rattle.std.proofs.lemmas.Bool.{cases_Bool, cases_eq, cases_lt, true≢false}
 use Rattle.std.proofs.lemmas.Slice.Eq.{bytes_eq-Decides}
 use Rattle.std.proofs.lemmas.List.Elements.{All-nil, All-push, All-weaker, All-get_or, Contains-append_left, Contains-push, Contains-push_cases}
 use Rattle.std.proofs.lemmas.Grind.{common_steps}
-use Rattle.mgn_inter.specs.declared.kept.Kept.{Kept}
+use Rattle.mgn_inter.specs.declared.spread_state.SpreadState.{SpreadState}
 use Rattle.mgn_inter.specs.Rows.{kept_at}
 use Rattle.mgn_inter.specs.Told.{credits_at, credits_else, places_where, told_of}
 
@@ -83,54 +83,54 @@ places_only p (suc n) i there =
     (cases_Bool (p n))
 
 -- whether a spread credits something else
-pub else_not : (was now : List Kept) (i : ℕ) → credits_at now i ≡ credits_at was i → credits_else was now i ≡ false
+pub else_not : (was now : List SpreadState) (i : ℕ) → credits_at now i ≡ credits_at was i → credits_else was now i ≡ false
 else_not was now i same = ap not ((bytes_eq-Decides (credits_at was i) (credits_at now i)).1 (sym same))
 
 not_no : (b : Bool) → not b ≡ false → b ≡ true
 not_no true h = refl
 not_no false h = sym h
 
-else_yes : (was now : List Kept) (i : ℕ) → credits_at now i ≢ credits_at was i → credits_else was now i ≡ true
+else_yes : (was now : List SpreadState) (i : ℕ) → credits_at now i ≢ credits_at was i → credits_else was now i ≡ true
 else_yes was now i other =
     ⊎_elim
     (λ (yes : credits_else was now i ≡ true). yes)
     (λ (no : credits_else was now i ≡ false). absurd (other (sym ((bytes_eq-Decides (credits_at was i) (credits_at now i)).0 (not_no (bytes_eq (credits_at was i) (credits_at now i)) no)))))
     (cases_Bool (credits_else was now i))
 
-pub told_exact : (was now : List Kept) (count i : ℕ) → i < count → Contains (told_of was now count) i ↔ (credits_at now i ≢ credits_at was i)
+pub told_exact : (was now : List SpreadState) (count i : ℕ) → i < count → Contains (told_of was now count) i ↔ (credits_at now i ≢ credits_at was i)
 told_exact was now count i low = (
   λ there same. true≢false (sym (places_only (credits_else was now) count i there) ∙ else_not was now i same),
   λ other. places_have (credits_else was now) count i low (else_yes was now i other),
 )
 
-pub told_once : (was now : List Kept) (count : ℕ) (places : List ℕ) → places ≡ told_of was now count → IsStrictlyIncreasing places
+pub told_once : (was now : List SpreadState) (count : ℕ) (places : List ℕ) → places ≡ told_of was now count → IsStrictlyIncreasing places
 told_once was now count places is =
     subst (λ (xs : List ℕ). IsStrictlyIncreasing xs) (sym is) (places_rise (credits_else was now) count)
 
-pub told_are : (was now : List Kept) (count : ℕ) (places : List ℕ) → places ≡ told_of was now count → (i : ℕ) → i < count → Contains places i ↔ (credits_at now i ≢ credits_at was i)
+pub told_are : (was now : List SpreadState) (count : ℕ) (places : List ℕ) → places ≡ told_of was now count → (i : ℕ) → i < count → Contains places i ↔ (credits_at now i ≢ credits_at was i)
 told_are was now count places is i low =
     subst (λ (xs : List ℕ). Contains xs i ↔ (credits_at now i ≢ credits_at was i)) (sym is) (told_exact was now count i low)
 
 -- no place, where nothing has changed
-pub told_none : (kept : List Kept) (count : ℕ) → [] ≡ told_of kept kept count
+pub told_none : (kept : List SpreadState) (count : ℕ) → [] ≡ told_of kept kept count
 told_none kept count =
     let none = places_more (credits_else kept kept) 0 count (λ k from low. else_not kept kept k refl) in
     sym (ap (λ (m : ℕ). told_of kept kept m) (omega arith) ∙ none)
 
-pub told_alike : (was now : List Kept) (count : ℕ) → ((j : ℕ) → credits_at now j ≡ credits_at was j) → [] ≡ told_of was now count
+pub told_alike : (was now : List SpreadState) (count : ℕ) → ((j : ℕ) → credits_at now j ≡ credits_at was j) → [] ≡ told_of was now count
 told_alike was now count same =
     let none = places_more (credits_else was now) 0 count (λ k from low. else_not was now k (same k)) in
     sym (ap (λ (m : ℕ). told_of was now m) (omega arith) ∙ none)
 
 -- the places after one more spread, and those behind it that stay as they were
-pub told_next : (was old now : List Kept) (i next : ℕ) (places more : List ℕ) → i + 1 ≤ next → ((j : ℕ) → i ≤ j → kept_at old j ≡ kept_at was j) → ((j : ℕ) → j ≢ i → kept_at now j ≡ kept_at old j) → places ≡ told_of was old i → more ≡ (if credits_else old now i then places ++ i ∷ [] else places) → more ≡ told_of was now next
+pub told_next : (was old now : List SpreadState) (i next : ℕ) (places more : List ℕ) → i + 1 ≤ next → ((j : ℕ) → i ≤ j → kept_at old j ≡ kept_at was j) → ((j : ℕ) → j ≢ i → kept_at now j ≡ kept_at old j) → places ≡ told_of was old i → more ≡ (if credits_else old now i then places ++ i ∷ [] else places) → more ≡ told_of was now next
 told_next was old now i next places more behind left others are is =
     let before : told_of was now i ≡ places =
-    places_same (credits_else was now) (credits_else was old) i (λ k low. ap (λ (x : Kept). not (bytes_eq (credits_at was k) x.credits)) (others k (λ e. omega (arith, e, low)))) ∙ sym are in
+    places_same (credits_else was now) (credits_else was old) i (λ k low. ap (λ (x : SpreadState). not (bytes_eq (credits_at was k) x.credits)) (others k (λ e. omega (arith, e, low)))) ∙ sym are in
     let own : credits_else was now i ≡ credits_else old now i =
-    ap (λ (x : Kept). not (bytes_eq x.credits (credits_at now i))) (sym (left i (omega arith))) in
+    ap (λ (x : SpreadState). not (bytes_eq x.credits (credits_at now i))) (sym (left i (omega arith))) in
     let here : told_of was now (suc i) ≡ more =
     rw (before, own) (sym is) in
     let there : suc i + (next - suc i) ≡ next = omega (arith, behind) in
-    let rest = places_more (credits_else was now) (suc i) (next - suc i) (λ k from low. else_not was now k (ap (λ (x : Kept). x.credits) (others k (λ e. omega (arith, e, from)) ∙ left k (omega (arith, from))))) in
+    let rest = places_more (credits_else was now) (suc i) (next - suc i) (λ k from low. else_not was now k (ap (λ (x : SpreadState). x.credits) (others k (λ e. omega (arith, e, from)) ∙ left k (omega (arith, from))))) in
     sym here ∙ sym rest ∙ ap (λ (m : ℕ). told_of was now m) there

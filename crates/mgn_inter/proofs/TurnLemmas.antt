@@ -16,7 +16,7 @@ use Rattle.mgn_params.specs.Tables.{Tables, credit_spread_at, legs_of, no_credit
 use Rattle.mgn_span.specs.Credits.{credits_of, formed}
 use Rattle.mgn_span.specs.Scan.{value_at}
 use Rattle.mgn_span.specs.Sizes.{IsDelta}
-use Rattle.mgn_inter.specs.declared.kept.Kept.{Kept}
+use Rattle.mgn_inter.specs.declared.spread_state.SpreadState.{SpreadState}
 use Rattle.mgn_inter.specs.Sizes.{IsRisk}
 use Rattle.mgn_inter.specs.Credited.{AreCreditsOf, IsAtTurn}
 use Rattle.mgn_inter.specs.Rows.{brought, Credited, AreWaiting, IsKept, kept_at, marked, Misses, moved_at, names, nothing_kept, reached, rests_at, share_at, share_of, state_of}
@@ -117,10 +117,10 @@ turn_brought set g was moved i c k limits at h out =
     let before = rests_at was.deltas was.risks spreads i in
     let own = at.left i (omega arith) h in
     let few : length legs ≤ 4 = omega (arith, length-take s.count s.legs, limit.few) in
-    let held = λ (n : ℕ) (yes : moved_at moved n ≡ true). sym (chosen (moved_at moved n) (value_at now n) (value_at c.rests n) (value_at before n) (at.rests n) yes) in
-    brought_is moved c.rests legs (kept_at c.kept i).rests (λ n. value_at now n) k (omega (arith, few, own.rests_long)) (λ j d low. omega (arith, (limit.legs j d low).commodity, at.one_each, at.one_rest_each)) held (λ j low no.
+    let stands = λ (n : ℕ) (yes : moved_at moved n ≡ true). sym (chosen (moved_at moved n) (value_at now n) (value_at c.rests n) (value_at before n) (at.rests n) yes) in
+    brought_is moved c.rests legs (kept_at c.kept i).rests (λ n. value_at now n) k (omega (arith, few, own.rests_long)) (λ j d low. omega (arith, (limit.legs j d low).commodity, at.one_each, at.one_rest_each)) stands (λ j low no.
     let n = (leg_at legs j).commodity in
-    own.rests_are j low ∙ sym (unchosen (moved_at moved n) (value_at now n) (value_at c.rests n) (value_at before n) (at.rests n) no)) (λ none. held k (out none))
+    own.rests_are j low ∙ sym (unchosen (moved_at moved n) (value_at now n) (value_at c.rests n) (value_at before n) (at.rests n) no)) (λ none. stands k (out none))
 
 -- a commodity that a leg names is named
 names_not : (k : ℕ) (legs : List Leg) (j : ℕ) → j < length legs → (leg_at legs j).commodity ≡ k → names k legs ≡ false → ⊥
@@ -163,7 +163,7 @@ turn_covers set g was moved i c k at h =
     omega (arith, at.credits k, shares_one set.credits c.kept k (length set.credits) i h)
 
 -- what is kept of the spread once it is formed of the rests that are brought
-pub turn_kept : (set : Tables) (g : ℕ) (was : Credited) (moved : List Bool) (i : ℕ) (c : Credited) (own : Kept) → IsWithinLimits set → IsAtTurn set g was moved i c → i < length set.credits → IsKept c.deltas c.risks (brought moved c.rests (legs_of (credit_spread_at set.credits i)) (kept_at c.kept i).rests) (credit_spread_at set.credits i) own → IsKept c.deltas c.risks (rests_at c.deltas c.risks set.credits i) (credit_spread_at set.credits i) own
+pub turn_kept : (set : Tables) (g : ℕ) (was : Credited) (moved : List Bool) (i : ℕ) (c : Credited) (own : SpreadState) → IsWithinLimits set → IsAtTurn set g was moved i c → i < length set.credits → IsKept c.deltas c.risks (brought moved c.rests (legs_of (credit_spread_at set.credits i)) (kept_at c.kept i).rests) (credit_spread_at set.credits i) own → IsKept c.deltas c.risks (rests_at c.deltas c.risks set.credits i) (credit_spread_at set.credits i) own
 turn_kept set g was moved i c own limits at h is =
     let spreads = set.credits in
     let s = credit_spread_at spreads i in
@@ -174,12 +174,12 @@ turn_kept set g was moved i c own limits at h is =
     let long : length now ≡ length row = rests_long c.deltas c.risks spreads i (length set.commodities) at.fewer at.one_each ∙ sym (length-brought moved c.rests legs (kept_at c.kept i).rests ∙ at.one_rest_each ∙ at.one_each) in
     kept_same c.deltas c.deltas c.risks c.risks now row s own refl long (λ j low. sym (agrees j low)) (λ j low. refl) (λ j low. refl) is
 
-pub turn_own_small : (set : Tables) (g : ℕ) (was : Credited) (moved : List Bool) (i : ℕ) (c : Credited) (own : Kept) (k : ℕ) → IsWithinLimits set → IsAtTurn set g was moved i c → i < length set.credits → IsKept c.deltas c.risks (brought moved c.rests (legs_of (credit_spread_at set.credits i)) (kept_at c.kept i).rests) (credit_spread_at set.credits i) own → share_of k (legs_of (credit_spread_at set.credits i)) own.credits ≤ 4 * 10 ^ 33
+pub turn_own_small : (set : Tables) (g : ℕ) (was : Credited) (moved : List Bool) (i : ℕ) (c : Credited) (own : SpreadState) (k : ℕ) → IsWithinLimits set → IsAtTurn set g was moved i c → i < length set.credits → IsKept c.deltas c.risks (brought moved c.rests (legs_of (credit_spread_at set.credits i)) (kept_at c.kept i).rests) (credit_spread_at set.credits i) own → share_of k (legs_of (credit_spread_at set.credits i)) own.credits ≤ 4 * 10 ^ 33
 turn_own_small set g was moved i c own k limits at h is =
     kept_small c.deltas c.risks (rests_at c.deltas c.risks set.credits i) (credit_spread_at set.credits i) own (length set.commodities) k at.numbers (state_near c.deltas c.risks set.credits i at.fewer) (sym at.one_each) (limits.credits i no_credit_spread h) (turn_kept set g was moved i c own limits at h is)
 
 -- a spread that is reached is formed again
-pub turn_reworked : (set : Tables) (g : ℕ) (was : Credited) (moved marks : List Bool) (i : ℕ) (c : Credited) (rests : List ℤ) (credits : List ℕ) (own : Kept) → IsWithinLimits set → IsAtTurn set g was moved i c → i < length set.credits → let s = credit_spread_at set.credits i in let legs = legs_of s in let old = kept_at c.kept i in let row = brought moved c.rests legs old.rests in ((x : List ℕ) → rests ≡ (formed c.deltas c.risks (row, x) s).0) → IsKept c.deltas c.risks row s own → length credits ≡ length c.credits → ((k : ℕ) → slice_index credits k + share_of k legs old.credits ≡ slice_index c.credits k + share_of k legs own.credits) → marks ≡ marked rests moved legs old.after → IsAtTurn set g was marks (i + 1) (record c { rests = rests; credits = credits; kept = slice_set c.kept i own })
+pub turn_reworked : (set : Tables) (g : ℕ) (was : Credited) (moved marks : List Bool) (i : ℕ) (c : Credited) (rests : List ℤ) (credits : List ℕ) (own : SpreadState) → IsWithinLimits set → IsAtTurn set g was moved i c → i < length set.credits → let s = credit_spread_at set.credits i in let legs = legs_of s in let old = kept_at c.kept i in let row = brought moved c.rests legs old.rests in ((x : List ℕ) → rests ≡ (formed c.deltas c.risks (row, x) s).0) → IsKept c.deltas c.risks row s own → length credits ≡ length c.credits → ((k : ℕ) → slice_index credits k + share_of k legs old.credits ≡ slice_index c.credits k + share_of k legs own.credits) → marks ≡ marked rests moved legs old.after → IsAtTurn set g was marks (i + 1) (record c { rests = rests; credits = credits; kept = slice_set c.kept i own })
 turn_reworked set g was moved marks i c rests credits own limits at h rests_are is long credits_are marks_are =
     let spreads = set.credits in
     let s = credit_spread_at spreads i in
@@ -384,8 +384,8 @@ credits_none set c limits deltas risks rests credits kept =
       });
       one_rest_each = ap (λ (r : List ℤ). length r) (rests ∙ sym deltas);
       credits = rw (deltas, risks) (credits ∙ sym (sym (all_spreads zeros (replicate n 0) set.credits) ∙ ap (λ (p : List ℤ × List ℕ). p.1) (state (length set.credits) (omega arith))));
-      one_kept_each = omega (arith, ap (λ (r : List Kept). length r) kept, length-replicate {A = Kept} (length set.credits) nothing_kept);
+      one_kept_each = omega (arith, ap (λ (r : List SpreadState). length r) kept, length-replicate {A = SpreadState} (length set.credits) nothing_kept);
       kept = λ i h.
-          rw (deltas, risks, kept, get_or-replicate {A = Kept} (length set.credits) i nothing_kept nothing_kept h) (rw (ap (λ (p : List ℤ × List ℕ). p.0) (state i (omega arith))) (kept_none n (replicate n 0) (credit_spread_at set.credits i) (limits.credits i no_credit_spread h)));
+          rw (deltas, risks, kept, get_or-replicate {A = SpreadState} (length set.credits) i nothing_kept nothing_kept h) (rw (ap (λ (p : List ℤ × List ℕ). p.0) (state i (omega arith))) (kept_none n (replicate n 0) (credit_spread_at set.credits i) (limits.credits i no_credit_spread h)));
       small = λ g. omega (arith, ap (λ (r : List ℕ). slice_index r g) credits, none_at n g);
     }

@@ -8,7 +8,7 @@ use Rattle.mgn_params.specs.Tables.{credit_spread_at, legs_of}
 use Rattle.mgn_span.specs.Credits.{forms, rest_fits}
 use Rattle.mgn_span.specs.Scan.{value_at}
 use Rattle.mgn_span.specs.Words.{leg_at}
-use Rattle.mgn_inter.specs.declared.kept.Kept.{Kept}
+use Rattle.mgn_inter.specs.declared.spread_state.SpreadState.{SpreadState}
 use Rattle.mgn_inter.specs.Rows.{rests_at}
 
 -- no spread at some places, by their bits, forms
@@ -26,7 +26,7 @@ IsRowMoved g rest legs old new =
     (j : ℕ) → j < length legs → value_at new j ≡ (if (leg_at legs j).commodity == g then rest else value_at old j)
 
 -- what is kept of a spread that forms neither before nor after the commodity has another rest
-pub record IsMoved (g : ℕ) (rest : ℤ) (legs : List Leg) (old new : Kept) : Type 0 where
+pub record IsMoved (g : ℕ) (rest : ℤ) (legs : List Leg) (old new : SpreadState) : Type 0 where
   pub rests_long : length new.rests ≡ 4
   pub after_long : length new.after ≡ 4
   pub rests : IsRowMoved g rest legs old.rests new.rests

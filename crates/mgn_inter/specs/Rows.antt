@@ -9,7 +9,7 @@ pub use Rattle.mgn_params.specs.Naming.{names}
 use Rattle.mgn_span.specs.Credits.{formed}
 use Rattle.mgn_span.specs.Scan.{value_at}
 use Rattle.mgn_params.specs.Tables.{credit_spread_at, legs_of}
-use Rattle.mgn_inter.specs.declared.kept.Kept.{Kept}
+use Rattle.mgn_inter.specs.declared.spread_state.SpreadState.{SpreadState}
 use Rattle.mgn_span.specs.Words.{leg_at}
 
 -- whether one of the spreads at some places names a commodity
@@ -59,14 +59,14 @@ state_of deltas risks spreads = fold (formed deltas risks) (deltas, replicate (l
 abbrev pub rests_at : List ℤ → List ℕ → List CreditSpread → ℕ → List ℤ
 rests_at deltas risks spreads i = (state_of deltas risks (take i spreads)).0
 
-abbrev pub nothing_kept : Kept
+abbrev pub nothing_kept : SpreadState
 nothing_kept = record { rests = replicate 4 (pos 0); after = replicate 4 (pos 0); credits = replicate 4 0 }
 
-abbrev pub kept_at : List Kept → ℕ → Kept
+abbrev pub kept_at : List SpreadState → ℕ → SpreadState
 kept_at kept i = slice_index_or kept i nothing_kept
 
 -- what is kept beside a spread, for the rests at its turn: its legs' rests before it and after it, and their credits
-pub record IsKept (deltas : List ℤ) (risks : List ℕ) (rests : List ℤ) (s : CreditSpread) (k : Kept) : Type 0 where
+pub record IsKept (deltas : List ℤ) (risks : List ℕ) (rests : List ℤ) (s : CreditSpread) (k : SpreadState) : Type 0 where
   pub rests_long : length k.rests ≡ 4
   pub after_long : length k.after ≡ 4
   pub credits_long : length k.credits ≡ 4
@@ -75,7 +75,7 @@ pub record IsKept (deltas : List ℤ) (risks : List ℕ) (rests : List ℤ) (s :
   pub credits_are : (x : List ℕ) (g : ℕ) → length x ≡ length deltas → slice_index (formed deltas risks (rests, x) s).1 g ≡ slice_index x g + share_of g (legs_of s) k.credits
 
 -- what the first spreads credit to a commodity by what is kept
-abbrev pub share_at : List CreditSpread → List Kept → ℕ → ℕ → ℕ
+abbrev pub share_at : List CreditSpread → List SpreadState → ℕ → ℕ → ℕ
 share_at spreads kept g i = share_of g (legs_of (credit_spread_at spreads i)) (kept_at kept i).credits
 
 -- the net deltas and doubled price risks, and what is kept by them
@@ -84,7 +84,7 @@ pub record Credited : Type 0 where
   pub risks : List ℕ
   pub rests : List ℤ
   pub credits : List ℕ
-  pub kept : List Kept
+  pub kept : List SpreadState
 
 -- no spread but those at some places, by their bits, names the commodity
 abbrev pub Misses : List CreditSpread → ℕ → ℕ → Type 0

@@ -12,12 +12,12 @@ ghost use Rattle.mgn_params.specs.Tables.{Tables, credit_spread_at, legs_of};
 ghost use Rattle.mgn_span.specs.Scan.{value_at};
 ghost use Rattle.mgn_span.specs.Sizes.{IsDelta};
 
-use crate::kept::Kept;
 use crate::naming::{await_moved, first_place, next_place, spread_at};
 use crate::reworked::Reworked;
 use crate::rows::{
     bring_rests, change_credits, form_spread, have_same_sign, kept_forms, mark_moved, move_rest,
 };
+use crate::spread_state::SpreadState;
 use mgn_num::{Cents, TenThousandths};
 use mgn_params::ParamSet;
 use mgn_params::rows::{fill, filled};
@@ -38,7 +38,7 @@ pub struct InterCredits {
     risks: Vec<u64>,
     rests: Vec<Delta>,
     credits: Vec<u128>,
-    kept: Vec<Kept>,
+    kept: Vec<SpreadState>,
 }
 
 impl Model for InterCredits {
@@ -65,7 +65,7 @@ impl InterCredits {
             risks: filled(alloc, count, 0)?,
             rests: filled(alloc, count, Delta::ZERO)?,
             credits: filled(alloc, count, 0)?,
-            kept: filled(alloc, set.credits().len(), Kept::NOTHING)?,
+            kept: filled(alloc, set.credits().len(), SpreadState::NOTHING)?,
         })
     }
 
@@ -93,7 +93,7 @@ impl InterCredits {
         fill(&mut self.risks, 0);
         fill(&mut self.rests, Delta::ZERO);
         fill(&mut self.credits, 0);
-        fill(&mut self.kept, Kept::NOTHING);
+        fill(&mut self.kept, SpreadState::NOTHING);
     }
 
     // Writes the numbers of a commodity, and its net delta as its rest.
@@ -226,7 +226,7 @@ impl InterCredits {
     fn pass(&mut self, set: &ParamSet, g: usize, i: usize, rest: Delta)
         requires inside { i < length set.now.credits }
         requires kept { length self.old.kept ≡ length set.now.credits }
-        ensures { (own : Kept) × (self.new ≡ record self.old { kept = slice_set self.old.kept i own })
+        ensures { (own : SpreadState) × (self.new ≡ record self.old { kept = slice_set self.old.kept i own })
             × IsMoved g rest (legs_of (credit_spread_at set.now.credits i)) (kept_at self.old.kept i) own }
     {
         set.limits();

@@ -2,10 +2,10 @@
 #![tactic(auto)]
 
 mod inter;
-mod kept;
 mod naming;
 mod reworked;
 mod rows;
+mod spread_state;
 
 pub use inter::InterCredits;
 pub use naming::spread_at;

@@ -36,13 +36,13 @@ use Rattle.mgn_params.specs.Tables.{Tables, commodity_at, is_option, month_at}
 
 -- sums of nothing
 
-no_sum : (f : Position → ℤ) (held : List Position) → AllByRecursion (λ p. f p ≡ pos 0) held → signed_sum_by f held ≡ pos 0
+no_sum : (f : Position → ℤ) (portfolio : List Position) → AllByRecursion (λ p. f p ≡ pos 0) portfolio → signed_sum_by f portfolio ≡ pos 0
 no_sum f [] none = refl
-no_sum f (p ∷ held) none = omega (arith, ints, signed_sum_by-cons f p held, none.0, no_sum f held none.1)
+no_sum f (p ∷ portfolio) none = omega (arith, ints, signed_sum_by-cons f p portfolio, none.0, no_sum f portfolio none.1)
 
-no_count : (f : Position → ℕ) (held : List Position) → AllByRecursion (λ p. f p ≡ 0) held → sum_by f held ≡ 0
+no_count : (f : Position → ℕ) (portfolio : List Position) → AllByRecursion (λ p. f p ≡ 0) portfolio → sum_by f portfolio ≡ 0
 no_count f [] none = refl
-no_count f (p ∷ held) none = omega (arith, sum_by-cons f p held, none.0, no_count f held none.1)
+no_count f (p ∷ portfolio) none = omega (arith, sum_by-cons f p portfolio, none.0, no_count f portfolio none.1)
 
 nothing_if : (b : Bool) (n : ℕ) → n ≡ 0 → (if b then n else 0) ≡ 0
 nothing_if true n e = e
@@ -54,21 +54,21 @@ chosen own g z none =
     ⊎_elim (λ (same : own ≡ g). rw (eq-eqb own g same) (none same)) (λ (other : own ≢ g). rw (ne_eqb own g other) refl) (cases_eq own g)
 
 -- scenarios
-total_none : (held : List Position) (g s : ℕ) → HoldsNone held g → scenario_total g held s ≡ pos 0
-total_none held g s none =
-    no_sum (scenario_share g s) held (recursion_from_All (λ p. scenario_share g s p ≡ pos 0) held (λ k d h.
-    let p : Position = get_or held k d in
+total_none : (portfolio : List Position) (g s : ℕ) → HoldsNone portfolio g → scenario_total g portfolio s ≡ pos 0
+total_none portfolio g s none =
+    no_sum (scenario_share g s) portfolio (recursion_from_All (λ p. scenario_share g s p ≡ pos 0) portfolio (λ k d h.
+    let p : Position = get_or portfolio k d in
     chosen p.0.commodity g (p.1 *ℤ value_at p.0.array s) (λ own. rw (none k d h own) (zero-*ℤ (value_at p.0.array s)))))
 
-pub scan_none : (held : List Position) (g : ℕ) → HoldsNone held g → scan_of held g ≡ pos 0
-scan_none held g none = ap (int_max (pos 0)) (total_none held g (active (scenario_total g held)) none)
+pub scan_none : (portfolio : List Position) (g : ℕ) → HoldsNone portfolio g → scan_of portfolio g ≡ pos 0
+scan_none portfolio g none = ap (int_max (pos 0)) (total_none portfolio g (active (scenario_total g portfolio)) none)
 
 -- the minimum
-pub minimum_none : (set : Tables) (held : List Position) (g : ℕ) → HoldsNone held g → minimum set held g ≡ 0
-minimum_none set held g none =
+pub minimum_none : (set : Tables) (portfolio : List Position) (g : ℕ) → HoldsNone portfolio g → minimum set portfolio g ≡ 0
+minimum_none set portfolio g none =
     let charge = (commodity_at set.commodities g).short_option_charge in
-    no_count (short_share_of g charge) held (recursion_from_All (λ p. short_share_of g charge p ≡ 0) held (λ k d h.
-    let p : Position = get_or held k d in
+    no_count (short_share_of g charge) portfolio (recursion_from_All (λ p. short_share_of g charge p ≡ 0) portfolio (λ k d h.
+    let p : Position = get_or portfolio k d in
     ⊎_elim
     (λ (own : p.0.commodity ≡ g). nothing_if ((p.0.commodity == g) && is_option p.0.kind) (negative_part p.1 * charge) (rw (none k d h own) (zero-mul charge)))
     (λ (other : p.0.commodity ≢ g). rw (ne_eqb p.0.commodity g other) refl)
@@ -83,11 +83,11 @@ in_limits n months (c ∷ cs) (q ∷ ns) are = (are.0, in_limits n months cs ns 
 
 month_none : (set : Tables) (nets : List ℤ) (g m : ℕ) → IsWithinLimits set → HoldsNone (positions set.contracts nets) g → (month_at set.months m).commodity ≡ g → month_delta (positions set.contracts nets) m ≡ pos 0
 month_none set nets g m limits none of =
-    let held : List Position = positions set.contracts nets in
+    let portfolio : List Position = positions set.contracts nets in
     let n = length set.commodities in
-    let are = All-from_recursion (λ p. IsContract n set.months p.0) held (in_limits n set.months set.contracts nets (recursion_from_All (IsContract n set.months) set.contracts limits.contracts)) in
-    no_sum (month_share m) held (recursion_from_All (λ p. month_share m p ≡ pos 0) held (λ k d h.
-    let p : Position = get_or held k d in
+    let are = All-from_recursion (λ p. IsContract n set.months p.0) portfolio (in_limits n set.months set.contracts nets (recursion_from_All (IsContract n set.months) set.contracts limits.contracts)) in
+    no_sum (month_share m) portfolio (recursion_from_All (λ p. month_share m p ≡ pos 0) portfolio (λ k d h.
+    let p : Position = get_or portfolio k d in
     let is : IsContract n set.months p.0 = are k d h in
     chosen p.0.month m (p.1 *ℤ p.0.delta) (λ here.
     let own : p.0.commodity ≡ g = sym is.own_month ∙ ap (λ (i : ℕ). (month_at set.months i).commodity) here ∙ of in
@@ -108,11 +108,11 @@ tier_none set nets g tier m part empty limits none =
 start_none : (set : Tables) (nets : List ℤ) (g leg : ℕ) → IsWithinLimits set → HoldsNone (positions set.contracts nets) g → slice_index (starts_in set nets g) leg ≡ 0
 unfolding starts_from
 start_none set nets g leg limits none =
-    let held : List Position = positions set.contracts nets in
-    let long = sum_below_none (long_share set.months held g leg) (length set.months) (λ m h. tier_none set nets g leg m positive_part refl limits none) in
-    let short = sum_below_none (short_share set.months held g (leg - 8)) (length set.months) (λ m h. tier_none set nets g (leg - 8) m negative_part refl limits none) in
+    let portfolio : List Position = positions set.contracts nets in
+    let long = sum_below_none (long_share set.months portfolio g leg) (length set.months) (λ m h. tier_none set nets g leg m positive_part refl limits none) in
+    let short = sum_below_none (short_share set.months portfolio g (leg - 8)) (length set.months) (λ m h. tier_none set nets g (leg - 8) m negative_part refl limits none) in
     ⊎_elim
-    (λ (there : leg < 16). get_or-map-range_with_len (start_of set.months held g) 0 16 leg leg 0 there (omega arith) ∙ elim (nat_lt leg 8) as (λ b. (if b then long_delta set.months held g leg else short_delta set.months held g (leg - 8)) ≡ 0) [ true ↦ long | false ↦ short ])
+    (λ (there : leg < 16). get_or-map-range_with_len (start_of set.months portfolio g) 0 16 leg leg 0 there (omega arith) ∙ elim (nat_lt leg 8) as (λ b. (if b then long_delta set.months portfolio g leg else short_delta set.months portfolio g (leg - 8)) ≡ 0) [ true ↦ long | false ↦ short ])
     (λ (past : 16 ≤ leg). get_or_past (starts_in set nets g) leg 0 (omega (arith, start_length set nets g)))
     (cases_lt leg 16)
 
@@ -150,20 +150,20 @@ spot_none set nets g limits none =
 
 pub delta_none : (set : Tables) (nets : List ℤ) (g : ℕ) → IsWithinLimits set → HoldsNone (positions set.contracts nets) g → value_at (deltas_in set (positions set.contracts nets)) g ≡ pos 0
 delta_none set nets g limits none =
-    let held : List Position = positions set.contracts nets in
+    let portfolio : List Position = positions set.contracts nets in
     ⊎_elim
-    (λ (there : g < length set.commodities). delta_of set held g there ∙ net_none set nets g limits none)
-    (λ (past : length set.commodities ≤ g). get_or_past (deltas_in set held) g (pos 0) (omega (arith, length-map-range_with_len (net_delta set.months held) 0 (length set.commodities))))
+    (λ (there : g < length set.commodities). delta_of set portfolio g there ∙ net_none set nets g limits none)
+    (λ (past : length set.commodities ≤ g). get_or_past (deltas_in set portfolio) g (pos 0) (omega (arith, length-map-range_with_len (net_delta set.months portfolio) 0 (length set.commodities))))
     (cases_lt g (length set.commodities))
 
 pub credit_none : (set : Tables) (nets : List ℤ) (g : ℕ) → IsWithinLimits set → HoldsNone (positions set.contracts nets) g → credit set (positions set.contracts nets) g ≡ 0
 unfolding credits
 credit_none set nets g limits none =
-    let held : List Position = positions set.contracts nets in
-    nothing_credited (deltas_in set held) (risks_in set held) set.credits g (delta_none set nets g limits none)
+    let portfolio : List Position = positions set.contracts nets in
+    nothing_credited (deltas_in set portfolio) (risks_in set portfolio) set.credits g (delta_none set nets g limits none)
 
 pub risk_none : (set : Tables) (nets : List ℤ) (g : ℕ) → IsWithinLimits set → HoldsNone (positions set.contracts nets) g → risk set (positions set.contracts nets) g ≡ pos 0
 unfolding risk
 risk_none set nets g limits none =
-    let held : List Position = positions set.contracts nets in
-    rw (scan_none held g none, intra_none set nets g limits none, spot_none set nets g limits none, credit_none set nets g limits none, minimum_none set held g none) (omega (arith, ints, clamps))
+    let portfolio : List Position = positions set.contracts nets in
+    rw (scan_none portfolio g none, intra_none set nets g limits none, spot_none set nets g limits none, credit_none set nets g limits none, minimum_none set portfolio g none) (omega (arith, ints, clamps))

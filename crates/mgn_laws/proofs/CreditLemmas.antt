@@ -97,12 +97,12 @@ spread_step commodities deltas risks now g spread is =
     elim (forms now.0 legs) as (λ b. unsigned_abs (value_at (if b then after else now).0 g) + (if b then sum_by (leg_use amount g) legs else 0) ≡ unsigned_abs (value_at now.0 g)) [ true ↦ uses | false ↦ omega arith ]
 
 -- the equation over all earlier spreads
-pub rest_and_used : (set : Tables) (held : List Position) (g k : ℕ) → IsWithinLimits set → unsigned_abs (value_at (rests_at set held k) g) + sum_below (credit_use_at set held g) k ≡ unsigned_abs (value_at (deltas_in set held) g)
-rest_and_used set held g zero limits = omega arith
-rest_and_used set held g (suc k) limits =
-    let before = rest_and_used set held g k limits in
-    let deltas = deltas_in set held in
-    let risks = risks_in set held in
+pub rest_and_used : (set : Tables) (portfolio : List Position) (g k : ℕ) → IsWithinLimits set → unsigned_abs (value_at (rests_at set portfolio k) g) + sum_below (credit_use_at set portfolio g) k ≡ unsigned_abs (value_at (deltas_in set portfolio) g)
+rest_and_used set portfolio g zero limits = omega arith
+rest_and_used set portfolio g (suc k) limits =
+    let before = rest_and_used set portfolio g k limits in
+    let deltas = deltas_in set portfolio in
+    let risks = risks_in set portfolio in
     let start : List ℤ × List ℕ = (deltas, replicate (length deltas) 0) in
     let so_far : ℕ → List ℤ × List ℕ = λ i. fold (formed deltas risks) start (take i set.credits) in
     ⊎_elim
@@ -115,9 +115,9 @@ rest_and_used set held g (suc k) limits =
     let now : so_far (suc k) ≡ all = ap (λ (ss : List CreditSpread). fold (formed deltas risks) start ss) (take_all (suc k) set.credits (omega arith)) in
     let was : so_far k ≡ all = ap (λ (ss : List CreditSpread). fold (formed deltas risks) start ss) (take_all k set.credits past) in
     let missing : credit_spread_at set.credits k ≡ no_credit_spread = get_or_past set.credits k no_credit_spread past in
-    let here : credit_use_at set held g k ≡ 0 = ap (λ (s : CreditSpread). spread_use (so_far k).0 g s) missing in
+    let here : credit_use_at set portfolio g k ≡ 0 = ap (λ (s : CreditSpread). spread_use (so_far k).0 g s) missing in
     omega (arith, before, here, ap (λ (t : List ℤ × List ℕ). unsigned_abs (value_at t.0 g)) now, ap (λ (t : List ℤ × List ℕ). unsigned_abs (value_at t.0 g)) was))
     (cases_lt k (length set.credits))
 
-pub delta_of : (set : Tables) (held : List Position) (g : ℕ) → g < length set.commodities → value_at (deltas_in set held) g ≡ net_delta set.months held g
-delta_of set held g there = get_or-map-range_with_len (net_delta set.months held) 0 (length set.commodities) g g (pos 0) there (omega arith)
+pub delta_of : (set : Tables) (portfolio : List Position) (g : ℕ) → g < length set.commodities → value_at (deltas_in set portfolio) g ≡ net_delta set.months portfolio g
+delta_of set portfolio g there = get_or-map-range_with_len (net_delta set.months portfolio) 0 (length set.commodities) g g (pos 0) there (omega arith)

@@ -58,22 +58,22 @@ spread_added deltas risks now g s there =
     let after : List ℤ × List ℕ = (rests_after now.0 amount legs, credits_after deltas risks s.rate amount now.1 legs) in
     elim (forms now.0 legs) as (λ b. slice_index (if b then after else now).1 g ≡ slice_index now.1 g + (if b then sum_by (leg_credit_to deltas risks s.rate amount g) legs else 0)) [ true ↦ legs_added deltas risks s.rate amount g legs now.1 there | false ↦ omega arith ]
 
-credited : (set : Tables) (held : List Position) (g k : ℕ) → g < length set.commodities → k ≤ length set.credits → slice_index (fold (formed (deltas_in set held) (risks_in set held)) (deltas_in set held, replicate (length (deltas_in set held)) 0) (take k set.credits)).1 g ≡ sum_below (credit_at set held g) k
-credited set held g zero there few = no_credits (length (deltas_in set held)) g
-credited set held g (suc k) there few =
-    let deltas = deltas_in set held in
-    let risks = risks_in set held in
+credited : (set : Tables) (portfolio : List Position) (g k : ℕ) → g < length set.commodities → k ≤ length set.credits → slice_index (fold (formed (deltas_in set portfolio) (risks_in set portfolio)) (deltas_in set portfolio, replicate (length (deltas_in set portfolio)) 0) (take k set.credits)).1 g ≡ sum_below (credit_at set portfolio g) k
+credited set portfolio g zero there few = no_credits (length (deltas_in set portfolio)) g
+credited set portfolio g (suc k) there few =
+    let deltas = deltas_in set portfolio in
+    let risks = risks_in set portfolio in
     let start : List ℤ × List ℕ = (deltas, replicate (length deltas) 0) in
     let so_far : ℕ → List ℤ × List ℕ = λ i. fold (formed deltas risks) start (take i set.credits) in
     let moved : so_far (suc k) ≡ formed deltas risks (so_far k) (credit_spread_at set.credits k) = rw add-one at (fold_more (formed deltas risks) start set.credits k no_credit_spread (omega arith)) in
     let kept = all_length deltas risks start (take k set.credits) in
-    let size = length-map-range_with_len (net_delta set.months held) 0 (length set.commodities) in
+    let size = length-map-range_with_len (net_delta set.months portfolio) 0 (length set.commodities) in
     let zeros = length-replicate {A = ℕ} (length deltas) 0 in
     let here = spread_added deltas risks (so_far k) g (credit_spread_at set.credits k) (omega (arith, kept, size, zeros)) in
-    omega (arith, credited set held g k there (omega arith), here, ap (λ (now : List ℤ × List ℕ). slice_index now.1 g) moved)
+    omega (arith, credited set portfolio g k there (omega arith), here, ap (λ (now : List ℤ × List ℕ). slice_index now.1 g) moved)
 
-pub credit_is_sum : (set : Tables) (held : List Position) (g : ℕ) → g < length set.commodities → credit set held g ≡ sum_below (credit_at set held g) (length set.credits)
+pub credit_is_sum : (set : Tables) (portfolio : List Position) (g : ℕ) → g < length set.commodities → credit set portfolio g ≡ sum_below (credit_at set portfolio g) (length set.credits)
 unfolding credits
-credit_is_sum set held g there =
-    let all = ap (λ (ss : List CreditSpread). slice_index (fold (formed (deltas_in set held) (risks_in set held)) (deltas_in set held, replicate (length (deltas_in set held)) 0) ss).1 g) (take_all (length set.credits) set.credits (omega arith)) in
-    omega (arith, all, credited set held g (length set.credits) there (omega arith))
+credit_is_sum set portfolio g there =
+    let all = ap (λ (ss : List CreditSpread). slice_index (fold (formed (deltas_in set portfolio) (risks_in set portfolio)) (deltas_in set portfolio, replicate (length (deltas_in set portfolio)) 0) ss).1 g) (take_all (length set.credits) set.credits (omega arith)) in
+    omega (arith, all, credited set portfolio g (length set.credits) there (omega arith))

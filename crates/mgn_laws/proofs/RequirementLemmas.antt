@@ -18,21 +18,21 @@ total_le_scan t s h = omega (arith, ints, clamps, (active_is t).largest s h)
 scan_not_negative : (t : ℕ → ℤ) → pos 0 ≤ℤ scan_risk t
 scan_not_negative t = omega (arith, ints, clamps)
 
-worst_not_negative : (g : ℕ) (held : List Position) → pos 0 ≤ℤ worst_cases g held
+worst_not_negative : (g : ℕ) (portfolio : List Position) → pos 0 ≤ℤ worst_cases g portfolio
 worst_not_negative g [] = omega (arith, ints)
-worst_not_negative g (p ∷ held) =
-    omega (arith, ints, signed_sum_by-cons (own_worst g) p held, scan_not_negative (λ s. scenario_share g s p), worst_not_negative g held)
+worst_not_negative g (p ∷ portfolio) =
+    omega (arith, ints, signed_sum_by-cons (own_worst g) p portfolio, scan_not_negative (λ s. scenario_share g s p), worst_not_negative g portfolio)
 
-total_le_worst : (g s : ℕ) → s < 16 → (held : List Position) → scenario_total g held s ≤ℤ worst_cases g held
+total_le_worst : (g s : ℕ) → s < 16 → (portfolio : List Position) → scenario_total g portfolio s ≤ℤ worst_cases g portfolio
 total_le_worst g s h [] = omega (arith, ints)
-total_le_worst g s h (p ∷ held) =
-    omega (arith, ints, signed_sum_by-cons (own_worst g) p held, signed_sum_by-cons (scenario_share g s) p held, total_le_scan (λ k. scenario_share g k p) s h, total_le_worst g s h held)
+total_le_worst g s h (p ∷ portfolio) =
+    omega (arith, ints, signed_sum_by-cons (own_worst g) p portfolio, signed_sum_by-cons (scenario_share g s) p portfolio, total_le_scan (λ k. scenario_share g k p) s h, total_le_worst g s h portfolio)
 
 -- a scan never exceeds the positions' own worst cases together
-pub scan_le_worst : (g : ℕ) (held : List Position) → scan_of held g ≤ℤ worst_cases g held
-scan_le_worst g held =
-    let total = total_le_worst g (active (scenario_total g held)) (active_is (scenario_total g held)).scenario held in
-    omega (arith, ints, clamps, total, worst_not_negative g held)
+pub scan_le_worst : (g : ℕ) (portfolio : List Position) → scan_of portfolio g ≤ℤ worst_cases g portfolio
+scan_le_worst g portfolio =
+    let total = total_le_worst g (active (scenario_total g portfolio)) (active_is (scenario_total g portfolio)).scenario portfolio in
+    omega (arith, ints, clamps, total, worst_not_negative g portfolio)
 
 -- no requirement is negative
 pub requirement_not_negative : (set : Tables) (nets : List ℤ) → pos 0 ≤ℤ requirement set nets

@@ -74,7 +74,7 @@ find_own f g (x ∷ xs) =
 -- the positions that are left
 
 abbrev left : ℕ → List Position → List Position
-left g held = others_of (λ (p : Position). p.0.commodity) g held
+left g portfolio = others_of (λ (p : Position). p.0.commodity) g portfolio
 
 no_nets : (cs : List Contract) → positions cs [] ≡ []
 no_nets [] = refl
@@ -92,42 +92,42 @@ left_positions g (c ∷ cs) (n ∷ ns) =
 -- what counts for nothing at a net of 0 sums to the same
 
 abbrev HoldsNoneByRecursion : List Position → ℕ → Type 0
-HoldsNoneByRecursion held g = AllByRecursion (λ p. p.0.commodity ≡ g → p.1 ≡ pos 0) held
+HoldsNoneByRecursion portfolio g = AllByRecursion (λ p. p.0.commodity ≡ g → p.1 ≡ pos 0) portfolio
 
-sum_left : (f : Position → ℤ) → ((p : Position) → p.1 ≡ pos 0 → f p ≡ pos 0) → (g : ℕ) (held : List Position) → HoldsNoneByRecursion held g → signed_sum_by f (left g held) ≡ signed_sum_by f held
+sum_left : (f : Position → ℤ) → ((p : Position) → p.1 ≡ pos 0 → f p ≡ pos 0) → (g : ℕ) (portfolio : List Position) → HoldsNoneByRecursion portfolio g → signed_sum_by f (left g portfolio) ≡ signed_sum_by f portfolio
 sum_left f flat g [] none = refl
-sum_left f flat g (p ∷ held) none =
-    let more = signed_sum_by-cons f p held in
-    let rest = sum_left f flat g held none.1 in
+sum_left f flat g (p ∷ portfolio) none =
+    let more = signed_sum_by-cons f p portfolio in
+    let rest = sum_left f flat g portfolio none.1 in
     ⊎_elim
     (λ (of : p.0.commodity ≡ g). rw (eq-eqb p.0.commodity g of) (omega (arith, ints, more, rest, flat p (none.0 of))))
-    (λ (off : p.0.commodity ≢ g). rw (ne_eqb p.0.commodity g off) (omega (arith, ints, more, rest, signed_sum_by-cons f p (left g held))))
+    (λ (off : p.0.commodity ≢ g). rw (ne_eqb p.0.commodity g off) (omega (arith, ints, more, rest, signed_sum_by-cons f p (left g portfolio))))
     (cases_eq p.0.commodity g)
 
-count_left : (f : Position → ℕ) → ((p : Position) → p.1 ≡ pos 0 → f p ≡ 0) → (g : ℕ) (held : List Position) → HoldsNoneByRecursion held g → sum_by f (left g held) ≡ sum_by f held
+count_left : (f : Position → ℕ) → ((p : Position) → p.1 ≡ pos 0 → f p ≡ 0) → (g : ℕ) (portfolio : List Position) → HoldsNoneByRecursion portfolio g → sum_by f (left g portfolio) ≡ sum_by f portfolio
 count_left f flat g [] none = refl
-count_left f flat g (p ∷ held) none =
-    let more = sum_by-cons f p held in
-    let rest = count_left f flat g held none.1 in
+count_left f flat g (p ∷ portfolio) none =
+    let more = sum_by-cons f p portfolio in
+    let rest = count_left f flat g portfolio none.1 in
     ⊎_elim
     (λ (of : p.0.commodity ≡ g). rw (eq-eqb p.0.commodity g of) (omega (arith, more, rest, flat p (none.0 of))))
-    (λ (off : p.0.commodity ≢ g). rw (ne_eqb p.0.commodity g off) (omega (arith, more, rest, sum_by-cons f p (left g held))))
+    (λ (off : p.0.commodity ≢ g). rw (ne_eqb p.0.commodity g off) (omega (arith, more, rest, sum_by-cons f p (left g portfolio))))
     (cases_eq p.0.commodity g)
 
-totals_left : (h g : ℕ) (held : List Position) → HoldsNoneByRecursion held g → scenario_total h (left g held) ≡ scenario_total h held
-totals_left h g held none = fun_ext (λ s. sum_left (scenario_share h s) (share_flat h s) g held none)
+totals_left : (h g : ℕ) (portfolio : List Position) → HoldsNoneByRecursion portfolio g → scenario_total h (left g portfolio) ≡ scenario_total h portfolio
+totals_left h g portfolio none = fun_ext (λ s. sum_left (scenario_share h s) (share_flat h s) g portfolio none)
 
-deltas_left : (g : ℕ) (held : List Position) → HoldsNoneByRecursion held g → month_delta (left g held) ≡ month_delta held
-deltas_left g held none = fun_ext (λ m. sum_left (month_share m) (month_share_flat m) g held none)
+deltas_left : (g : ℕ) (portfolio : List Position) → HoldsNoneByRecursion portfolio g → month_delta (left g portfolio) ≡ month_delta portfolio
+deltas_left g portfolio none = fun_ext (λ m. sum_left (month_share m) (month_share_flat m) g portfolio none)
 
 -- what hangs on the month deltas
 
-starts_left : (months : List Month) (h g : ℕ) (held : List Position) → HoldsNoneByRecursion held g → starts_of months (left g held) h ≡ starts_of months held h
-starts_left months h g held none = ap (λ (delta : ℕ → ℤ). starts_from months delta h) (deltas_left g held none)
+starts_left : (months : List Month) (h g : ℕ) (portfolio : List Position) → HoldsNoneByRecursion portfolio g → starts_of months (left g portfolio) h ≡ starts_of months portfolio h
+starts_left months h g portfolio none = ap (λ (delta : ℕ → ℤ). starts_from months delta h) (deltas_left g portfolio none)
 
-net_left : (months : List Month) (h g : ℕ) (held : List Position) → HoldsNoneByRecursion held g → net_delta months (left g held) h ≡ net_delta months held h
-net_left months h g held none =
-    ap (λ (delta : ℕ → ℤ). signed_sum_below (λ m. if (month_at months m).commodity == h then delta m else pos 0) (length months)) (deltas_left g held none)
+net_left : (months : List Month) (h g : ℕ) (portfolio : List Position) → HoldsNoneByRecursion portfolio g → net_delta months (left g portfolio) h ≡ net_delta months portfolio h
+net_left months h g portfolio none =
+    ap (λ (delta : ℕ → ℤ). signed_sum_below (λ m. if (month_at months m).commodity == h then delta m else pos 0) (length months)) (deltas_left g portfolio none)
 
 -- spreads with a leg in a commodity without a rest do not form
 
@@ -155,77 +155,77 @@ form_left deltas risks g now (s ∷ spreads) has =
 
 -- each part of the calculation
 
-flat_held : (held : List Position) (g : ℕ) → HoldsNone held g → HoldsNoneByRecursion held g
-flat_held held g none = recursion_from_All (λ p. p.0.commodity ≡ g → p.1 ≡ pos 0) held none
+flat_held : (portfolio : List Position) (g : ℕ) → HoldsNone portfolio g → HoldsNoneByRecursion portfolio g
+flat_held portfolio g none = recursion_from_All (λ p. p.0.commodity ≡ g → p.1 ≡ pos 0) portfolio none
 
-scan_left : (h g : ℕ) (held : List Position) → HoldsNoneByRecursion held g → scan_of (left g held) h ≡ scan_of held h
-scan_left h g held none = ap scan_risk (totals_left h g held none)
+scan_left : (h g : ℕ) (portfolio : List Position) → HoldsNoneByRecursion portfolio g → scan_of (left g portfolio) h ≡ scan_of portfolio h
+scan_left h g portfolio none = ap scan_risk (totals_left h g portfolio none)
 
-price_left : (h g : ℕ) (held : List Position) → HoldsNoneByRecursion held g → price_risk2_of (left g held) h ≡ price_risk2_of held h
-price_left h g held none = ap (λ (t : ℕ → ℤ). unsigned_abs (price_risk2 t)) (totals_left h g held none)
+price_left : (h g : ℕ) (portfolio : List Position) → HoldsNoneByRecursion portfolio g → price_risk2_of (left g portfolio) h ≡ price_risk2_of portfolio h
+price_left h g portfolio none = ap (λ (t : ℕ → ℤ). unsigned_abs (price_risk2 t)) (totals_left h g portfolio none)
 
-minimum_left : (set : Tables) (h g : ℕ) (held : List Position) → HoldsNoneByRecursion held g → minimum (without g set) (left g held) h ≡ minimum set held h
-minimum_left set h g held none =
+minimum_left : (set : Tables) (h g : ℕ) (portfolio : List Position) → HoldsNoneByRecursion portfolio g → minimum (without g set) (left g portfolio) h ≡ minimum set portfolio h
+minimum_left set h g portfolio none =
     let charge = (commodity_at set.commodities h).short_option_charge in
-    count_left (short_share_of h charge) (short_share_flat h charge) g held none
+    count_left (short_share_of h charge) (short_share_flat h charge) g portfolio none
 
-value_left : (g : ℕ) (held : List Position) → HoldsNoneByRecursion held g → net_option_value (left g held) ≡ net_option_value held
-value_left g held none = sum_left value_share value_share_flat g held none
+value_left : (g : ℕ) (portfolio : List Position) → HoldsNoneByRecursion portfolio g → net_option_value (left g portfolio) ≡ net_option_value portfolio
+value_left g portfolio none = sum_left value_share value_share_flat g portfolio none
 
 intra_left : (set : Tables) (nets : List ℤ) (h g : ℕ) → IsWithinLimits set → HoldsNone (positions set.contracts nets) g → intra_charge (without g set) (left g (positions set.contracts nets)) h ≡ intra_charge set (positions set.contracts nets) h
 unfolding intra_charge
 intra_left set nets h g limits none =
-    let held : List Position = positions set.contracts nets in
-    let starts = starts_left set.months h g held (flat_held held g none) in
+    let portfolio : List Position = positions set.contracts nets in
+    let starts = starts_left set.months h g portfolio (flat_held portfolio g none) in
     ⊎_elim
     (λ (own : h ≡ g).
     let empty : stages_of (others_of (λ (s : Spread). s.commodity) g set.spreads) h ≡ [] = ap (λ (k : ℕ). stages_of (others_of (λ (s : Spread). s.commodity) g set.spreads) k) own ∙ ap (flat_map stages_of_spread) (filter_own (λ (s : Spread). s.commodity) g set.spreads) in
-    let nothing = ap (λ (k : ℕ). intra_charge set held k) own ∙ intra_none set nets g limits none in
-    ap (charges_of (starts_of set.months (left g held) h)) empty ∙ sym nothing)
+    let nothing = ap (λ (k : ℕ). intra_charge set portfolio k) own ∙ intra_none set nets g limits none in
+    ap (charges_of (starts_of set.months (left g portfolio) h)) empty ∙ sym nothing)
     (λ (other : h ≢ g).
     let same = ap (flat_map stages_of_spread) (filter_other (λ (s : Spread). s.commodity) g h other set.spreads) in
-    ap (λ (row : List ℕ). charges_of row (stages_of (others_of (λ (s : Spread). s.commodity) g set.spreads) h)) starts ∙ ap (charges_of (starts_of set.months held h)) same)
+    ap (λ (row : List ℕ). charges_of row (stages_of (others_of (λ (s : Spread). s.commodity) g set.spreads) h)) starts ∙ ap (charges_of (starts_of set.months portfolio h)) same)
     (cases_eq h g)
 
 spot_left : (set : Tables) (nets : List ℤ) (h g : ℕ) → IsWithinLimits set → HoldsNone (positions set.contracts nets) g → spot_charge (without g set) (left g (positions set.contracts nets)) h ≡ spot_charge set (positions set.contracts nets) h
 unfolding spot_charge
 spot_left set nets h g limits none =
-    let held : List Position = positions set.contracts nets in
+    let portfolio : List Position = positions set.contracts nets in
     let fewer = others_of (λ (s : Spread). s.commodity) g set.spreads in
-    let starts = starts_left set.months h g held (flat_held held g none) in
+    let starts = starts_left set.months h g portfolio (flat_held portfolio g none) in
     ⊎_elim
     (λ (own : h ≡ g).
     let missing : spot_of (others_of (λ (s : SpotCharge). s.commodity) g set.spots) h ≡ None = ap (spot_of (others_of (λ (s : SpotCharge). s.commodity) g set.spots)) own ∙ find_own (λ (s : SpotCharge). s.commodity) g set.spots in
-    let nothing = ap (λ (k : ℕ). spot_charge set held k) own ∙ spot_none set nets g limits none in
-    ap (spot_charge_from (starts_of set.months (left g held) h) (left_by (starts_of set.months (left g held) h) (stages_of fewer h))) missing ∙ sym nothing)
+    let nothing = ap (λ (k : ℕ). spot_charge set portfolio k) own ∙ spot_none set nets g limits none in
+    ap (spot_charge_from (starts_of set.months (left g portfolio) h) (left_by (starts_of set.months (left g portfolio) h) (stages_of fewer h))) missing ∙ sym nothing)
     (λ (other : h ≢ g).
     let stages = ap (flat_map stages_of_spread) (filter_other (λ (s : Spread). s.commodity) g h other set.spreads) in
     let spot = find_other (λ (s : SpotCharge). s.commodity) g h other set.spots in
-    rw (starts, spot) (ap (λ (ss : List Stage). spot_charge_from (starts_of set.months held h) (left_by (starts_of set.months held h) ss) (spot_of set.spots h)) stages))
+    rw (starts, spot) (ap (λ (ss : List Stage). spot_charge_from (starts_of set.months portfolio h) (left_by (starts_of set.months portfolio h) ss) (spot_of set.spots h)) stages))
     (cases_eq h g)
 
 credit_left : (set : Tables) (nets : List ℤ) (h g : ℕ) → IsWithinLimits set → HoldsNone (positions set.contracts nets) g → credit (without g set) (left g (positions set.contracts nets)) h ≡ credit set (positions set.contracts nets) h
 unfolding credits
 credit_left set nets h g limits none =
-    let held : List Position = positions set.contracts nets in
-    let flat = flat_held held g none in
-    let deltas = ap (λ (f : ℕ → ℤ). map f (commodities_of set)) (fun_ext (λ k. net_left set.months k g held flat)) in
-    let risks = ap (λ (f : ℕ → ℕ). map f (commodities_of set)) (fun_ext (λ k. price_left k g held flat)) in
-    let start : HasNothing (deltas_in set held, replicate (length (deltas_in set held)) 0) g = record { rest = delta_none set nets g limits none; credit = no_credits (length (deltas_in set held)) g } in
-    let formed_same = form_left (deltas_in set held) (risks_in set held) g (deltas_in set held, replicate (length (deltas_in set held)) 0) set.credits start in
+    let portfolio : List Position = positions set.contracts nets in
+    let flat = flat_held portfolio g none in
+    let deltas = ap (λ (f : ℕ → ℤ). map f (commodities_of set)) (fun_ext (λ k. net_left set.months k g portfolio flat)) in
+    let risks = ap (λ (f : ℕ → ℕ). map f (commodities_of set)) (fun_ext (λ k. price_left k g portfolio flat)) in
+    let start : HasNothing (deltas_in set portfolio, replicate (length (deltas_in set portfolio)) 0) g = record { rest = delta_none set nets g limits none; credit = no_credits (length (deltas_in set portfolio)) g } in
+    let formed_same = form_left (deltas_in set portfolio) (risks_in set portfolio) g (deltas_in set portfolio, replicate (length (deltas_in set portfolio)) 0) set.credits start in
     rw (deltas, risks) (ap (λ (now : List ℤ × List ℕ). slice_index now.1 h) formed_same)
 
 risk_left : (set : Tables) (nets : List ℤ) (h g : ℕ) → IsWithinLimits set → HoldsNone (positions set.contracts nets) g → risk (without g set) (left g (positions set.contracts nets)) h ≡ risk set (positions set.contracts nets) h
 unfolding risk
 risk_left set nets h g limits none =
-    let held : List Position = positions set.contracts nets in
-    let flat = flat_held held g none in
-    rw (scan_left h g held flat, intra_left set nets h g limits none, spot_left set nets h g limits none, credit_left set nets h g limits none, minimum_left set h g held flat) refl
+    let portfolio : List Position = positions set.contracts nets in
+    let flat = flat_held portfolio g none in
+    rw (scan_left h g portfolio flat, intra_left set nets h g limits none, spot_left set nets h g limits none, credit_left set nets h g limits none, minimum_left set h g portfolio flat) refl
 
 pub requirement_left : (set : Tables) (nets : List ℤ) (g : ℕ) → IsWithinLimits set → HoldsNone (positions set.contracts nets) g → requirement (without g set) (other_nets g set nets) ≡ requirement set nets
 unfolding requirement
 requirement_left set nets g limits none =
-    let held : List Position = positions set.contracts nets in
-    let risks = signed_sum_below_same (risk (without g set) (left g held)) (risk set held) (length set.commodities) (λ h inside. risk_left set nets h g limits none) in
-    let value = value_left g held (flat_held held g none) in
+    let portfolio : List Position = positions set.contracts nets in
+    let risks = signed_sum_below_same (risk (without g set) (left g portfolio)) (risk set portfolio) (length set.commodities) (λ h inside. risk_left set nets h g limits none) in
+    let value = value_left g portfolio (flat_held portfolio g none) in
     rw (left_positions g set.contracts nets) (rw (risks, value) refl)

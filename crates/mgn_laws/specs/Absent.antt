@@ -6,7 +6,7 @@ use Rattle.mgn_params.specs.Tables.{Tables, legs_of}
 
 -- each net in a contract of the commodity is 0
 abbrev pub HoldsNone : List Position → ℕ → Type 0
-HoldsNone held commodity = All (λ p. p.0.commodity ≡ commodity → p.1 ≡ pos 0) held
+HoldsNone portfolio commodity = All (λ p. p.0.commodity ≡ commodity → p.1 ≡ pos 0) portfolio
 
 -- the set without what is of a commodity: its contracts, spreads and spot month charge, and each intercommodity spread
 -- with a leg in it. Its own row and its months stay, bare, so that all others keep their numbers.

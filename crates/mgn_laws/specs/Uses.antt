@@ -11,15 +11,15 @@ use Rattle.mgn_params.specs.Tables.{Tables, credit_spread_at, legs_of}
 
 -- the net delta of each commodity, and its doubled price risk
 abbrev pub deltas_in : Tables → List Position → List ℤ
-deltas_in set held = map (net_delta set.months held) (commodities_of set)
+deltas_in set portfolio = map (net_delta set.months portfolio) (commodities_of set)
 
 abbrev pub risks_in : Tables → List Position → List ℕ
-risks_in set held = map (price_risk2_of held) (commodities_of set)
+risks_in set portfolio = map (price_risk2_of portfolio) (commodities_of set)
 
 -- the rests when the turn of the spread at a place comes
 abbrev pub rests_at : Tables → List Position → ℕ → List ℤ
-rests_at set held k =
-    (fold (formed (deltas_in set held) (risks_in set held)) (deltas_in set held, replicate (length (deltas_in set held)) 0) (take k set.credits)).0
+rests_at set portfolio k =
+    (fold (formed (deltas_in set portfolio) (risks_in set portfolio)) (deltas_in set portfolio, replicate (length (deltas_in set portfolio)) 0) (take k set.credits)).0
 
 -- what a leg uses of a commodity for an amount of spreads
 abbrev pub leg_use : ℕ → ℕ → Leg → ℕ
@@ -32,7 +32,7 @@ spread_use rests commodity spread =
 
 -- what the spread at a place uses of a commodity in its turn
 abbrev pub credit_use_at : Tables → List Position → ℕ → ℕ → ℕ
-credit_use_at set held commodity k = spread_use (rests_at set held k) commodity (credit_spread_at set.credits k)
+credit_use_at set portfolio commodity k = spread_use (rests_at set portfolio k) commodity (credit_spread_at set.credits k)
 
 -- what a spread credits to a commodity, which is nothing where it does not form
 abbrev pub leg_credit_to : List ℤ → List ℕ → ℕ → ℕ → ℕ → Leg → ℕ
@@ -45,5 +45,5 @@ spread_credit deltas risks rests commodity spread =
 
 -- what the spread at a place credits to a commodity in its turn
 abbrev pub credit_at : Tables → List Position → ℕ → ℕ → ℕ
-credit_at set held commodity k =
-    spread_credit (deltas_in set held) (risks_in set held) (rests_at set held k) commodity (credit_spread_at set.credits k)
+credit_at set portfolio commodity k =
+    spread_credit (deltas_in set portfolio) (risks_in set portfolio) (rests_at set portfolio k) commodity (credit_spread_at set.credits k)

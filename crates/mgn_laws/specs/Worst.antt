@@ -11,4 +11,4 @@ own_worst commodity p = scan_risk (λ s. scenario_share commodity s p)
 
 -- the positions' own worst cases together
 abbrev pub worst_cases : ℕ → List Position → ℤ
-worst_cases commodity held = signed_sum_by (own_worst commodity) held
+worst_cases commodity portfolio = signed_sum_by (own_worst commodity) portfolio

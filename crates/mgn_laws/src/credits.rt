@@ -19,9 +19,9 @@ pub fn rests_leave_net_delta_less_earlier_uses(
     spread: usize,
 )
     requires { commodity < length set.now.commodities }
-    ensures { let held = positions set.now.contracts nets.now in
-        unsigned_abs (value_at (rests_at set.now held spread) commodity) + sum_below (credit_use_at set.now held commodity) spread
-        ≡ unsigned_abs (net_delta set.now.months held commodity) }
+    ensures { let portfolio = positions set.now.contracts nets.now in
+        unsigned_abs (value_at (rests_at set.now portfolio spread) commodity) + sum_below (credit_use_at set.now portfolio commodity) spread
+        ≡ unsigned_abs (net_delta set.now.months portfolio commodity) }
 {
     set.limits();
 }
@@ -29,9 +29,9 @@ pub fn rests_leave_net_delta_less_earlier_uses(
 /// All intercommodity spreads together never use more of a commodity than its net delta in size.
 pub fn credit_uses_within_net_delta(set: &ParamSet, nets: &[i64], commodity: usize)
     requires { commodity < length set.now.commodities }
-    ensures { let held = positions set.now.contracts nets.now in
-        sum_below (credit_use_at set.now held commodity) (length set.now.credits)
-        ≤ unsigned_abs (net_delta set.now.months held commodity) }
+    ensures { let portfolio = positions set.now.contracts nets.now in
+        sum_below (credit_use_at set.now portfolio commodity) (length set.now.credits)
+        ≤ unsigned_abs (net_delta set.now.months portfolio commodity) }
 {
     set.limits();
 }
@@ -39,6 +39,6 @@ pub fn credit_uses_within_net_delta(set: &ParamSet, nets: &[i64], commodity: usi
 /// The credit of a commodity is the sum of what each spread credits to it in its turn.
 pub fn credits_spread_by_spread(set: &ParamSet, nets: &[i64], commodity: usize)
     requires { commodity < length set.now.commodities }
-    ensures { let held = positions set.now.contracts nets.now in
-        credit set.now held commodity ≡ sum_below (credit_at set.now held commodity) (length set.now.credits) }
+    ensures { let portfolio = positions set.now.contracts nets.now in
+        credit set.now portfolio commodity ≡ sum_below (credit_at set.now portfolio commodity) (length set.now.credits) }
 {}

@@ -34,9 +34,9 @@ start_share_small month delta g leg = grind (arith, ints)
 -- what a leg starts with, summed over the months with their deltas
 pub start_is : (t : Tables) (nets deltas : List ℤ) (g leg : ℕ) → AreDeltas t nets deltas → sum_below (leg_share t.months deltas g leg) (length t.months) ≡ start_of t.months (positions t.contracts nets) g leg
 start_is t nets deltas g leg are =
-    let held : List Position = positions t.contracts nets in
-    sum_below_same (leg_share t.months deltas g leg) (λ m. start_share (month_at t.months m) (month_delta held m) g leg) (length t.months) (λ m h. ap (λ (d : ℤ). start_share (month_at t.months m) d g leg) (are.each m h))
-    ∙ sum_below_if (nat_lt leg 8) (long_share t.months held g leg) (short_share t.months held g (leg - 8)) (length t.months)
+    let portfolio : List Position = positions t.contracts nets in
+    sum_below_same (leg_share t.months deltas g leg) (λ m. start_share (month_at t.months m) (month_delta portfolio m) g leg) (length t.months) (λ m h. ap (λ (d : ℤ). start_share (month_at t.months m) d g leg) (are.each m h))
+    ∙ sum_below_if (nat_lt leg 8) (long_share t.months portfolio g leg) (short_share t.months portfolio g (leg - 8)) (length t.months)
 
 -- the row of what the 16 legs start with
 pub starts_are : (t : Tables) (nets deltas : List ℤ) (starts : List (List ℕ)) (g : ℕ) → AreDeltas t nets deltas → length (legs_row starts g) ≡ 16 → ((leg : ℕ) → leg < 16 → leg_of starts g leg ≡ sum_below (leg_share t.months deltas g leg) (length t.months)) → legs_row starts g ≡ starts_of t.months (positions t.contracts nets) g
@@ -75,7 +75,7 @@ month_sizes : (t : Tables) (nets : List ℤ) (i : ℕ) → IsWithinLimits t → 
 month_sizes t nets zero limits are h =
     omega (arith, sum_below_none (λ m. unsigned_abs (month_delta (take 0 (positions t.contracts nets)) m)) (length t.months) (λ m p. omega (arith, ints)))
 month_sizes t nets (suc i) limits are h =
-    let held : List Position = positions t.contracts nets in
+    let portfolio : List Position = positions t.contracts nets in
     let c : Contract = contract_at t.contracts i in
     let n : ℤ = value_at nets i in
     let inside : i < length t.contracts = omega arith in
@@ -83,18 +83,18 @@ month_sizes t nets (suc i) limits are h =
     let share : ℕ → ℕ = λ m. unsigned_abs (month_share m (c, n)) in
     let small = month_share_small (length t.commodities) t.months c.month c n (limits.contracts i no_contract inside) (are.small i (pos 0) (omega (arith, are.one_each))) in
     let one = sum_below_one share c.month (length t.months) (λ m other. grind arith) in
-    let grown = sum_below_grown (λ m. unsigned_abs (month_delta (take i held) m)) (λ m. unsigned_abs (month_delta (take (suc i) held) m)) share (length t.months) (λ m p. let more = rw add-one at (position_sum_more (month_share m) t.contracts nets i inside are.one_each) in omega (arith, ints, more)) in
+    let grown = sum_below_grown (λ m. unsigned_abs (month_delta (take i portfolio) m)) (λ m. unsigned_abs (month_delta (take (suc i) portfolio) m)) share (length t.months) (λ m p. let more = rw add-one at (position_sum_more (month_share m) t.contracts nets i inside are.one_each) in omega (arith, ints, more)) in
     omega (arith, before, small, one, grown)
 
 -- no leg starts with more than 10^16
 pub start_small : (t : Tables) (nets : List ℤ) (g leg : ℕ) → IsWithinLimits t → AreNets t nets → start_of t.months (positions t.contracts nets) g leg ≤ 10 ^ 16
 start_small t nets g leg limits are =
-    let held : List Position = positions t.contracts nets in
+    let portfolio : List Position = positions t.contracts nets in
     let n = length t.contracts in
-    let all = ap (λ (ps : List Position). sum_below (λ m. unsigned_abs (month_delta ps m)) (length t.months)) (take_all n held (omega (arith, length-zip t.contracts nets))) in
+    let all = ap (λ (ps : List Position). sum_below (λ m. unsigned_abs (month_delta ps m)) (length t.months)) (take_all n portfolio (omega (arith, length-zip t.contracts nets))) in
     let sizes = month_sizes t nets n limits are (omega arith) in
-    let is = sum_below_if (nat_lt leg 8) (long_share t.months held g leg) (short_share t.months held g (leg - 8)) (length t.months) in
-    let le = sum_below_le (λ m. start_share (month_at t.months m) (month_delta held m) g leg) (λ m. unsigned_abs (month_delta held m)) (length t.months) (λ m h. start_share_small (month_at t.months m) (month_delta held m) g leg) in
+    let is = sum_below_if (nat_lt leg 8) (long_share t.months portfolio g leg) (short_share t.months portfolio g (leg - 8)) (length t.months) in
+    let le = sum_below_le (λ m. start_share (month_at t.months m) (month_delta portfolio m) g leg) (λ m. unsigned_abs (month_delta portfolio m)) (length t.months) (λ m h. start_share_small (month_at t.months m) (month_delta portfolio m) g leg) in
     let few = limits.few_contracts in
     omega (arith, all, sizes, is, le, few)
 

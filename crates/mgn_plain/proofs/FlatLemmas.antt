@@ -51,8 +51,8 @@ total_none t nets g s are flat =
 -- nor do the totals that are kept of it
 pub totals_none : (t : Tables) (nets : List ℤ) (rows : List (List ℤ)) (marks : List Bool) → AreTotals t nets rows → AreMarks t nets marks → (g s : ℕ) → mark_at marks g ≡ false → g < length rows → s < 16 → total_of rows g s ≡ pos 0
 unfolding IsFlatIn
-totals_none t nets rows marks are held g s mark h k =
-    are.each g s (omega (arith, h, are.one_row_each)) k ∙ total_none t nets g s are.of_nets (λ j low same. held.flat g j mark low same)
+totals_none t nets rows marks are marked g s mark h k =
+    are.each g s (omega (arith, h, are.one_row_each)) k ∙ total_none t nets g s are.of_nets (λ j low same. marked.flat g j mark low same)
 
 -- totals of 0 have no price risk
 no_price_risk : price_risk2 (λ (s : ℕ). pos 0) ≡ pos 0
@@ -82,8 +82,8 @@ month_none t nets g m limits are flat own =
 
 start_none : (t : Tables) (nets : List ℤ) (g leg : ℕ) → IsWithinLimits t → AreNets t nets → IsFlatIn t nets g → start_of t.months (positions t.contracts nets) g leg ≡ 0
 start_none t nets g leg limits are flat =
-    let held : List Position = positions t.contracts nets in
-    let share = λ (m : ℕ). start_share (month_at t.months m) (month_delta held m) g leg in
+    let portfolio : List Position = positions t.contracts nets in
+    let share = λ (m : ℕ). start_share (month_at t.months m) (month_delta portfolio m) g leg in
     let none = λ (m : ℕ) (h : m < length t.months).
     let is : share m ≡ 0 =
     ⊎_elim
@@ -91,7 +91,7 @@ start_none t nets g leg limits are flat =
     (λ (other : (month_at t.months m).commodity ≢ g). grind (arith, other))
     (cases_eq (month_at t.months m).commodity g) in
     is in
-    sym (sum_below_if (nat_lt leg 8) (long_share t.months held g leg) (short_share t.months held g (leg - 8)) (length t.months)) ∙ sum_below_none share (length t.months) none
+    sym (sum_below_if (nat_lt leg 8) (long_share t.months portfolio g leg) (short_share t.months portfolio g (leg - 8)) (length t.months)) ∙ sum_below_none share (length t.months) none
 
 starts_none : (t : Tables) (nets : List ℤ) (g : ℕ) → IsWithinLimits t → AreNets t nets → IsFlatIn t nets g → starts_of t.months (positions t.contracts nets) g ≡ replicate 16 0
 unfolding starts_from
@@ -116,11 +116,11 @@ minimum_none t nets g charge are flat =
 pub risk_none : (t : Tables) (nets : List ℤ) (g : ℕ) → IsWithinLimits t → AreNets t nets → ((k : ℕ) → k < length t.contracts → (contract_at t.contracts k).commodity ≡ g → value_at nets k ≡ pos 0) → risk t (positions t.contracts nets) g ≡ pos 0
 unfolding risk intra_charge spot_charge IsFlatIn
 risk_none t nets g limits are flat =
-    let held : List Position = positions t.contracts nets in
+    let portfolio : List Position = positions t.contracts nets in
     let starts = starts_none t nets g limits are flat in
     let stages = stages_of t.spreads g in
-    let scan : scan_of held g ≡ pos 0 = ap (int_max (pos 0)) (total_none t nets g (active (scenario_total g held)) are flat) in
-    let intra : intra_charge t held g ≡ 0 = rw starts (charges_of_nothing 16 stages) in
-    let spot : spot_charge t held g ≡ 0 = rw (starts, left_by_nothing 16 stages) (spot_charge_of_nothing 16 (spot_of t.spots g)) in
+    let scan : scan_of portfolio g ≡ pos 0 = ap (int_max (pos 0)) (total_none t nets g (active (scenario_total g portfolio)) are flat) in
+    let intra : intra_charge t portfolio g ≡ 0 = rw starts (charges_of_nothing 16 stages) in
+    let spot : spot_charge t portfolio g ≡ 0 = rw (starts, left_by_nothing 16 stages) (spot_charge_of_nothing 16 (spot_of t.spots g)) in
     let least = minimum_none t nets g (commodity_at t.commodities g).short_option_charge are flat in
     rw (scan, intra, spot, least) (omega (arith, ints, clamps))

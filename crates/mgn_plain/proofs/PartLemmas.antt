@@ -58,13 +58,13 @@ credit_numbers t nets row totals risks limits netted totalled priced = record {
 pub credits_are : (t : Tables) (nets row : List ℤ) (totals : List (List ℤ)) (risks credited : List ℕ) → AreNetDeltas t nets row → AreTotals t nets totals → AreRisks totals risks → AreCreditsFrom t row risks credited → AreCredits t nets credited
 unfolding credits
 credits_are t nets row totals risks credited netted totalled priced from =
-    let held : List Position = positions t.contracts nets in
+    let portfolio : List Position = positions t.contracts nets in
     let n = length t.commodities in
-    let rests : row ≡ map (net_delta t.months held) (range_with_len 0 n) = fill_by_all (net_delta t.months held) row n (pos 0) netted.one_each netted.each in
-    let prices : risks ≡ map (price_risk2_of held) (range_with_len 0 n) =
-    fill_by_all (price_risk2_of held) risks n 0 (priced.one_each ∙ totalled.one_row_each) (λ g h. priced.each g (omega (arith, totalled.one_row_each)) ∙ ap unsigned_abs (price_risk2_same (total_of totals g) (scenario_total g held) (λ s k. totalled.each g s h k))) in
+    let rests : row ≡ map (net_delta t.months portfolio) (range_with_len 0 n) = fill_by_all (net_delta t.months portfolio) row n (pos 0) netted.one_each netted.each in
+    let prices : risks ≡ map (price_risk2_of portfolio) (range_with_len 0 n) =
+    fill_by_all (price_risk2_of portfolio) risks n 0 (priced.one_each ∙ totalled.one_row_each) (λ g h. priced.each g (omega (arith, totalled.one_row_each)) ∙ ap unsigned_abs (price_risk2_same (total_of totals g) (scenario_total g portfolio) (λ s k. totalled.each g s h k))) in
     record {
-      is = from.is ∙ ap (λ (xs : List ℤ). credits_of xs risks t.credits) rests ∙ ap (λ (xs : List ℕ). credits_of (map (net_delta t.months held) (range_with_len 0 n)) xs t.credits) prices;
+      is = from.is ∙ ap (λ (xs : List ℤ). credits_of xs risks t.credits) rests ∙ ap (λ (xs : List ℕ). credits_of (map (net_delta t.months portfolio) (range_with_len 0 n)) xs t.credits) prices;
       one_each = from.one_each;
       small = from.small;
     }
@@ -73,11 +73,11 @@ credits_are t nets row totals risks credited netted totalled priced from =
 pub no_credits : (t : Tables) (nets : List ℤ) (credited : List ℕ) → length t.credits ≡ 0 → credited ≡ replicate (length t.commodities) 0 → AreCredits t nets credited
 unfolding credits
 no_credits t nets credited none zeros =
-    let held : List Position = positions t.contracts nets in
+    let portfolio : List Position = positions t.contracts nets in
     let n = length t.commodities in
     let empty : t.credits ≡ [] = nil_from_length t.credits none in
     record {
-      is = zeros ∙ ap (λ (m : ℕ). replicate m 0) (sym (length-map-range_with_len (net_delta t.months held) 0 n)) ∙ ap (credits_of (map (net_delta t.months held) (range_with_len 0 n)) (map (price_risk2_of held) (range_with_len 0 n))) (sym empty);
+      is = zeros ∙ ap (λ (m : ℕ). replicate m 0) (sym (length-map-range_with_len (net_delta t.months portfolio) 0 n)) ∙ ap (credits_of (map (net_delta t.months portfolio) (range_with_len 0 n)) (map (price_risk2_of portfolio) (range_with_len 0 n))) (sym empty);
       one_each = ap length zeros ∙ length-replicate {A = ℕ} n 0;
       small = λ g. rw zeros (⊎_elim (λ inside. rw (get_or-replicate {A = ℕ} n g 0 0 inside) (omega arith)) (λ past. rw (get_or_past {X = ℕ} (replicate {A = ℕ} n 0) g 0 (omega (arith, length-replicate {A = ℕ} n 0))) (omega arith)) (cases_lt g n));
     }
@@ -91,16 +91,16 @@ if_ok_along (Err e) P Q along h = h
 pub figures_are : (t : Tables) (nets : List ℤ) (rows : FigureRows) (g : ℕ) (scan : ScanFigures) (i s c m r : ℤ) → AreFigureRows t nets rows → g < length t.commodities → scan ≡ scanned (total_of rows.sums.totals.items g) → i ≡ pos (charges_of (legs_row rows.starts.items g) (stages_of t.spreads g)) → s ≡ pos (spot_charge_from (legs_row rows.starts.items g) (left_by (legs_row rows.starts.items g) (stages_of t.spreads g)) (spot_of t.spots g)) → c ≡ pos (slice_index rows.credits.items g) → m ≡ pos (slice_index rows.sums.minimums.items g) → r ≡ int_max (scan.scan +ℤ i +ℤ s -ℤ c) m → let built : CommodityFigures = record { scan = scan.scan; active = scan.active; price_risk2 = scan.price_risk2; intra = i; spot = s; credit = c; minimum = m; risk = r } in built ≡ commodity_figures t (positions t.contracts nets) g
 unfolding commodity_figures risk intra_charge spot_charge
 figures_are t nets rows g scan i s c m r are h read charged spotted creditted lowest risked =
-    let held : List Position = positions t.contracts nets in
+    let portfolio : List Position = positions t.contracts nets in
     let starts = are.starts.each g h in
-    let scan_is : scan ≡ scanned (scenario_total g held) = read ∙ scanned_same (total_of rows.sums.totals.items g) (scenario_total g held) (λ s k. are.sums.totals.each g s h k) in
-    let intra_is : i ≡ pos (intra_charge t held g) = charged ∙ ap (λ (xs : List ℕ). pos (charges_of xs (stages_of t.spreads g))) starts in
-    let spot_is : s ≡ pos (spot_charge t held g) = spotted ∙ ap (λ (xs : List ℕ). pos (spot_charge_from xs (left_by xs (stages_of t.spreads g)) (spot_of t.spots g))) starts in
-    let credit_is : c ≡ pos (credit t held g) = creditted ∙ ap (λ (xs : List ℕ). pos (slice_index xs g)) are.credits.is in
-    let minimum_is : m ≡ pos (minimum t held g) = lowest ∙ ap pos (are.sums.minimums.each g h) in
+    let scan_is : scan ≡ scanned (scenario_total g portfolio) = read ∙ scanned_same (total_of rows.sums.totals.items g) (scenario_total g portfolio) (λ s k. are.sums.totals.each g s h k) in
+    let intra_is : i ≡ pos (intra_charge t portfolio g) = charged ∙ ap (λ (xs : List ℕ). pos (charges_of xs (stages_of t.spreads g))) starts in
+    let spot_is : s ≡ pos (spot_charge t portfolio g) = spotted ∙ ap (λ (xs : List ℕ). pos (spot_charge_from xs (left_by xs (stages_of t.spreads g)) (spot_of t.spots g))) starts in
+    let credit_is : c ≡ pos (credit t portfolio g) = creditted ∙ ap (λ (xs : List ℕ). pos (slice_index xs g)) are.credits.is in
+    let minimum_is : m ≡ pos (minimum t portfolio g) = lowest ∙ ap pos (are.sums.minimums.each g h) in
     rw (risked, scan_is, intra_is, spot_is, credit_is, minimum_is) refl
 
 -- the risk among the figures of a commodity
-pub risk_is : (t : Tables) (held : List Position) (g : ℕ) → (commodity_figures t held g).risk ≡ risk t held g
+pub risk_is : (t : Tables) (portfolio : List Position) (g : ℕ) → (commodity_figures t portfolio g).risk ≡ risk t portfolio g
 unfolding commodity_figures
-risk_is t held g = refl
+risk_is t portfolio g = refl

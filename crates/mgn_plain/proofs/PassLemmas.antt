@@ -132,7 +132,7 @@ sums_all t nets sums limits are =
         each = λ g h. are.minimums g h ∙ position_count_all (short_share_of g (commodity_at t.commodities g).short_option_charge) t.contracts nets n (omega arith) one_each;
         small = λ g h. let low = minimums_small t nets n sums g limits are (omega arith) h in omega (arith, low, few);
       };
-      held = record { one_each = are.one_mark_each; flat = are.flat };
+      marks = record { one_each = are.one_mark_each; flat = are.flat };
       value = are.value ∙ position_sum_all value_share t.contracts nets n (omega arith) one_each;
       small_value = let low = value_small t nets n sums limits are (omega arith) in omega (arith, low, few);
     }

@@ -10,15 +10,15 @@ use Rattle.mgn_plain.specs.declared.commodity.CommodityFigures.{CommodityFigures
 
 -- the figures of a commodity, each by its definition
 unfoldable pub commodity_figures : Tables → List Position → ℕ → CommodityFigures
-commodity_figures set held commodity = record {
-  scan = scan_of held commodity;
-  active = active (scenario_total commodity held);
-  price_risk2 = price_risk2 (scenario_total commodity held);
-  intra = pos (intra_charge set held commodity);
-  spot = pos (spot_charge set held commodity);
-  credit = pos (credit set held commodity);
-  minimum = pos (minimum set held commodity);
-  risk = risk set held commodity;
+commodity_figures set portfolio commodity = record {
+  scan = scan_of portfolio commodity;
+  active = active (scenario_total commodity portfolio);
+  price_risk2 = price_risk2 (scenario_total commodity portfolio);
+  intra = pos (intra_charge set portfolio commodity);
+  spot = pos (spot_charge set portfolio commodity);
+  credit = pos (credit set portfolio commodity);
+  minimum = pos (minimum set portfolio commodity);
+  risk = risk set portfolio commodity;
 }
 
 -- a set and a net for each contract of it

@@ -46,7 +46,7 @@ pub record AreSums (set : Tables) (nets : List ℤ) (sums : Sums) : Type 0 where
   pub totals : AreTotals set nets sums.totals.items
   pub deltas : AreDeltas set nets sums.deltas.items
   pub minimums : AreMinimums set nets sums.minimums.items
-  pub held : AreMarks set nets sums.held.items
+  pub marks : AreMarks set nets sums.marks.items
   pub value : sums.option_value ≡ net_option_value (positions set.contracts nets)
   pub small_value : unsigned_abs sums.option_value ≤ 10 ^ 20
 

@@ -112,7 +112,7 @@ fn risk_at(set: &ParamSet, rows: &FigureRows, commodity: usize) -> Cents
     ensures small { unsigned_abs result ≤ 3 * 10 ^ 27 }
 {
     set.limits();
-    if !mark_at(&rows.sums.held, commodity) {
+    if !mark_at(&rows.sums.marks, commodity) {
         return Cents::ZERO;
     }
     figures_of(set, rows, commodity).risk

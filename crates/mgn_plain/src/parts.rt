@@ -11,13 +11,17 @@ use mgn_span::{Delta, Total};
 use std::alloc::{AllocError, Global};
 
 // The doubled price risks of the commodities. Nothing is read of one of which each net is 0, as of most.
-fn price_risks(alloc: Global, totals: &[[Total; 16]], held: &[bool]) -> Result<Vec<u64>, AllocError>
-    requires one_each { length held.now ≡ length totals.now }
-    requires flat { (g s : ℕ) → mark_at held.now g ≡ false → g < length totals.now → s < 16 → total_of totals.now g s ≡ pos 0 }
+fn price_risks(
+    alloc: Global,
+    totals: &[[Total; 16]],
+    marks: &[bool],
+) -> Result<Vec<u64>, AllocError>
+    requires one_each { length marks.now ≡ length totals.now }
+    requires flat { (g s : ℕ) → mark_at marks.now g ≡ false → g < length totals.now → s < 16 → total_of totals.now g s ≡ pos 0 }
     ensures { IfOk result (λ risks. AreRisks totals.now risks.items) }
 {
     let mut risks = filled(alloc, totals.len(), 0)?;
-    scan::fill_price_risks(&mut risks, totals, held);
+    scan::fill_price_risks(&mut risks, totals, marks);
     Ok(risks)
 }
 
@@ -55,6 +59,6 @@ pub(crate) fn work_out_credits(
     if set.credits().is_empty() {
         return filled(alloc, set.commodity_count(), 0);
     }
-    let risks = price_risks(alloc, &sums.totals, &sums.held)?;
+    let risks = price_risks(alloc, &sums.totals, &sums.marks)?;
     credit_row(alloc, set, deltas, &risks)
 }

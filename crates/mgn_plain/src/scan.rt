@@ -58,15 +58,15 @@ pub(crate) fn totals_row(totals: &[[Total; 16]], commodity: usize) -> &[Total; 1
 }
 
 // Twice the price risk of each commodity, of which those without a mark have totals of 0.
-pub(crate) fn fill_price_risks(risks: &mut [u64], totals: &[[Total; 16]], held: &[bool])
+pub(crate) fn fill_price_risks(risks: &mut [u64], totals: &[[Total; 16]], marks: &[bool])
     requires zeros { risks.old ≡ replicate (length totals.now) 0 }
-    requires one_each { length held.now ≡ length totals.now }
-    requires flat { (g s : ℕ) → mark_at held.now g ≡ false → g < length totals.now → s < 16 → total_of totals.now g s ≡ pos 0 }
+    requires one_each { length marks.now ≡ length totals.now }
+    requires flat { (g s : ℕ) → mark_at marks.now g ≡ false → g < length totals.now → s < 16 → total_of totals.now g s ≡ pos 0 }
     ensures one_each { length risks.new ≡ length totals.now }
     ensures risks { (g : ℕ) → g < length totals.now → slice_index risks.new g ≡ unsigned_abs (price_risk2 (total_of totals.now g)) }
 {
     for g in 0..totals.len() {
-        if mark_at(held, g) {
+        if mark_at(marks, g) {
             risks[g] = doubled_risk(totals_row(totals, g)).size() as u64;
         }
     }

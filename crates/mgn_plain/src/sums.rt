@@ -21,7 +21,7 @@ pub(crate) struct Sums {
     // The short option minimums of the commodities.
     pub minimums: Vec<u128>,
     // Whether a commodity has a net other than 0.
-    pub held: Vec<bool>,
+    pub marks: Vec<bool>,
     // The net option value.
     pub option_value: Cents,
 }
@@ -34,7 +34,7 @@ fn nothing(alloc: Global, set: &ParamSet) -> Result<Sums, AllocError>
         totals: filled(alloc, set.commodity_count(), [Total::ZERO; 16])?,
         deltas: filled(alloc, set.month_count(), Delta::ZERO)?,
         minimums: filled(alloc, set.commodity_count(), 0)?,
-        held: filled(alloc, set.commodity_count(), false)?,
+        marks: filled(alloc, set.commodity_count(), false)?,
         option_value: Cents::ZERO,
     })
 }
@@ -51,7 +51,7 @@ fn add_position(sums: &mut Sums, set: &ParamSet, nets: &Nets, i: usize, work: &m
     scan::add_position(&mut sums.totals, set, i, net, work);
     deltas::add_position(&mut sums.deltas, contract, net);
     options::add_minimum(&mut sums.minimums, set, i, net);
-    sums.held[contract.commodity] = true;
+    sums.marks[contract.commodity] = true;
     sums.option_value = sums.option_value.plus(share_of_value(contract, net));
 }
 

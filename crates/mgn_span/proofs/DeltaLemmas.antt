@@ -66,10 +66,10 @@ share_in_own : (months : List Month) (g : ℕ) (c : Contract) (n : ℤ) → (mon
 share_in_own months g c n own = rw (own, eq-eqb c.month c.month refl) refl
 
 -- one position more
-net_share-cons : (months : List Month) (g : ℕ) (p : Position) (held : List Position) (m : ℕ) → net_share months (p ∷ held) g m ≡ net_share months held g m +ℤ share_in months g p m
-net_share-cons months g p held m =
-    let more = signed_sum_by-cons (month_share m) p held in
-    elim ((month_at months m).commodity == g) as (λ b. (if b then month_delta (p ∷ held) m else pos 0) ≡ (if b then month_delta held m else pos 0) +ℤ (if b then month_share m p else pos 0)) [ true ↦ omega (arith, ints, more) | false ↦ refl ]
+net_share-cons : (months : List Month) (g : ℕ) (p : Position) (portfolio : List Position) (m : ℕ) → net_share months (p ∷ portfolio) g m ≡ net_share months portfolio g m +ℤ share_in months g p m
+net_share-cons months g p portfolio m =
+    let more = signed_sum_by-cons (month_share m) p portfolio in
+    elim ((month_at months m).commodity == g) as (λ b. (if b then month_delta (p ∷ portfolio) m else pos 0) ≡ (if b then month_delta portfolio m else pos 0) +ℤ (if b then month_share m p else pos 0)) [ true ↦ omega (arith, ints, more) | false ↦ refl ]
 
 -- the first so many months come to what the positions in them do
 abbrev own_share_to : ℕ → ℕ → Position → ℤ
@@ -97,12 +97,12 @@ net_delta_is commodities months g n [] ns limits =
 net_delta_is commodities months g n (c ∷ cs) [] limits =
     signed_sum_below_none (net_share months [] g) n (λ m h. elim ((month_at months m).commodity == g) as (λ b. (if b then pos 0 else pos 0) ≡ pos 0) [ true ↦ refl | false ↦ refl ])
 net_delta_is commodities months g n (c ∷ cs) (x ∷ ns) limits =
-    let held : List Position = positions cs ns in
+    let portfolio : List Position = positions cs ns in
     let own = All-head (IsContract commodities months) c cs limits in
     let others = net_delta_is commodities months g n cs ns (All-tail (IsContract commodities months) c cs limits) in
-    let grown = signed_sum_below_grown (net_share months held g) (net_share months ((c, x) ∷ held) g) (share_in months g (c, x)) n (λ m h. net_share-cons months g (c, x) held m) in
+    let grown = signed_sum_below_grown (net_share months portfolio g) (net_share months ((c, x) ∷ portfolio) g) (share_in months g (c, x)) n (λ m h. net_share-cons months g (c, x) portfolio m) in
     let one = share_in_sum months g n c x own.own_month in
-    let more = signed_sum_by-cons (own_share_to g n) (c, x) held in
+    let more = signed_sum_by-cons (own_share_to g n) (c, x) portfolio in
     omega (arith, ints, others, grown, one, more)
 
 -- the net delta of a commodity, however many months are summed

@@ -154,27 +154,27 @@ spodd_requires = refl
 
 -- Figures on the way to them.
 
-abbrev held : List ℤ → List Position
-held quantities = positions one.contracts quantities
+abbrev portfolio : List ℤ → List Position
+portfolio quantities = positions one.contracts quantities
 
 -- two long against two short of the next month: scan 60, scenario 13 active, one stage of 20000 at 40 for each 10000
-calendar : (scan_of (held (nets (long 2) (short 2) none none)) 0 ≡ pos 60)
-    × (active (scenario_total 0 (held (nets (long 2) (short 2) none none))) ≡ 12)
-    × (intra_charge one (held (nets (long 2) (short 2) none none)) 0 ≡ 80)
-    × (spot_charge spot (held (nets (long 2) (short 2) none none)) 0 ≡ 60)
+calendar : (scan_of (portfolio (nets (long 2) (short 2) none none)) 0 ≡ pos 60)
+    × (active (scenario_total 0 (portfolio (nets (long 2) (short 2) none none))) ≡ 12)
+    × (intra_charge one (portfolio (nets (long 2) (short 2) none none)) 0 ≡ 80)
+    × (spot_charge spot (portfolio (nets (long 2) (short 2) none none)) 0 ≡ 60)
 unfolding aaa1 aaa2 aaac bbb1 one odd flat neg win spot spodd active starts_from intra_charge spot_charge credits risk requirement
 calendar = (refl, refl, refl, refl)
 
 -- one long AAA1 against two short BBB1: scans of 300 each, credits of 150 each
-between_commodities : (credits one (held (nets (long 1) none none (short 2))) ≡ 150 ∷ 150 ∷ [])
-    × (risk one (held (nets (long 1) none none (short 2))) 0 ≡ pos 150)
-    × (risk one (held (nets (long 1) none none (short 2))) 1 ≡ pos 150)
-    × (active (scenario_total 1 (held (nets (long 1) none none (short 2)))) ≡ 10)
+between_commodities : (credits one (portfolio (nets (long 1) none none (short 2))) ≡ 150 ∷ 150 ∷ [])
+    × (risk one (portfolio (nets (long 1) none none (short 2))) 0 ≡ pos 150)
+    × (risk one (portfolio (nets (long 1) none none (short 2))) 1 ≡ pos 150)
+    × (active (scenario_total 1 (portfolio (nets (long 1) none none (short 2)))) ≡ 10)
 unfolding aaa1 aaa2 aaac bbb1 one odd flat neg win spot spodd active starts_from intra_charge spot_charge credits risk requirement
 between_commodities = (refl, refl, refl, refl)
 
 -- a short option: scan 220, minimum 25
-short_option : (scan_of (held (nets none none (short 1) none)) 0 ≡ pos 220)
-    × (minimum one (held (nets none none (short 1) none)) 0 ≡ 25)
+short_option : (scan_of (portfolio (nets none none (short 1) none)) 0 ≡ pos 220)
+    × (minimum one (portfolio (nets none none (short 1) none)) 0 ≡ 25)
 unfolding aaa1 aaa2 aaac bbb1 one odd flat neg win spot spodd active starts_from intra_charge spot_charge credits risk requirement
 short_option = (refl, refl)

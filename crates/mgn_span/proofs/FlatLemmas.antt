@@ -29,7 +29,7 @@ abbrev AreZero : List ℤ → Type 0
 AreZero nets = AllByRecursion (λ n. n ≡ pos 0) nets
 
 abbrev IsFlat : List Position → Type 0
-IsFlat held = AllByRecursion (λ p. p.1 ≡ pos 0) held
+IsFlat portfolio = AllByRecursion (λ p. p.1 ≡ pos 0) portfolio
 
 abbrev IsZeroRow : List ℕ → Type 0
 IsZeroRow row = AllByRecursion (λ n. n ≡ 0) row
@@ -41,14 +41,14 @@ flat_positions (c ∷ cs) (n ∷ ns) h = (h.0, flat_positions cs ns h.1)
 
 -- what counts for nothing at a net of 0 sums to 0
 
-flat_sum : (f : Position → ℤ) → ((p : Position) → p.1 ≡ pos 0 → f p ≡ pos 0) → (held : List Position) → IsFlat held → signed_sum_by f held ≡ pos 0
+flat_sum : (f : Position → ℤ) → ((p : Position) → p.1 ≡ pos 0 → f p ≡ pos 0) → (portfolio : List Position) → IsFlat portfolio → signed_sum_by f portfolio ≡ pos 0
 flat_sum f z [] h = refl
-flat_sum f z (p ∷ held) h =
-    omega (arith, ints, signed_sum_by-cons f p held, z p h.0, flat_sum f z held h.1)
+flat_sum f z (p ∷ portfolio) h =
+    omega (arith, ints, signed_sum_by-cons f p portfolio, z p h.0, flat_sum f z portfolio h.1)
 
-flat_count : (f : Position → ℕ) → ((p : Position) → p.1 ≡ pos 0 → f p ≡ 0) → (held : List Position) → IsFlat held → sum_by f held ≡ 0
+flat_count : (f : Position → ℕ) → ((p : Position) → p.1 ≡ pos 0 → f p ≡ 0) → (portfolio : List Position) → IsFlat portfolio → sum_by f portfolio ≡ 0
 flat_count f z [] h = refl
-flat_count f z (p ∷ held) h = omega (arith, z p h.0, flat_count f z held h.1, sum_by-cons f p held)
+flat_count f z (p ∷ portfolio) h = omega (arith, z p h.0, flat_count f z portfolio h.1, sum_by-cons f p portfolio)
 
 zero_below : (f : ℕ → ℕ) → ((k : ℕ) → f k ≡ 0) → (n : ℕ) → sum_below f n ≡ 0
 zero_below f z zero = refl
@@ -68,11 +68,11 @@ pub share_flat : (g s : ℕ) (p : Position) → p.1 ≡ pos 0 → scenario_share
 share_flat g s p h =
     either (p.0.commodity == g) (p.1 *ℤ value_at p.0.array s) (pos 0) (pos 0) (rw h (zero-*ℤ (value_at p.0.array s))) refl
 
-total_flat : (held : List Position) → IsFlat held → (g s : ℕ) → scenario_total g held s ≡ pos 0
-total_flat held h g s = flat_sum (scenario_share g s) (share_flat g s) held h
+total_flat : (portfolio : List Position) → IsFlat portfolio → (g s : ℕ) → scenario_total g portfolio s ≡ pos 0
+total_flat portfolio h g s = flat_sum (scenario_share g s) (share_flat g s) portfolio h
 
-scan_flat : (held : List Position) → IsFlat held → (g : ℕ) → scan_of held g ≡ pos 0
-scan_flat held h g = ap (int_max (pos 0)) (total_flat held h g (active (scenario_total g held)))
+scan_flat : (portfolio : List Position) → IsFlat portfolio → (g : ℕ) → scan_of portfolio g ≡ pos 0
+scan_flat portfolio h g = ap (int_max (pos 0)) (total_flat portfolio h g (active (scenario_total g portfolio)))
 
 -- deltas
 
@@ -80,30 +80,30 @@ pub month_share_flat : (m : ℕ) (p : Position) → p.1 ≡ pos 0 → month_shar
 month_share_flat m p h =
     either (p.0.month == m) (p.1 *ℤ p.0.delta) (pos 0) (pos 0) (rw h (zero-*ℤ p.0.delta)) refl
 
-month_flat : (held : List Position) → IsFlat held → (m : ℕ) → month_delta held m ≡ pos 0
-month_flat held h m = flat_sum (month_share m) (month_share_flat m) held h
+month_flat : (portfolio : List Position) → IsFlat portfolio → (m : ℕ) → month_delta portfolio m ≡ pos 0
+month_flat portfolio h m = flat_sum (month_share m) (month_share_flat m) portfolio h
 
-long_flat : (ms : List Month) (held : List Position) → IsFlat held → (g tier m : ℕ) → long_share ms held g tier m ≡ 0
-long_flat ms held h g tier m =
-    either (is_in_tier ms g tier m) (positive_part (month_delta held m)) 0 0 (rw (month_flat held h m) refl) refl
+long_flat : (ms : List Month) (portfolio : List Position) → IsFlat portfolio → (g tier m : ℕ) → long_share ms portfolio g tier m ≡ 0
+long_flat ms portfolio h g tier m =
+    either (is_in_tier ms g tier m) (positive_part (month_delta portfolio m)) 0 0 (rw (month_flat portfolio h m) refl) refl
 
-short_flat : (ms : List Month) (held : List Position) → IsFlat held → (g tier m : ℕ) → short_share ms held g tier m ≡ 0
-short_flat ms held h g tier m =
-    either (is_in_tier ms g tier m) (negative_part (month_delta held m)) 0 0 (rw (month_flat held h m) refl) refl
+short_flat : (ms : List Month) (portfolio : List Position) → IsFlat portfolio → (g tier m : ℕ) → short_share ms portfolio g tier m ≡ 0
+short_flat ms portfolio h g tier m =
+    either (is_in_tier ms g tier m) (negative_part (month_delta portfolio m)) 0 0 (rw (month_flat portfolio h m) refl) refl
 
-start_flat : (ms : List Month) (held : List Position) → IsFlat held → (g leg : ℕ) → start_of ms held g leg ≡ 0
-start_flat ms held h g leg =
-    either (nat_lt leg 8) (long_delta ms held g leg) (short_delta ms held g (leg - 8)) 0
-    (zero_below (long_share ms held g leg) (long_flat ms held h g leg) (length ms))
-    (zero_below (short_share ms held g (leg - 8)) (short_flat ms held h g (leg - 8)) (length ms))
+start_flat : (ms : List Month) (portfolio : List Position) → IsFlat portfolio → (g leg : ℕ) → start_of ms portfolio g leg ≡ 0
+start_flat ms portfolio h g leg =
+    either (nat_lt leg 8) (long_delta ms portfolio g leg) (short_delta ms portfolio g (leg - 8)) 0
+    (zero_below (long_share ms portfolio g leg) (long_flat ms portfolio h g leg) (length ms))
+    (zero_below (short_share ms portfolio g (leg - 8)) (short_flat ms portfolio h g (leg - 8)) (length ms))
 
 zero_map : (f : ℕ → ℕ) → ((k : ℕ) → f k ≡ 0) → (xs : List ℕ) → IsZeroRow (map f xs)
 zero_map f z [] = tt
 zero_map f z (x ∷ xs) = (z x, zero_map f z xs)
 
-starts_flat : (ms : List Month) (held : List Position) → IsFlat held → (g : ℕ) → IsZeroRow (starts_of ms held g)
+starts_flat : (ms : List Month) (portfolio : List Position) → IsFlat portfolio → (g : ℕ) → IsZeroRow (starts_of ms portfolio g)
 unfolding starts_from
-starts_flat ms held h g = zero_map (start_of ms held g) (start_flat ms held h g) (range_with_len 0 16)
+starts_flat ms portfolio h g = zero_map (start_of ms portfolio g) (start_flat ms portfolio h g) (range_with_len 0 16)
 
 -- stages of nothing
 
@@ -145,35 +145,35 @@ pub short_share_flat : (g charge : ℕ) (p : Position) → p.1 ≡ pos 0 → sho
 short_share_flat g charge p e =
     either ((p.0.commodity == g) && is_option p.0.kind) (negative_part p.1 * charge) 0 0 (rw e (zero-mul charge)) refl
 
-minimum_flat : (held : List Position) → IsFlat held → (g charge : ℕ) → short_option_minimum held g charge ≡ 0
-minimum_flat held h g charge =
-    flat_count (short_share_of g charge) (short_share_flat g charge) held h
+minimum_flat : (portfolio : List Position) → IsFlat portfolio → (g charge : ℕ) → short_option_minimum portfolio g charge ≡ 0
+minimum_flat portfolio h g charge =
+    flat_count (short_share_of g charge) (short_share_flat g charge) portfolio h
 
 pub value_share_flat : (p : Position) → p.1 ≡ pos 0 → value_share p ≡ pos 0
 value_share_flat p e =
     either (is_premium p.0.style) (p.1 *ℤ pos p.0.option_value) (pos 0) (pos 0) (rw e (zero-*ℤ (pos p.0.option_value))) refl
 
-value_flat : (held : List Position) → IsFlat held → net_option_value held ≡ pos 0
-value_flat held h = flat_sum value_share value_share_flat held h
+value_flat : (portfolio : List Position) → IsFlat portfolio → net_option_value portfolio ≡ pos 0
+value_flat portfolio h = flat_sum value_share value_share_flat portfolio h
 
-risk_flat : (set : Tables) (held : List Position) → IsFlat held → (g : ℕ) → risk set held g ≡ pos 0
+risk_flat : (set : Tables) (portfolio : List Position) → IsFlat portfolio → (g : ℕ) → risk set portfolio g ≡ pos 0
 unfolding risk intra_charge spot_charge
-risk_flat set held h g =
-    let starts = starts_flat set.months held h g in
+risk_flat set portfolio h g =
+    let starts = starts_flat set.months portfolio h g in
     let stages = stages_of set.spreads g in
-    let intra = charges_zero (starts_of set.months held g) starts stages in
-    let left = left_by_zero (starts_of set.months held g) starts stages in
-    let spot = spot_zero (starts_of set.months held g) (left_by (starts_of set.months held g) stages) starts left (spot_of set.spots g) in
-    let least = minimum_flat held h g (commodity_at set.commodities g).short_option_charge in
-    rw (scan_flat held h g, intra, spot, least) (omega (arith, ints, clamps))
+    let intra = charges_zero (starts_of set.months portfolio g) starts stages in
+    let left = left_by_zero (starts_of set.months portfolio g) starts stages in
+    let spot = spot_zero (starts_of set.months portfolio g) (left_by (starts_of set.months portfolio g) stages) starts left (spot_of set.spots g) in
+    let least = minimum_flat portfolio h g (commodity_at set.commodities g).short_option_charge in
+    rw (scan_flat portfolio h g, intra, spot, least) (omega (arith, ints, clamps))
 
 -- a unit without positions owes nothing
 pub requirement_flat : (set : Tables) (nets : List ℤ) → AreFlat nets → requirement set nets ≡ pos 0
 unfolding requirement
 requirement_flat set nets h =
-    let held = flat_positions set.contracts nets (recursion_from_All (λ (n : ℤ). n ≡ pos 0) nets h) in
-    let risks = zero_signed_below (risk set (positions set.contracts nets)) (risk_flat set (positions set.contracts nets) held) (length set.commodities) in
-    rw (risks, value_flat (positions set.contracts nets) held) refl
+    let flat = flat_positions set.contracts nets (recursion_from_All (λ (n : ℤ). n ≡ pos 0) nets h) in
+    let risks = zero_signed_below (risk set (positions set.contracts nets)) (risk_flat set (positions set.contracts nets) flat) (length set.commodities) in
+    rw (risks, value_flat (positions set.contracts nets) flat) refl
 
 pub AreFlat-replicate : (n : ℕ) → AreFlat (replicate n (pos 0))
 AreFlat-replicate n = All-replicate (λ (z : ℤ). z ≡ pos 0) n (pos 0) refl
@@ -207,16 +207,16 @@ scan_of_flat cs ns g h = scan_flat (positions cs ns) (held_flat cs ns h) g
 pub intra_charge_flat : (set : Tables) (ns : List ℤ) (g : ℕ) → AreFlat ns → intra_charge set (positions set.contracts ns) g ≡ 0
 unfolding intra_charge
 intra_charge_flat set ns g h =
-    let held = positions set.contracts ns in
-    charges_zero (starts_of set.months held g) (starts_flat set.months held (held_flat set.contracts ns h) g) (stages_of set.spreads g)
+    let portfolio = positions set.contracts ns in
+    charges_zero (starts_of set.months portfolio g) (starts_flat set.months portfolio (held_flat set.contracts ns h) g) (stages_of set.spreads g)
 
 pub spot_charge_flat : (set : Tables) (ns : List ℤ) (g : ℕ) → AreFlat ns → spot_charge set (positions set.contracts ns) g ≡ 0
 unfolding spot_charge
 spot_charge_flat set ns g h =
-    let held = positions set.contracts ns in
-    let starts = starts_flat set.months held (held_flat set.contracts ns h) g in
+    let portfolio = positions set.contracts ns in
+    let starts = starts_flat set.months portfolio (held_flat set.contracts ns h) g in
     let stages = stages_of set.spreads g in
-    spot_zero (starts_of set.months held g) (left_by (starts_of set.months held g) stages) starts (left_by_zero (starts_of set.months held g) starts stages) (spot_of set.spots g)
+    spot_zero (starts_of set.months portfolio g) (left_by (starts_of set.months portfolio g) stages) starts (left_by_zero (starts_of set.months portfolio g) starts stages) (spot_of set.spots g)
 
 pub risk_of_flat : (set : Tables) (ns : List ℤ) (g : ℕ) → AreFlat ns → risk set (positions set.contracts ns) g ≡ pos 0
 risk_of_flat set ns g h = risk_flat set (positions set.contracts ns) (held_flat set.contracts ns h) g

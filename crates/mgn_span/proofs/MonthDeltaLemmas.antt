@@ -34,9 +34,9 @@ numbers_same f g (suc n) same =
     omega (arith, ints, numbers_same f g n (λ m h. same m (omega arith)), same n (omega arith))
 
 -- the delta at a place of the list is that of the month
-pub value_at-month_deltas : (months : List Month) (held : List Position) (m : ℕ) → m < length months → value_at (month_deltas months held) m ≡ month_delta held m
-value_at-month_deltas months held m h =
-    get_or-map-range_with_len (month_delta held) 0 (length months) m m (pos 0) h (omega arith)
+pub value_at-month_deltas : (months : List Month) (portfolio : List Position) (m : ℕ) → m < length months → value_at (month_deltas months portfolio) m ≡ month_delta portfolio m
+value_at-month_deltas months portfolio m h =
+    get_or-map-range_with_len (month_delta portfolio) 0 (length months) m m (pos 0) h (omega arith)
 
 -- a choice that does not hang on the number
 counts_if : (b : Bool) (f g : ℕ → ℕ) (n : ℕ) → sum_below (λ m. if b then f m else g m) n ≡ (if b then sum_below f n else sum_below g n)
@@ -55,28 +55,28 @@ start_from-same months d e g leg same =
     rw (long, short) refl
 
 -- what the 16 legs start with
-pub starts_by-month_deltas : (months : List Month) (held : List Position) (g : ℕ) → starts_by months (month_deltas months held) g ≡ starts_of months held g
+pub starts_by-month_deltas : (months : List Month) (portfolio : List Position) (g : ℕ) → starts_by months (month_deltas months portfolio) g ≡ starts_of months portfolio g
 unfolding starts_from
-starts_by-month_deltas months held g =
-    fill_by_all (start_of months held g) (map (start_from months (value_at (month_deltas months held)) g) (range_with_len 0 16)) 16 0 (length-map-range_with_len (start_from months (value_at (month_deltas months held)) g) 0 16)
-    (λ leg h. get_or-map-range_with_len (start_from months (value_at (month_deltas months held)) g) 0 16 leg leg 0 h (omega arith) ∙ start_from-same months (value_at (month_deltas months held)) (month_delta held) g leg (value_at-month_deltas months held))
+starts_by-month_deltas months portfolio g =
+    fill_by_all (start_of months portfolio g) (map (start_from months (value_at (month_deltas months portfolio)) g) (range_with_len 0 16)) 16 0 (length-map-range_with_len (start_from months (value_at (month_deltas months portfolio)) g) 0 16)
+    (λ leg h. get_or-map-range_with_len (start_from months (value_at (month_deltas months portfolio)) g) 0 16 leg leg 0 h (omega arith) ∙ start_from-same months (value_at (month_deltas months portfolio)) (month_delta portfolio) g leg (value_at-month_deltas months portfolio))
 
 -- the net delta of a commodity
-pub net_delta_by-month_deltas : (months : List Month) (held : List Position) (g : ℕ) → net_delta_by months (month_deltas months held) g ≡ net_delta months held g
-net_delta_by-month_deltas months held g =
-    numbers_same (net_share_by months (month_deltas months held) g) (net_share months held g) (length months) (λ m h. ap (λ (d : ℤ). if (month_at months m).commodity == g then d else pos 0) (value_at-month_deltas months held m h))
+pub net_delta_by-month_deltas : (months : List Month) (portfolio : List Position) (g : ℕ) → net_delta_by months (month_deltas months portfolio) g ≡ net_delta months portfolio g
+net_delta_by-month_deltas months portfolio g =
+    numbers_same (net_share_by months (month_deltas months portfolio) g) (net_share months portfolio g) (length months) (λ m h. ap (λ (d : ℤ). if (month_at months m).commodity == g then d else pos 0) (value_at-month_deltas months portfolio m h))
 
 -- what the intracommodity spreads of a commodity charge
-pub intra_charge_by-month_deltas : (set : Tables) (held : List Position) (g : ℕ) → intra_charge_by set (month_deltas set.months held) g ≡ intra_charge set held g
+pub intra_charge_by-month_deltas : (set : Tables) (portfolio : List Position) (g : ℕ) → intra_charge_by set (month_deltas set.months portfolio) g ≡ intra_charge set portfolio g
 unfolding intra_charge_by intra_charge
-intra_charge_by-month_deltas set held g =
-    ap (λ (starts : List ℕ). charges_of starts (stages_of set.spreads g)) (starts_by-month_deltas set.months held g)
+intra_charge_by-month_deltas set portfolio g =
+    ap (λ (starts : List ℕ). charges_of starts (stages_of set.spreads g)) (starts_by-month_deltas set.months portfolio g)
 
 -- the spot month charge of a commodity
-pub spot_charge_by-month_deltas : (set : Tables) (held : List Position) (g : ℕ) → spot_charge_by set (month_deltas set.months held) g ≡ spot_charge set held g
+pub spot_charge_by-month_deltas : (set : Tables) (portfolio : List Position) (g : ℕ) → spot_charge_by set (month_deltas set.months portfolio) g ≡ spot_charge set portfolio g
 unfolding spot_charge_by spot_charge
-spot_charge_by-month_deltas set held g =
-    ap (λ (starts : List ℕ). spot_charge_from starts (left_by starts (stages_of set.spreads g)) (spot_of set.spots g)) (starts_by-month_deltas set.months held g)
+spot_charge_by-month_deltas set portfolio g =
+    ap (λ (starts : List ℕ). spot_charge_from starts (left_by starts (stages_of set.spreads g)) (spot_of set.spots g)) (starts_by-month_deltas set.months portfolio g)
 
 -- a quantity more of one contract moves the delta of its month, and no other
 share_sum : (m : ℕ) (c : Contract) (n q : ℤ) → month_share m (c, n +ℤ q) ≡ month_share m (c, n) +ℤ month_share m (c, q)
@@ -92,10 +92,10 @@ month_delta_moved cs ns i q m h e =
 pub month_deltas-set : (months : List Month) (cs : List Contract) (ns : List ℤ) (i : ℕ) (q : ℤ) → i < length cs → length ns ≡ length cs → (contract_at cs i).month < length months → month_deltas months (positions cs (slice_set ns i (value_at ns i +ℤ q))) ≡ slice_set (month_deltas months (positions cs ns)) (contract_at cs i).month (value_at (month_deltas months (positions cs ns)) (contract_at cs i).month +ℤ q *ℤ (contract_at cs i).delta)
 month_deltas-set months cs ns i q h e low =
     let c : Contract = contract_at cs i in
-    let held : List Position = positions cs ns in
+    let portfolio : List Position = positions cs ns in
     let moved : List Position = positions cs (slice_set ns i (value_at ns i +ℤ q)) in
-    let row : List ℤ = month_deltas months held in
-    let long : length row ≡ length months = length-map-range_with_len (month_delta held) 0 (length months) in
+    let row : List ℤ = month_deltas months portfolio in
+    let long : length row ≡ length months = length-map-range_with_len (month_delta portfolio) 0 (length months) in
     let d = value_at row c.month +ℤ q *ℤ c.delta in
     sym (fill_by_all (month_delta moved) (slice_set row c.month d) (length months) (pos 0) (length-set row c.month d ∙ long) (λ m inside.
     ⊎_elim
@@ -103,11 +103,11 @@ month_deltas-set months cs ns i q h e low =
     let is = rw (eq-eqb c.month m (sym here)) at (month_delta_moved cs ns i q m h e) in
     let was = ap (λ (k : ℕ). value_at row k) (sym here) in
     let written : value_at (slice_set row c.month d) m ≡ d = ap (λ (k : ℕ). value_at (slice_set row c.month d) k) here ∙ get_or-set_same row c.month d (pos 0) (omega (arith, long, low)) in
-    omega (arith, ints, written, was, is, value_at-month_deltas months held m inside))
+    omega (arith, ints, written, was, is, value_at-month_deltas months portfolio m inside))
     (λ (other : m ≢ c.month).
     let is = rw (ne_eqb c.month m (λ x. other (sym x))) at (month_delta_moved cs ns i q m h e) in
     let kept = get_or-set_other row c.month m d (pos 0) other in
-    omega (arith, ints, kept, is, value_at-month_deltas months held m inside))
+    omega (arith, ints, kept, is, value_at-month_deltas months portfolio m inside))
     (cases_eq m c.month)))
 
 -- where nothing is held each month delta is 0
@@ -118,10 +118,10 @@ zero_share m c =
 none_held : (cs : List Contract) (m : ℕ) → month_delta (positions cs (replicate (length cs) (pos 0))) m ≡ pos 0
 none_held [] m = refl
 none_held (c ∷ cs) m =
-    let held : List Position = positions cs (replicate (length cs) (pos 0)) in
-    omega (arith, ints, signed_sum_by-cons (month_share m) (c, pos 0) held, zero_share m c, none_held cs m)
+    let portfolio : List Position = positions cs (replicate (length cs) (pos 0)) in
+    omega (arith, ints, signed_sum_by-cons (month_share m) (c, pos 0) portfolio, zero_share m c, none_held cs m)
 
 pub month_deltas-none : (months : List Month) (cs : List Contract) → month_deltas months (positions cs (replicate (length cs) (pos 0))) ≡ replicate (length months) (pos 0)
 month_deltas-none months cs =
-    let held : List Position = positions cs (replicate (length cs) (pos 0)) in
-    sym (fill_by_all (month_delta held) (replicate (length months) (pos 0)) (length months) (pos 0) (length-replicate {A = ℤ} (length months) (pos 0)) (λ m h. get_or-replicate {A = ℤ} (length months) m (pos 0) (pos 0) h ∙ sym (none_held cs m)))
+    let portfolio : List Position = positions cs (replicate (length cs) (pos 0)) in
+    sym (fill_by_all (month_delta portfolio) (replicate (length months) (pos 0)) (length months) (pos 0) (length-replicate {A = ℤ} (length months) (pos 0)) (λ m h. get_or-replicate {A = ℤ} (length months) m (pos 0) (pos 0) h ∙ sym (none_held cs m)))

@@ -8,7 +8,7 @@ use Rattle.mgn_span.specs.Positions.{Position}
 
 -- the delta of a month: the sum over its contracts of net quantity times scaled delta (CME SPAN)
 abbrev pub month_delta : List Position → ℕ → ℤ
-month_delta held month = signed_sum_by (λ p. if p.0.month == month then p.1 *ℤ p.0.delta else pos 0) held
+month_delta portfolio month = signed_sum_by (λ p. if p.0.month == month then p.1 *ℤ p.0.delta else pos 0) portfolio
 
 -- the number, if it is above 0
 abbrev pub positive_part : ℤ → ℕ

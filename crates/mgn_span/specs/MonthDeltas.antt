@@ -12,7 +12,7 @@ use Rattle.mgn_params.specs.Tables.{Tables, month_at}
 
 -- the deltas of the months (CME SPAN)
 abbrev pub month_deltas : List Month → List Position → List ℤ
-month_deltas months held = map (month_delta held) (range_with_len 0 (length months))
+month_deltas months portfolio = map (month_delta portfolio) (range_with_len 0 (length months))
 
 -- what a month of a delta counts for in a leg: in a long one the delta if that is above 0, in a short one its size if
 -- that is below 0

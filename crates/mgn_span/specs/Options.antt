@@ -9,9 +9,9 @@ use Rattle.mgn_span.specs.Deltas.{negative_part}
 -- the short option minimum of a commodity, by its charge for each short option: the sum over its options of the charge
 -- times the size of a negative net, puts and calls added (CME SPAN)
 abbrev pub short_option_minimum : List Position → ℕ → ℕ → ℕ
-short_option_minimum held commodity charge =
-    sum_by (λ p. if (p.0.commodity == commodity) && is_option p.0.kind then negative_part p.1 * charge else 0) held
+short_option_minimum portfolio commodity charge =
+    sum_by (λ p. if (p.0.commodity == commodity) && is_option p.0.kind then negative_part p.1 * charge else 0) portfolio
 
 -- the net option value: the sum over the premium-style options of net times market value (CME SPAN)
 abbrev pub net_option_value : List Position → ℤ
-net_option_value held = signed_sum_by (λ p. if is_premium p.0.style then p.1 *ℤ pos p.0.option_value else pos 0) held
+net_option_value portfolio = signed_sum_by (λ p. if is_premium p.0.style then p.1 *ℤ pos p.0.option_value else pos 0) portfolio

@@ -10,8 +10,8 @@ value_at array s = slice_index_or array s (pos 0)
 
 -- the total of a scenario: the sum over the contracts of the commodity of net quantity times array value (CME SPAN)
 abbrev pub scenario_total : ℕ → List Position → ℕ → ℤ
-scenario_total commodity held s =
-    signed_sum_by (λ p. if p.0.commodity == commodity then p.1 *ℤ value_at p.0.array s else pos 0) held
+scenario_total commodity portfolio s =
+    signed_sum_by (λ p. if p.0.commodity == commodity then p.1 *ℤ value_at p.0.array s else pos 0) portfolio
 
 -- of the scenarios up to `last`, the lowest one with the largest total
 abbrev pub lowest_largest : (ℕ → ℤ) → ℕ → ℕ

@@ -31,35 +31,35 @@ abbrev pub value_share : Position → ℤ
 value_share p = if is_premium p.0.style then p.1 *ℤ pos p.0.option_value else pos 0
 
 abbrev pub long_share : List Month → List Position → ℕ → ℕ → ℕ → ℕ
-long_share months held commodity tier m =
-    if is_in_tier months commodity tier m then positive_part (month_delta held m) else 0
+long_share months portfolio commodity tier m =
+    if is_in_tier months commodity tier m then positive_part (month_delta portfolio m) else 0
 
 abbrev pub short_share : List Month → List Position → ℕ → ℕ → ℕ → ℕ
-short_share months held commodity tier m =
-    if is_in_tier months commodity tier m then negative_part (month_delta held m) else 0
+short_share months portfolio commodity tier m =
+    if is_in_tier months commodity tier m then negative_part (month_delta portfolio m) else 0
 
 abbrev pub net_share : List Month → List Position → ℕ → ℕ → ℤ
-net_share months held commodity m = if (month_at months m).commodity == commodity then month_delta held m else pos 0
+net_share months portfolio commodity m = if (month_at months m).commodity == commodity then month_delta portfolio m else pos 0
 
 -- Deltas by positions.
 
 -- the long and the short delta of a tier
 abbrev pub long_delta : List Month → List Position → ℕ → ℕ → ℕ
-long_delta months held commodity tier = tier_delta positive_part months (month_delta held) commodity tier
+long_delta months portfolio commodity tier = tier_delta positive_part months (month_delta portfolio) commodity tier
 
 abbrev pub short_delta : List Month → List Position → ℕ → ℕ → ℕ
-short_delta months held commodity tier = tier_delta negative_part months (month_delta held) commodity tier
+short_delta months portfolio commodity tier = tier_delta negative_part months (month_delta portfolio) commodity tier
 
 -- what a leg of a commodity starts with, and what its 16 legs do
 abbrev pub start_of : List Month → List Position → ℕ → ℕ → ℕ
-start_of months held commodity leg = start_from months (month_delta held) commodity leg
+start_of months portfolio commodity leg = start_from months (month_delta portfolio) commodity leg
 
 abbrev pub starts_of : List Month → List Position → ℕ → List ℕ
-starts_of months held commodity = starts_from months (month_delta held) commodity
+starts_of months portfolio commodity = starts_from months (month_delta portfolio) commodity
 
 -- the net delta of a commodity
 abbrev pub net_delta : List Month → List Position → ℕ → ℤ
-net_delta months held commodity = net_delta_from months (month_delta held) commodity
+net_delta months portfolio commodity = net_delta_from months (month_delta portfolio) commodity
 
 -- Commodities by number.
 
@@ -68,7 +68,7 @@ commodities_of set = range_with_len 0 (length set.commodities)
 
 -- the doubled price risk, which is never negative, and what it is at a scenario
 abbrev pub price_risk2_of : List Position → ℕ → ℕ
-price_risk2_of held commodity = unsigned_abs (price_risk2 (scenario_total commodity held))
+price_risk2_of portfolio commodity = unsigned_abs (price_risk2 (scenario_total commodity portfolio))
 
 abbrev pub price_risk2_at : (ℕ → ℤ) → ℕ → ℤ
 price_risk2_at t s =

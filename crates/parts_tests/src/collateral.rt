@@ -3,7 +3,7 @@ ghost use Rattle.std.specs.Prelude.{◌≤◌};
 ghost use Rattle.mgn_coll.specs.Posted.{most_of};
 
 use mgn_coll::amounts::is_cash;
-use mgn_coll::{Collateral, MOST_CASH, MOST_UNITS, is_known, most_of};
+use mgn_coll::{Collateral, MOST_CASH, MOST_CLASS_UNITS, is_known, most_of};
 use mgn_ids::{ClassName, IdFault, SetName};
 use mgn_params::{Class, ParamSet};
 use std::alloc::{AllocError, Global};
@@ -59,7 +59,7 @@ fn check_names(
     requires bond { 1 ≤ most_of bond.now }
 {
     assert!(rt; is_known(set, cash) && !is_known(set, bond));
-    assert_eq!(rt; (most_of(cash), most_of(bond)), (MOST_CASH, MOST_UNITS));
+    assert_eq!(rt; (most_of(cash), most_of(bond)), (MOST_CASH, MOST_CLASS_UNITS));
     assert!(rt; collateral.is_priced_by(set));
     assert!(rt; collateral.write(bond, 1).is_ok());
     assert!(rt; !collateral.is_priced_by(set));

@@ -2,7 +2,7 @@
 
 ghost use Rattle.std.specs.Prelude.{◌+◌, ◌<◌};
 
-use super::kept::Kept;
+use super::running_parts::RunningParts;
 use crate::sets::read_text;
 use mgn_params::ParamSet;
 use std::alloc::{AllocError, Global};
@@ -62,7 +62,7 @@ fn limits_file(alloc: Global) -> Result<String, AllocError> {
 fn bring_all(
     rt: &impl Abort,
     alloc: Global,
-    kept: &mut Kept,
+    kept: &mut RunningParts,
     count: usize,
     contracts: i64,
 ) -> Result<(), Fail> {
@@ -78,7 +78,7 @@ fn bring_all(
 // What all nets at a limit come to, and half of that in each month of the second commodity. Its spreads: 128 times
 // 10^7 contracts at 10 are 128 * 10^12 a leg, and 42,666,666,666,666 at the ratio of 3; at 40 cents for 10,000.
 // All of the first commodity is outright at 50.
-fn expect_all(rt: &impl Abort, kept: &Kept, long: i128, short: i128) {
+fn expect_all(rt: &impl Abort, kept: &RunningParts, long: i128, short: i128) {
     kept.expect_month_delta(rt, 0, long);
     kept.expect_month_delta(rt, 1, long / 2);
     kept.expect_month_delta(rt, 2, short / 2);
@@ -94,7 +94,7 @@ fn expect_all(rt: &impl Abort, kept: &Kept, long: i128, short: i128) {
 fn bring_to_both(
     rt: &impl Abort,
     alloc: Global,
-    kept: &mut Kept,
+    kept: &mut RunningParts,
     count: usize,
 ) -> Result<(), Fail> {
     for (contracts, long, short) in &BOTH {
@@ -105,7 +105,7 @@ fn bring_to_both(
 }
 
 fn agree_at_limits(rt: &impl Abort, alloc: Global, set: &ParamSet) -> Result<(), Fail> {
-    let mut kept = Kept::new(alloc, set)?;
+    let mut kept = RunningParts::new(alloc, set)?;
     bring_to_both(rt, alloc, &mut kept, set.contract_count())
 }
 

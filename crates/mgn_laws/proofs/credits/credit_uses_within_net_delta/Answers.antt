@@ -7,6 +7,6 @@ use Rattle.mgn_span.specs.Positions.{positions}
 pub returns : goal.returns
 returns c =
     let set = c.args.set.now in
-    let held = positions set.contracts c.args.nets.now in
+    let portfolio = positions set.contracts c.args.nets.now in
     let g = c.args.commodity in
-    omega (arith, rest_and_used set held g (length set.credits) c.limits.ensures, ap unsigned_abs (delta_of set held g c.requires))
+    omega (arith, rest_and_used set portfolio g (length set.credits) c.limits.ensures, ap unsigned_abs (delta_of set portfolio g c.requires))

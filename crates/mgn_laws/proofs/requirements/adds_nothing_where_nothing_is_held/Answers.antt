@@ -6,15 +6,15 @@ pub returns : goal.returns
 returns c =
     let set = c.args.set.now in
     let nets = c.args.nets.now in
-    let held = positions set.contracts nets in
+    let portfolio = positions set.contracts nets in
     let g = c.args.commodity in
     let none = c.requires in
     let limits = c.limits.ensures in
     record {
-      scan = scan_none held g none;
+      scan = scan_none portfolio g none;
       intra = intra_none set nets g limits none;
       spot = spot_none set nets g limits none;
       credit = credit_none set nets g limits none;
-      minimum = minimum_none set held g none;
+      minimum = minimum_none set portfolio g none;
       risk = risk_none set nets g limits none;
     }

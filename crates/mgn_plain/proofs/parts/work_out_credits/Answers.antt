@@ -6,11 +6,11 @@ use Rattle.mgn_plain.proofs.parts.work_out_credits.Goals as goal
 
 pub price_risks-requires-clause-one_each : goal.price_risks-requires-clause-one_each
 price_risks-requires-clause-one_each c =
-    rw (c.deref.ensures.value, c.deref-2.ensures.value) (c.requires.2.held.one_each ∙ sym c.requires.2.totals.one_row_each)
+    rw (c.deref.ensures.value, c.deref-2.ensures.value) (c.requires.2.marks.one_each ∙ sym c.requires.2.totals.one_row_each)
 
 pub price_risks-requires-clause-flat : goal.price_risks-requires-clause-flat
 price_risks-requires-clause-flat c =
-    rw (c.deref.ensures.value, c.deref-2.ensures.value) (totals_none c.args.set.now c.requires.0 c.args.sums.now.totals.items c.args.sums.now.held.items c.requires.2.totals c.requires.2.held)
+    rw (c.deref.ensures.value, c.deref-2.ensures.value) (totals_none c.args.set.now c.requires.0 c.args.sums.now.totals.items c.args.sums.now.portfolio.items c.requires.2.totals c.requires.2.marks)
 
 pub credit_row-requires-clause-numbers : goal.credit_row-requires-clause-numbers
 credit_row-requires-clause-numbers c =

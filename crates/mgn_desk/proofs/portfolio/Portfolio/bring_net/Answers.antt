@@ -1,8 +1,8 @@
 use Rattle.std.proofs.Common.{◌≡◌, arith, pos}
 use Rattle.std.proofs.lemmas.Int.{ints}
 use Rattle.mgn_params.specs.Tables.{contract_at}
-use Rattle.mgn_desk.specs.Kept.{IsBehind}
-use Rattle.mgn_desk.proofs.KeptLemmas.{behind_moved}
+use Rattle.mgn_desk.specs.WorkedPortfolios.{IsBehind}
+use Rattle.mgn_desk.proofs.WorkedLemmas.{behind_moved}
 use Rattle.mgn_desk.proofs.MovedLemmas.{more_of_none}
 use Rattle.mgn_desk.proofs.portfolio.Portfolio.bring_net.Goals as goal
 

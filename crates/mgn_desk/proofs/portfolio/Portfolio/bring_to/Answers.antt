@@ -4,7 +4,7 @@ use Rattle.std.proofs.lemmas.List.{ext_get_or}
 use Rattle.mgn_params.specs.Tables.{no_contract}
 use Rattle.mgn_span.specs.Scan.{value_at}
 use Rattle.mgn_tiers.proofs.StartLemmas.{none_at}
-use Rattle.mgn_desk.proofs.KeptLemmas.{behind_none}
+use Rattle.mgn_desk.proofs.WorkedLemmas.{behind_none}
 use Rattle.mgn_desk.proofs.portfolio.Portfolio.bring_to.Goals as goal
 
 -- nets of 0

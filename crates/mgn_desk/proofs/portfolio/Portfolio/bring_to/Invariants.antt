@@ -1,6 +1,6 @@
 use Rattle.std.proofs.Common.{◌≡◌, ◌-◌, ◌<◌, ◌≤◌, ℕ, length, pos}
 use Rattle.mgn_span.specs.Scan.{value_at}
-use Rattle.mgn_desk.specs.Kept.{IsBehind}
+use Rattle.mgn_desk.specs.WorkedPortfolios.{IsBehind}
 use Rattle.mgn_desk.proofs.portfolio.Portfolio.bring_to.Given as goal
 
 abbrev pub invariant-loop-i : goal.invariant-loop-i

@@ -1,5 +1,5 @@
 use Rattle.mgn_params.specs.Tables.{contract_at, no_contract}
-use Rattle.mgn_desk.proofs.KeptLemmas.{behind_moved, behind_none}
+use Rattle.mgn_desk.proofs.WorkedLemmas.{behind_moved, behind_none}
 use Rattle.mgn_desk.proofs.portfolio.Portfolio.change.Goals as goal
 
 pub settle-requires : goal.settle-requires

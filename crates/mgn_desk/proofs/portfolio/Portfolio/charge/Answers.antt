@@ -2,17 +2,17 @@ use Rattle.std.proofs.Common.{◌≡◌, ◌∙◌, ℤ, ap, subst, sym}
 use Rattle.std.specs.Prelude.{◌+ℤ◌}
 use Rattle.mgn_span.specs.Positions.{positions}
 use Rattle.mgn_span.specs.Requirement.{scan_of}
-use Rattle.mgn_desk.specs.Kept.{AreParts, charge_of, Kept}
-use Rattle.mgn_desk.specs.PortfolioRows.{kept_of}
+use Rattle.mgn_desk.specs.WorkedPortfolios.{AreParts, charge_of, WorkedPortfolio}
+use Rattle.mgn_desk.specs.PortfolioRows.{worked_of}
 use Rattle.mgn_desk.proofs.MoveLemmas.{charge_is}
 use Rattle.mgn_desk.proofs.portfolio.Portfolio.charge.Goals as goal
 
 pub returns-clause-charge : goal.returns-clause-charge
 returns-clause-charge c =
     λ set now scanned.
-    let p : Kept = kept_of c.self.inside in
-    let are = subst (λ (x : Kept). AreParts set x) (sym c.self.view_is) now in
-    let scan = subst (λ (x : Kept). c.args.scan ≡ scan_of (positions set.contracts x.nets) c.args.g) (sym c.self.view_is) scanned in
+    let p : WorkedPortfolio = worked_of c.self.inside in
+    let are = subst (λ (x : WorkedPortfolio). AreParts set x) (sym c.self.view_is) now in
+    let scan = subst (λ (x : WorkedPortfolio). c.args.scan ≡ scan_of (positions set.contracts x.nets) c.args.g) (sym c.self.view_is) scanned in
     let is = charge_is set p c.args.g c.args.scan c.charge.result c.spot.result are scan (c.charge.ensures.value set are.tiers) (c.spot.ensures.value set are.tiers) in
     let sum = c.plus-2.ensures ∙ ap (λ (x : ℤ). x +ℤ c.spot.result) c.plus.ensures ∙ is in
-    subst (λ (x : Kept). c.plus-2.result ≡ charge_of set (positions set.contracts x.nets) c.args.g) c.self.view_is sum
+    subst (λ (x : WorkedPortfolio). c.plus-2.result ≡ charge_of set (positions set.contracts x.nets) c.args.g) c.self.view_is sum

@@ -1,16 +1,16 @@
 use Rattle.std.proofs.Common.{◌≡◌, ◌∙◌, ℤ, pos, ap, subst, sym}
 use Rattle.std.specs.Int.{int_max}
 use Rattle.mgn_span.specs.Requirement.{requirement}
-use Rattle.mgn_desk.specs.Kept.{IsPortfolio, Kept}
-use Rattle.mgn_desk.specs.PortfolioRows.{kept_of}
-use Rattle.mgn_desk.proofs.KeptLemmas.{requirement_is}
+use Rattle.mgn_desk.specs.WorkedPortfolios.{IsPortfolio, WorkedPortfolio}
+use Rattle.mgn_desk.specs.PortfolioRows.{worked_of}
+use Rattle.mgn_desk.proofs.WorkedLemmas.{requirement_is}
 use Rattle.mgn_desk.proofs.portfolio.Portfolio.requirement.Goals as goal
 
 pub returns-clause-requirement : goal.returns-clause-requirement
 returns-clause-requirement c =
     λ set now.
-    let p : Kept = kept_of c.self.inside in
-    let is = subst (λ (x : Kept). IsPortfolio set x) (sym c.self.view_is) now in
+    let p : WorkedPortfolio = worked_of c.self.inside in
+    let is = subst (λ (x : WorkedPortfolio). IsPortfolio set x) (sym c.self.view_is) now in
     let value = c.value.ensures.value set p.nets is.ready.parts.sums in
     let answer = c.or_zero.ensures ∙ ap (λ (x : ℤ). int_max (pos 0) x) c.minus.ensures ∙ requirement_is set p c.sum.result c.value.result is c.sum.ensures.sum value in
-    subst (λ (x : Kept). c.or_zero.result ≡ requirement set x.nets) c.self.view_is answer
+    subst (λ (x : WorkedPortfolio). c.or_zero.result ≡ requirement set x.nets) c.self.view_is answer

@@ -1,6 +1,6 @@
 use Rattle.std.proofs.Common.{◌<◌, ◌∙◌, ℕ, ℤ, List, All, length, slice_set, ap, subst, sym, length-set}
-use Rattle.mgn_desk.specs.Kept.{IsReady, Kept, kept_risk}
-use Rattle.mgn_desk.proofs.KeptLemmas.{portfolio_written, ready_after, ready_with_risks}
+use Rattle.mgn_desk.specs.WorkedPortfolios.{IsReady, worked_risk, WorkedPortfolio}
+use Rattle.mgn_desk.proofs.WorkedLemmas.{portfolio_written, ready_after, ready_with_risks}
 use Rattle.mgn_desk.proofs.portfolio.Portfolio.settle.Goals as goal
 use Rattle.mgn_desk.proofs.portfolio.Portfolio.settle.Goals.{After-refresh-reworked}
 
@@ -21,11 +21,11 @@ mend_spreads-requires c =
     let set' = c.args.set.now in
     let g = c.args.g in
     let refreshed = c.refresh-reworked.new.self in
-    let risk = kept_risk refreshed g in
+    let risk = worked_risk refreshed g in
     let risks = slice_set refreshed.risks g risk in
     record {
-      ready = subst (λ (x : Kept). IsReady set' x) (sym c.mend.ensures) (ready_with_risks set' refreshed risks (ready before));
-      risks = ap (λ (x : Kept). length x.risks) c.mend.ensures ∙ length-set refreshed.risks g risk ∙ ap (λ (rs : List ℤ). length rs) c.refresh-reworked.ensures.kept.risks ∙ c.requires.behind.risks.one_each;
+      ready = subst (λ (x : WorkedPortfolio). IsReady set' x) (sym c.mend.ensures) (ready_with_risks set' refreshed risks (ready before));
+      risks = ap (λ (x : WorkedPortfolio). length x.risks) c.mend.ensures ∙ length-set refreshed.risks g risk ∙ ap (λ (rs : List ℤ). length rs) c.refresh-reworked.ensures.kept.risks ∙ c.requires.behind.risks.one_each;
       places = subst (λ (xs : List ℕ). All (λ i. i < length set'.credits) xs) (sym c.places.ensures) c.refresh-reworked.ensures.places;
     }
 

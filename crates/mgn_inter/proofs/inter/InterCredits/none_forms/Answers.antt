@@ -4,7 +4,7 @@ use Rattle.std.proofs.lemmas.List.{get_or_read}
 use Rattle.mgn_params.specs.declared.tables.CreditSpread.{CreditSpread}
 use Rattle.mgn_params.specs.Tables.{credit_spread_at, legs_of}
 use Rattle.mgn_span.specs.Credits.{forms}
-use Rattle.mgn_inter.specs.declared.kept.Kept.{Kept}
+use Rattle.mgn_inter.specs.declared.spread_state.SpreadState.{SpreadState}
 use Rattle.mgn_inter.specs.Rows.{AreRestsOf, Credited, kept_at, nothing_kept, rests_at}
 use Rattle.mgn_inter.proofs.inter.InterCredits.none_forms.Goals as goal
 
@@ -16,7 +16,7 @@ loop-i-preserved c =
     let next = c.min-i-in-loop-i.result in
     let legs = legs_of (credit_spread_at set'.credits i) in
     let rests = rests_at self.deltas self.risks set'.credits i in
-    let kept : List Kept = c.self.inside.kept.items in
+    let kept : List SpreadState = c.self.inside.kept.items in
     let count : length c.credits-spreads.result.now ≡ length set'.credits = ap (λ (ss : List CreditSpread). length ss) c.credits-spreads.ensures in
     let inside : i < length set'.credits = omega (arith, c.loop-i-test.true, count) in
     let long : length kept ≡ length self.kept = ap (λ (r : Credited). length r.kept) c.self.view_is in

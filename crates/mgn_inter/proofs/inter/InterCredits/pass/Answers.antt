@@ -2,14 +2,14 @@ use Rattle.std.proofs.Common.{◌≡◌, ◌∙◌, ◌<◌, List, ap, arith, le
 use Rattle.std.proofs.lemmas.List.{get_or_default}
 use Rattle.mgn_params.specs.declared.tables.CreditSpread.{CreditSpread}
 use Rattle.mgn_params.specs.Tables.{credit_spread_at, legs_of}
-use Rattle.mgn_inter.specs.declared.kept.Kept.{Kept}
+use Rattle.mgn_inter.specs.declared.spread_state.SpreadState.{SpreadState}
 use Rattle.mgn_inter.specs.Quiet.{IsMoved}
 use Rattle.mgn_inter.specs.Rows.{Credited, kept_at, nothing_kept}
 use Rattle.mgn_inter.proofs.inter.InterCredits.pass.Goals as goal
 
 pub returns : goal.returns
 returns c =
-    let kept : List Kept = c.self.inside.kept.items in
+    let kept : List SpreadState = c.self.inside.kept.items in
     let g = c.args.g in
     let rest = c.args.rest in
     let s : CreditSpread = credit_spread_at c.args.set.now.credits c.args.i in
@@ -17,7 +17,7 @@ returns c =
     let low : c.args.i < length kept = omega (arith, long, c.requires.kept, c.requires.inside) in
     let spread_is : c.spread_at-spread.result.now ≡ s = c.spread_at-spread.ensures ∙ ap (λ (ss : List CreditSpread). credit_spread_at ss c.args.i) c.credits.ensures in
     let kept_is : c.index_mut-kept.result.now ≡ kept_at kept c.args.i = c.index_mut-kept.ensures.value ∙ get_or_default kept c.args.i c.index_mut-kept.result.now nothing_kept low in
-    let own : Kept = record { rests = c.move_rest.new.kept; after = c.move_rest-2.new.kept; credits = c.index_mut-kept.result.now.credits } in
+    let own : SpreadState = record { rests = c.move_rest.new.kept; after = c.move_rest-2.new.kept; credits = c.index_mut-kept.result.now.credits } in
     let moved : IsMoved g rest (legs_of c.spread_at-spread.result.now) c.index_mut-kept.result.now own = record {
       rests_long = c.move_rest.ensures.long;
       after_long = c.move_rest-2.ensures.long;
@@ -26,5 +26,5 @@ returns c =
       credits = refl;
     } in
     let of_spread = subst (λ (one : CreditSpread). IsMoved g rest (legs_of one) c.index_mut-kept.result.now own) spread_is moved in
-    let of_kept = subst (λ (k : Kept). IsMoved g rest (legs_of s) k own) kept_is of_spread in
+    let of_kept = subst (λ (k : SpreadState). IsMoved g rest (legs_of s) k own) kept_is of_spread in
     (own, ap (λ (r : Credited). record r { kept = slice_set r.kept c.args.i own }) c.self.view_is, subst (λ (r : Credited). IsMoved g rest (legs_of s) (kept_at r.kept c.args.i) own) c.self.view_is of_kept)

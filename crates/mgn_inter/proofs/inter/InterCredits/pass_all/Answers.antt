@@ -4,7 +4,7 @@ use Rattle.std.proofs.lemmas.Bool.{cases_eq}
 use Rattle.mgn_params.specs.declared.tables.CreditSpread.{CreditSpread}
 use Rattle.mgn_params.specs.Tables.{credit_spread_at, legs_of}
 use Rattle.mgn_span.specs.Scan.{value_at}
-use Rattle.mgn_inter.specs.declared.kept.Kept.{Kept}
+use Rattle.mgn_inter.specs.declared.spread_state.SpreadState.{SpreadState}
 use Rattle.mgn_inter.specs.Credited.{IsAtTurn}
 use Rattle.mgn_inter.specs.Rows.{Credited, Misses, names}
 use Rattle.mgn_inter.specs.Told.{credits_at}
@@ -83,7 +83,7 @@ loop-i-preserved c =
           let low_kept : i < length self.kept = omega (arith, inside, now.turn.1.one_kept_each) in
           rw (mine, kept_own self.kept i own low_kept) (moved.credits ∙ now.same i))
           (λ (other : j ≢ i).
-          ap (λ (k : Kept). k.credits) (kept_other self.kept i j own other) ∙ now.same j)
+          ap (λ (k : SpreadState). k.credits) (kept_other self.kept i j own other) ∙ now.same j)
           (cases_eq j i);
     }
 

@@ -1,7 +1,7 @@
 use Rattle.std.proofs.Common.{◌≡◌, ◌∙◌, ℕ, List, ap, false, length, replicate, slice_set, true}
 use Rattle.mgn_inter.specs.Credited.{IsAtTurn}
 use Rattle.mgn_inter.specs.Rows.{Credited}
-use Rattle.mgn_inter.specs.declared.kept.Kept.{Kept}
+use Rattle.mgn_inter.specs.declared.spread_state.SpreadState.{SpreadState}
 use Rattle.mgn_inter.specs.Told.{credits_at, told_of}
 use Rattle.mgn_inter.proofs.ToldLemmas.{told_alike, told_are, told_once}
 use Rattle.mgn_inter.proofs.TurnLemmas.{turn_first}
@@ -24,7 +24,7 @@ rework_reached-requires-clause-turn c = (c.args.self.now, at_first (goal.at.rewo
 are_told : (c : After-rework_reached) → c.rework_reached.result ≡ told_of c.args.self.now.kept c.rework_reached.new.self.kept (length c.args.set.now.credits)
 are_told c =
     c.rework_reached.ensures.told
-    ∙ ap (λ (kept : List Kept). told_of kept c.rework_reached.new.self.kept (length c.args.set.now.credits)) (ap (λ (r : Credited). r.kept) c.write_numbers.ensures)
+    ∙ ap (λ (kept : List SpreadState). told_of kept c.rework_reached.new.self.kept (length c.args.set.now.credits)) (ap (λ (r : Credited). r.kept) c.write_numbers.ensures)
 
 pub returns-clause-told : goal.returns-clause-told
 returns-clause-told c =

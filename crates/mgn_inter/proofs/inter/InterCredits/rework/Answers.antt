@@ -8,7 +8,7 @@ use Rattle.mgn_params.specs.declared.tables.CreditSpread.{CreditSpread}
 use Rattle.mgn_params.specs.Tables.{credit_spread_at, legs_of}
 use Rattle.mgn_inter.specs.CreditRows.{credited_of}
 use Rattle.mgn_inter.specs.Credited.{IsAtTurn}
-use Rattle.mgn_inter.specs.declared.kept.Kept.{Kept}
+use Rattle.mgn_inter.specs.declared.spread_state.SpreadState.{SpreadState}
 use Rattle.mgn_inter.specs.Rows.{AreRestsOf, brought, Credited, IsKept, kept_at, moved_at, nothing_kept}
 use Rattle.mgn_span.specs.Words.{leg_at}
 use Rattle.mgn_span.specs.Scan.{value_at}
@@ -44,7 +44,7 @@ rests_are c =
     c.deref_mut-2.ensures.value ∙ with_items_is c.self.inside.rests c.bring_rests.new.rests long ∙ rw (c.deref_mut.ensures.value, spread_is c, kept_is c) at c.bring_rests.ensures.rests
 
 -- what is kept of the spread from now on
-abbrev own : After-mark_moved → Kept
+abbrev own : After-mark_moved → SpreadState
 own c = record { rests = c.bring_rests.new.kept; after = c.mark_moved.new.kept; credits = c.form_spread-credits.result }
 
 own_is : (c : After-mark_moved) → c.deref_mut-2.result.now ≡ brought c.args.moved.now c.self.inside.rests.items (legs_of (credit_spread_at c.args.set.now.credits c.args.i)) (kept_at c.self.inside.kept.items c.args.i).rests → c.spread_at-spread.result.now ≡ credit_spread_at c.args.set.now.credits c.args.i → IsKept c.self.inside.deltas.items c.self.inside.risks.items (brought c.args.moved.now c.self.inside.rests.items (legs_of (credit_spread_at c.args.set.now.credits c.args.i)) (kept_at c.self.inside.kept.items c.args.i).rests) (credit_spread_at c.args.set.now.credits c.args.i) (own c)
@@ -147,5 +147,5 @@ returns-clause-told c =
     let kept = c.self.inside.kept.items in
     let now = own (goal.at.returns-clause-told c).After-mark_moved in
     let low : c.args.i < length kept = omega (arith, c.requires.inside, (were at).one_kept_each) in
-    let is = c.change_credits.ensures.told ∙ ap (λ (k : Kept). not (bytes_eq k.credits now.credits)) (kept_is at) ∙ ap (λ (k : Kept). not (bytes_eq (kept_at kept c.args.i).credits k.credits)) (sym (kept_own kept c.args.i now low)) in
+    let is = c.change_credits.ensures.told ∙ ap (λ (k : SpreadState). not (bytes_eq k.credits now.credits)) (kept_is at) ∙ ap (λ (k : SpreadState). not (bytes_eq (kept_at kept c.args.i).credits k.credits)) (sym (kept_own kept c.args.i now low)) in
     rw c.change_credits.ensures.kept (subst (λ (r : Credited). c.change_credits.result ≡ credits_else r.kept (slice_set kept c.args.i now) c.args.i) c.self.view_is is)

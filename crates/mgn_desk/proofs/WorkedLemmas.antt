@@ -16,16 +16,16 @@ use Rattle.mgn_span.specs.Words.{net_delta}
 use Rattle.mgn_inter.specs.Credited.{AreCreditsOf}
 use Rattle.mgn_inter.specs.Rows.{Credited, named}
 use Rattle.mgn_span.proofs.SumLemmas.{signed_sum_below_same}
-use Rattle.mgn_desk.specs.Kept.{AreCharges, AreCreditsBy, AreParts, charge_of, IsBehind, IsPortfolio, IsReady, Kept, kept_risk, KeepsParts, KeepsRest, net_deltas_of, price_risks_of, SameBut, with_risks}
+use Rattle.mgn_desk.specs.WorkedPortfolios.{AreCharges, AreCreditsBy, AreParts, charge_of, IsBehind, IsPortfolio, IsReady, KeepsParts, KeepsRest, net_deltas_of, price_risks_of, SameBut, with_risks, worked_risk, WorkedPortfolio}
 use Rattle.mgn_desk.specs.Risks.{IsRisk}
 use Rattle.mgn_desk.proofs.CreditLemmas.{credit_of}
 use Rattle.mgn_desk.proofs.FrameLemmas.{changed, same_but_changed}
 use Rattle.mgn_desk.proofs.RowLemmas.{row-set}
 
-parts_with_risks : (t : Tables) (p : Kept) (risks : List ℤ) → AreParts t p → AreParts t (with_risks p risks)
+parts_with_risks : (t : Tables) (p : WorkedPortfolio) (risks : List ℤ) → AreParts t p → AreParts t (with_risks p risks)
 parts_with_risks t p risks are = record { totals = are.totals; sums = are.sums; tiers = are.tiers; deltas = are.deltas }
 
-pub ready_with_risks : (t : Tables) (p : Kept) (risks : List ℤ) → IsReady t p → IsReady t (with_risks p risks)
+pub ready_with_risks : (t : Tables) (p : WorkedPortfolio) (risks : List ℤ) → IsReady t p → IsReady t (with_risks p risks)
 ready_with_risks t p risks is = record {
   parts = parts_with_risks t p risks is.parts;
   credits = is.credits;
@@ -41,14 +41,14 @@ credit_by t nets c g are =
     ∙ ap (λ (rs : List ℕ). slice_index (credits_of (net_deltas_of t (positions t.contracts nets)) rs t.credits) g) are.price_risks
 
 -- the risk by what is kept is that of the nets
-pub kept_risk_is : (t : Tables) (p : Kept) (g : ℕ) → IsReady t p → g < length t.commodities → kept_risk p g ≡ risk t (positions t.contracts p.nets) g
+pub worked_risk_is : (t : Tables) (p : WorkedPortfolio) (g : ℕ) → IsReady t p → g < length t.commodities → worked_risk p g ≡ risk t (positions t.contracts p.nets) g
 unfolding risk
-kept_risk_is t p g is h =
+worked_risk_is t p g is h =
     rw (is.charges.each g h, credit_by t p.nets p.credits g is.credits, is.parts.sums.each g h) refl
 
 -- Nothing is behind, and then the nets of one commodity change.
 
-pub behind_none : (t : Tables) (g : ℕ) (p : Kept) → IsPortfolio t p → IsBehind t g p
+pub behind_none : (t : Tables) (g : ℕ) (p : WorkedPortfolio) → IsPortfolio t p → IsBehind t g p
 behind_none t g p is = record {
   was = p.nets;
   parts = is.ready.parts;
@@ -63,7 +63,7 @@ behind_none t g p is = record {
   };
 }
 
-pub behind_moved : (t : Tables) (old p : Kept) (i : ℕ) (q : ℤ) → IsWithinLimits t → i < length t.contracts → IsBehind t (contract_at t.contracts i).commodity old → p.nets ≡ changed old.nets i q → AreParts t p → KeepsRest old p → IsBehind t (contract_at t.contracts i).commodity p
+pub behind_moved : (t : Tables) (old p : WorkedPortfolio) (i : ℕ) (q : ℤ) → IsWithinLimits t → i < length t.contracts → IsBehind t (contract_at t.contracts i).commodity old → p.nets ≡ changed old.nets i q → AreParts t p → KeepsRest old p → IsBehind t (contract_at t.contracts i).commodity p
 behind_moved t old p i q limits h behind nets parts rest =
     let step = same_but_changed t old.nets i q limits h behind.parts.totals.one_each in
     record {
@@ -107,7 +107,7 @@ price_risks_settled t old new g low same =
     row-set 0 (λ k. unsigned_abs (price_risk2 (scenario_total k (positions t.contracts old)))) (λ k. unsigned_abs (price_risk2 (scenario_total k (positions t.contracts new)))) (length t.commodities) g low (λ k inside other. ap unsigned_abs (same.price_risks k other))
 
 -- the risk of a commodity that no spread reaches from it
-risk_kept : (t : Tables) (old p : Kept) (places : List ℕ) (g k : ℕ) → IsBehind t g old → IsReady t p → p.nets ≡ old.nets → ((n : ℕ) → named n t.credits places ≡ false → slice_index p.credits.credits n ≡ slice_index old.credits.credits n) → k < length t.commodities → k ≢ g → named k t.credits places ≡ false → value_at old.risks k ≡ risk t (positions t.contracts p.nets) k
+risk_kept : (t : Tables) (old p : WorkedPortfolio) (places : List ℕ) (g k : ℕ) → IsBehind t g old → IsReady t p → p.nets ≡ old.nets → ((n : ℕ) → named n t.credits places ≡ false → slice_index p.credits.credits n ≡ slice_index old.credits.credits n) → k < length t.commodities → k ≢ g → named k t.credits places ≡ false → value_at old.risks k ≡ risk t (positions t.contracts p.nets) k
 unfolding risk
 risk_kept t old p places g k behind is nets same inside other none =
     let credit_now = sym (credit_by t p.nets p.credits k is.credits) ∙ same k none ∙ credit_by t behind.was old.credits k behind.credits in
@@ -121,7 +121,7 @@ either_right true mine other right first second = first
 either_right false mine other right first second = second refl
 
 -- the risks once its own and those of the commodities that spreads reach from it are written
-portfolio_after : (t : Tables) (old p : Kept) (places : List ℕ) (g : ℕ) → g < length t.commodities → IsBehind t g old → IsReady t p → p.nets ≡ old.nets → ((k : ℕ) → named k t.credits places ≡ false → slice_index p.credits.credits k ≡ slice_index old.credits.credits k) → length p.risks ≡ length old.risks → ((k : ℕ) → k < length old.risks → value_at p.risks k ≡ (if named k t.credits places then kept_risk p k else value_at (slice_set old.risks g (kept_risk p g)) k)) → IsPortfolio t p
+portfolio_after : (t : Tables) (old p : WorkedPortfolio) (places : List ℕ) (g : ℕ) → g < length t.commodities → IsBehind t g old → IsReady t p → p.nets ≡ old.nets → ((k : ℕ) → named k t.credits places ≡ false → slice_index p.credits.credits k ≡ slice_index old.credits.credits k) → length p.risks ≡ length old.risks → ((k : ℕ) → k < length old.risks → value_at p.risks k ≡ (if named k t.credits places then worked_risk p k else value_at (slice_set old.risks g (worked_risk p g)) k)) → IsPortfolio t p
 portfolio_after t old p places g low behind is nets same long written =
     let one_each = behind.risks.one_each in
     record {
@@ -129,21 +129,21 @@ portfolio_after t old p places g low behind is nets same long written =
       risks = record {
         one_each = long ∙ one_each;
         each = λ k inside.
-            let right = kept_risk_is t p k is inside in
-            written k (omega (arith, one_each)) ∙ either_right (named k t.credits places) (kept_risk p k) (value_at (slice_set old.risks g (kept_risk p g)) k) (risk t (positions t.contracts p.nets) k) right (λ none.
+            let right = worked_risk_is t p k is inside in
+            written k (omega (arith, one_each)) ∙ either_right (named k t.credits places) (worked_risk p k) (value_at (slice_set old.risks g (worked_risk p g)) k) (risk t (positions t.contracts p.nets) k) right (λ none.
             ⊎_elim
             (λ (here : k ≡ g).
-            ap (λ (j : ℕ). value_at (slice_set old.risks g (kept_risk p g)) j) here ∙ get_or-set_same old.risks g (kept_risk p g) (pos 0) (omega (arith, one_each, low)) ∙ ap (kept_risk p) (sym here) ∙ right)
+            ap (λ (j : ℕ). value_at (slice_set old.risks g (worked_risk p g)) j) here ∙ get_or-set_same old.risks g (worked_risk p g) (pos 0) (omega (arith, one_each, low)) ∙ ap (worked_risk p) (sym here) ∙ right)
             (λ (other : k ≢ g).
-            get_or-set_other old.risks g k (kept_risk p g) (pos 0) other ∙ risk_kept t old p places g k behind is nets same inside other none)
+            get_or-set_other old.risks g k (worked_risk p g) (pos 0) other ∙ risk_kept t old p places g k behind is nets same inside other none)
             (cases_eq k g));
       };
     }
 
 -- all but the risks, once charges and credits are written
-pub ready_after : (t : Tables) (old p : Kept) (g : ℕ) → g < length t.commodities → IsBehind t g old → KeepsParts old p → AreCreditsOf t p.credits → let held = positions t.contracts old.nets in p.credits.deltas ≡ slice_set old.credits.deltas g (net_delta t.months held g) → p.credits.risks ≡ slice_set old.credits.risks g (unsigned_abs (price_risk2 (scenario_total g held))) → p.charges ≡ slice_set old.charges g (charge_of t held g) → IsRisk (charge_of t held g) → IsReady t p
+pub ready_after : (t : Tables) (old p : WorkedPortfolio) (g : ℕ) → g < length t.commodities → IsBehind t g old → KeepsParts old p → AreCreditsOf t p.credits → let portfolio = positions t.contracts old.nets in p.credits.deltas ≡ slice_set old.credits.deltas g (net_delta t.months portfolio g) → p.credits.risks ≡ slice_set old.credits.risks g (unsigned_abs (price_risk2 (scenario_total g portfolio))) → p.charges ≡ slice_set old.charges g (charge_of t portfolio g) → IsRisk (charge_of t portfolio g) → IsReady t p
 ready_after t old p g low behind same credits deltas risks charges small =
-    let held = positions t.contracts old.nets in
+    let portfolio = positions t.contracts old.nets in
     record {
       parts = record {
         totals = rw (same.nets, same.totals) behind.parts.totals;
@@ -153,29 +153,29 @@ ready_after t old p g low behind same credits deltas risks charges small =
       };
       credits = record {
         of_set = credits;
-        net_deltas = rw same.nets (deltas ∙ ap (λ (ds : List ℤ). slice_set ds g (net_delta t.months held g)) behind.credits.net_deltas ∙ net_deltas_settled t behind.was old.nets g low behind.others);
-        price_risks = rw same.nets (risks ∙ ap (λ (rs : List ℕ). slice_set rs g (unsigned_abs (price_risk2 (scenario_total g held)))) behind.credits.price_risks ∙ price_risks_settled t behind.was old.nets g low behind.others);
+        net_deltas = rw same.nets (deltas ∙ ap (λ (ds : List ℤ). slice_set ds g (net_delta t.months portfolio g)) behind.credits.net_deltas ∙ net_deltas_settled t behind.was old.nets g low behind.others);
+        price_risks = rw same.nets (risks ∙ ap (λ (rs : List ℕ). slice_set rs g (unsigned_abs (price_risk2 (scenario_total g portfolio)))) behind.credits.price_risks ∙ price_risks_settled t behind.was old.nets g low behind.others);
       };
-      charges = rw (same.nets, charges) (charges_settled t behind.was old.nets old.charges g (charge_of t held g) low behind.charges behind.others small refl);
+      charges = rw (same.nets, charges) (charges_settled t behind.was old.nets old.charges g (charge_of t portfolio g) low behind.charges behind.others small refl);
     }
 
 -- all that is kept once the risks are written
-pub portfolio_written : (t : Tables) (old refreshed mended p : Kept) (places : List ℕ) (g : ℕ) → g < length t.commodities → IsBehind t g old → KeepsParts old refreshed → IsReady t refreshed → ((k : ℕ) → named k t.credits places ≡ false → slice_index refreshed.credits.credits k ≡ slice_index old.credits.credits k) → mended ≡ with_risks refreshed (slice_set refreshed.risks g (kept_risk refreshed g)) → p ≡ with_risks mended p.risks → length p.risks ≡ length mended.risks → ((k : ℕ) → k < length mended.risks → value_at p.risks k ≡ (if named k t.credits places then kept_risk mended k else value_at mended.risks k)) → IsPortfolio t p
+pub portfolio_written : (t : Tables) (old refreshed mended p : WorkedPortfolio) (places : List ℕ) (g : ℕ) → g < length t.commodities → IsBehind t g old → KeepsParts old refreshed → IsReady t refreshed → ((k : ℕ) → named k t.credits places ≡ false → slice_index refreshed.credits.credits k ≡ slice_index old.credits.credits k) → mended ≡ with_risks refreshed (slice_set refreshed.risks g (worked_risk refreshed g)) → p ≡ with_risks mended p.risks → length p.risks ≡ length mended.risks → ((k : ℕ) → k < length mended.risks → value_at p.risks k ≡ (if named k t.credits places then worked_risk mended k else value_at mended.risks k)) → IsPortfolio t p
 portfolio_written t old refreshed mended p places g low behind same is credits mended_is p_is long written =
-    let e : p ≡ with_risks refreshed p.risks = p_is ∙ ap (λ (y : Kept). with_risks y p.risks) mended_is in
-    let by : (k : ℕ) → kept_risk mended k ≡ kept_risk p k = λ k. ap (λ (y : Kept). kept_risk y k) mended_is ∙ sym (ap (λ (y : Kept). kept_risk y k) e) in
-    let row : mended.risks ≡ slice_set old.risks g (kept_risk p g) = ap (λ (y : Kept). y.risks) mended_is ∙ ap (λ (rs : List ℤ). slice_set rs g (kept_risk refreshed g)) same.risks ∙ ap (λ (r : ℤ). slice_set old.risks g r) (sym (ap (λ (y : Kept). kept_risk y g) e)) in
-    let rows_long : length mended.risks ≡ length old.risks = ap (λ (rs : List ℤ). length rs) row ∙ length-set old.risks g (kept_risk p g) in
-    portfolio_after t old p places g low behind (subst (λ (y : Kept). IsReady t y) (sym e) (ready_with_risks t refreshed p.risks is)) (ap (λ (y : Kept). y.nets) e ∙ same.nets) (λ n out.
-    ap (λ (y : Kept). slice_index y.credits.credits n) e ∙ credits n out) (long ∙ rows_long) (λ k inside.
-    written k (omega (arith, rows_long)) ∙ ap (λ (r : ℤ). if named k t.credits places then r else value_at mended.risks k) (by k) ∙ ap (λ (rs : List ℤ). if named k t.credits places then kept_risk p k else value_at rs k) row)
+    let e : p ≡ with_risks refreshed p.risks = p_is ∙ ap (λ (y : WorkedPortfolio). with_risks y p.risks) mended_is in
+    let by : (k : ℕ) → worked_risk mended k ≡ worked_risk p k = λ k. ap (λ (y : WorkedPortfolio). worked_risk y k) mended_is ∙ sym (ap (λ (y : WorkedPortfolio). worked_risk y k) e) in
+    let row : mended.risks ≡ slice_set old.risks g (worked_risk p g) = ap (λ (y : WorkedPortfolio). y.risks) mended_is ∙ ap (λ (rs : List ℤ). slice_set rs g (worked_risk refreshed g)) same.risks ∙ ap (λ (r : ℤ). slice_set old.risks g r) (sym (ap (λ (y : WorkedPortfolio). worked_risk y g) e)) in
+    let rows_long : length mended.risks ≡ length old.risks = ap (λ (rs : List ℤ). length rs) row ∙ length-set old.risks g (worked_risk p g) in
+    portfolio_after t old p places g low behind (subst (λ (y : WorkedPortfolio). IsReady t y) (sym e) (ready_with_risks t refreshed p.risks is)) (ap (λ (y : WorkedPortfolio). y.nets) e ∙ same.nets) (λ n out.
+    ap (λ (y : WorkedPortfolio). slice_index y.credits.credits n) e ∙ credits n out) (long ∙ rows_long) (λ k inside.
+    written k (omega (arith, rows_long)) ∙ ap (λ (r : ℤ). if named k t.credits places then r else value_at mended.risks k) (by k) ∙ ap (λ (rs : List ℤ). if named k t.credits places then worked_risk p k else value_at rs k) row)
 
 -- the sum of the risks by what is kept
-sum_is : (t : Tables) (p : Kept) → IsPortfolio t p → signed_sum_below (value_at p.risks) (length p.risks) ≡ signed_sum_below (risk t (positions t.contracts p.nets)) (length t.commodities)
+sum_is : (t : Tables) (p : WorkedPortfolio) → IsPortfolio t p → signed_sum_below (value_at p.risks) (length p.risks) ≡ signed_sum_below (risk t (positions t.contracts p.nets)) (length t.commodities)
 sum_is t p is =
     rw is.risks.one_each (signed_sum_below_same (value_at p.risks) (risk t (positions t.contracts p.nets)) (length t.commodities) is.risks.each)
 
 -- the requirement by what is kept
-pub requirement_is : (t : Tables) (p : Kept) (sum value : ℤ) → IsPortfolio t p → sum ≡ signed_sum_below (value_at p.risks) (length p.risks) → value ≡ net_option_value (positions t.contracts p.nets) → int_max (pos 0) (sum -ℤ value) ≡ requirement t p.nets
+pub requirement_is : (t : Tables) (p : WorkedPortfolio) (sum value : ℤ) → IsPortfolio t p → sum ≡ signed_sum_below (value_at p.risks) (length p.risks) → value ≡ net_option_value (positions t.contracts p.nets) → int_max (pos 0) (sum -ℤ value) ≡ requirement t p.nets
 unfolding requirement
 requirement_is t p sum value is total options = rw (total, sum_is t p is, options) refl

@@ -1,7 +1,7 @@
 use Rattle.std.proofs.Common.{rules, ◌≡◌, ◌≤◌, ◌^◌, ◌*◌, unsigned_abs}
 use Rattle.std.specs.Prelude.{◌*ℤ◌}
 use Rattle.mgn_num.proofs.SignedLemmas.{size-*ℤ-le}
-use Rattle.calculation_tests.proofs.running.kept.scaled.Goals as goal
+use Rattle.calculation_tests.proofs.running.running_parts.scaled.Goals as goal
 
 pub returns : goal.returns
 returns c =

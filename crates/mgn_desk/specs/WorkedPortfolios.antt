@@ -17,7 +17,7 @@ use Rattle.mgn_desk.specs.Risks.{IsRisk}
 
 -- the nets of a set's contracts in file order; scenario totals, option sums, stages and credits; for each commodity its
 -- risk before credits, and its risk
-pub record Kept : Type 0 where
+pub record WorkedPortfolio : Type 0 where
   pub nets : List ℤ
   pub totals : List (List ℤ)
   pub sums : Sums
@@ -27,7 +27,7 @@ pub record Kept : Type 0 where
   pub risks : List ℤ
 
 -- as many rows as a set has contracts, months, commodities and intercommodity spreads
-pub record ArePortfolioRows (set : Tables) (p : Kept) : Type 0 where
+pub record ArePortfolioRows (set : Tables) (p : WorkedPortfolio) : Type 0 where
   pub nets : length p.nets ≡ length set.contracts
   pub totals : length p.totals ≡ length set.commodities
   pub minimums : length p.sums.minimums ≡ length set.commodities
@@ -40,19 +40,19 @@ pub record ArePortfolioRows (set : Tables) (p : Kept) : Type 0 where
 
 -- the scan risk with the spreading and the spot charge (CME SPAN)
 abbrev pub charge_of : Tables → List Position → ℕ → ℤ
-charge_of set held g = scan_of held g +ℤ pos (intra_charge set held g) +ℤ pos (spot_charge set held g)
+charge_of set portfolio g = scan_of portfolio g +ℤ pos (intra_charge set portfolio g) +ℤ pos (spot_charge set portfolio g)
 
 abbrev pub net_deltas_of : Tables → List Position → List ℤ
-net_deltas_of set held = map (net_delta_from set.months (month_delta held)) (range_with_len 0 (length set.commodities))
+net_deltas_of set portfolio = map (net_delta_from set.months (month_delta portfolio)) (range_with_len 0 (length set.commodities))
 
 abbrev pub price_risks_of : Tables → List Position → List ℕ
-price_risks_of set held =
-    map (λ g. unsigned_abs (price_risk2 (scenario_total g held))) (range_with_len 0 (length set.commodities))
+price_risks_of set portfolio =
+    map (λ g. unsigned_abs (price_risk2 (scenario_total g portfolio))) (range_with_len 0 (length set.commodities))
 
 -- What is kept is that of these nets under this set.
 
 -- totals, option sums and stages
-pub record AreParts (set : Tables) (p : Kept) : Type 0 where
+pub record AreParts (set : Tables) (p : WorkedPortfolio) : Type 0 where
   pub totals : AreTotals set p.nets p.totals
   pub sums : AreSums set p.nets p.sums
   pub tiers : AreTiersOf set p.tiers
@@ -76,13 +76,13 @@ pub record AreRisks (set : Tables) (nets risks : List ℤ) : Type 0 where
   pub each : (g : ℕ) → g < length set.commodities → value_at risks g ≡ risk set (positions set.contracts nets) g
 
 -- all but the risks
-pub record IsReady (set : Tables) (p : Kept) : Type 0 where
+pub record IsReady (set : Tables) (p : WorkedPortfolio) : Type 0 where
   pub parts : AreParts set p
   pub credits : AreCreditsBy set p.nets p.credits
   pub charges : AreCharges set p.nets p.charges
 
 -- all that is kept of a portfolio is that of its nets under this set: one net for each contract, within its limit
-pub record IsPortfolio (set : Tables) (p : Kept) : Type 0 where
+pub record IsPortfolio (set : Tables) (p : WorkedPortfolio) : Type 0 where
   pub ready : IsReady set p
   pub risks : AreRisks set p.nets p.risks
 
@@ -94,7 +94,7 @@ pub record SameBut (set : Tables) (g : ℕ) (old new : List ℤ) : Type 0 where
   pub minimums : (k : ℕ) → k ≢ g → minimum set (positions set.contracts new) k ≡ minimum set (positions set.contracts old) k
 
 -- what is kept is that of the nets, but for what hangs on the nets of one commodity, of which it is that of earlier ones
-pub record IsBehind (set : Tables) (g : ℕ) (p : Kept) : Type 0 where
+pub record IsBehind (set : Tables) (g : ℕ) (p : WorkedPortfolio) : Type 0 where
   pub was : List ℤ
   pub parts : AreParts set p
   pub credits : AreCreditsBy set was p.credits
@@ -103,17 +103,17 @@ pub record IsBehind (set : Tables) (g : ℕ) (p : Kept) : Type 0 where
   pub others : SameBut set g was p.nets
 
 -- the risk of a commodity by what is kept: at least the minimum
-abbrev pub kept_risk : Kept → ℕ → ℤ
-kept_risk p g = int_max (value_at p.charges g -ℤ pos (slice_index p.credits.credits g)) (pos (slice_index p.sums.minimums g))
+abbrev pub worked_risk : WorkedPortfolio → ℕ → ℤ
+worked_risk p g = int_max (value_at p.charges g -ℤ pos (slice_index p.credits.credits g)) (pos (slice_index p.sums.minimums g))
 
 -- For the steps of a change.
 
 -- all but nets, totals, sums and stages is as it was
-abbrev pub KeepsRest : Kept → Kept → Type 0
+abbrev pub KeepsRest : WorkedPortfolio → WorkedPortfolio → Type 0
 KeepsRest old new = (new.credits ≡ old.credits) × (new.charges ≡ old.charges) × (new.risks ≡ old.risks)
 
 -- nets, totals, sums, stages and risks are as they were
-pub record KeepsParts (old new : Kept) : Type 0 where
+pub record KeepsParts (old new : WorkedPortfolio) : Type 0 where
   pub nets : new.nets ≡ old.nets
   pub totals : new.totals ≡ old.totals
   pub sums : new.sums ≡ old.sums
@@ -121,12 +121,12 @@ pub record KeepsParts (old new : Kept) : Type 0 where
   pub risks : new.risks ≡ old.risks
 
 -- the same with other charges, with other credits
-abbrev pub with_charges : Kept → List ℤ → Kept
+abbrev pub with_charges : WorkedPortfolio → List ℤ → WorkedPortfolio
 with_charges p charges = record p { charges = charges }
 
-abbrev pub with_credits : Kept → Credited → Kept
+abbrev pub with_credits : WorkedPortfolio → Credited → WorkedPortfolio
 with_credits p credits = record p { credits = credits }
 
 -- the same with other risks
-abbrev pub with_risks : Kept → List ℤ → Kept
+abbrev pub with_risks : WorkedPortfolio → List ℤ → WorkedPortfolio
 with_risks p risks = record p { risks = risks }

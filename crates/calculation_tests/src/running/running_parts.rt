@@ -25,7 +25,7 @@ const LARGEST_DELTA: u128 = 256_000_000_000_000;
 
 /// One list of nets with its totals, option sums, stages and credits. Contracts see the nets.
 #[derive(Drop)]
-pub(super) struct Kept<'a> {
+pub(super) struct RunningParts<'a> {
     set: &'a ParamSet,
     nets: Nets,
     totals: ScanTotals,
@@ -34,7 +34,7 @@ pub(super) struct Kept<'a> {
     credits: InterCredits,
 }
 
-impl<'a> Model for Kept<'a> {
+impl<'a> Model for RunningParts<'a> {
     ghost use Rattle.mgn_inter.specs.Credited.{AreCreditsOf};
     ghost use Rattle.mgn_option.specs.Sums.{AreSums};
     ghost use Rattle.mgn_scan.specs.Totals.{AreTotals};
@@ -107,14 +107,14 @@ fn flat_stages(alloc: Global, set: &ParamSet) -> Result<(TierStages, InterCredit
     Ok((tiers, credits))
 }
 
-impl<'a> Kept<'a> {
+impl<'a> RunningParts<'a> {
     /// What is kept of nets of 0.
-    pub(super) fn new(alloc: Global, set: &'a ParamSet) -> Result<Kept<'a>, AllocError> {
+    pub(super) fn new(alloc: Global, set: &'a ParamSet) -> Result<RunningParts<'a>, AllocError> {
         set.limits();
         let nets = Nets::flat(alloc, set.contract_count())?;
         let (totals, sums) = flat_sums(alloc, set)?;
         let (tiers, credits) = flat_stages(alloc, set)?;
-        Ok(Kept {
+        Ok(RunningParts {
             set,
             nets,
             totals,
