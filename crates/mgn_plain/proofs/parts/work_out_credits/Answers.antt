@@ -10,7 +10,7 @@ price_risks-requires-clause-one_each c =
 
 pub price_risks-requires-clause-flat : goal.price_risks-requires-clause-flat
 price_risks-requires-clause-flat c =
-    rw (c.deref.ensures.value, c.deref-2.ensures.value) (totals_none c.args.set.now c.requires.0 c.args.sums.now.totals.items c.args.sums.now.portfolio.items c.requires.2.totals c.requires.2.marks)
+    rw (c.deref.ensures.value, c.deref-2.ensures.value) (totals_none c.args.set.now c.requires.0 c.args.sums.now.totals.items c.args.sums.now.marks.items c.requires.2.totals c.requires.2.marks)
 
 pub credit_row-requires-clause-numbers : goal.credit_row-requires-clause-numbers
 credit_row-requires-clause-numbers c =
