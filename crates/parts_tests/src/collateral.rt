@@ -59,7 +59,10 @@ fn check_names(
     requires bond { 1 ≤ most_of bond.now }
 {
     assert!(rt; is_known(set, cash) && !is_known(set, bond));
-    assert_eq!(rt; (most_of(cash), most_of(bond)), (MOST_CASH, MOST_CLASS_UNITS));
+    assert_eq!(rt;
+        (most_of(cash), most_of(bond)),
+        (MOST_CASH, MOST_CLASS_UNITS)
+    );
     assert!(rt; collateral.is_priced_by(set));
     assert!(rt; collateral.write(bond, 1).is_ok());
     assert!(rt; !collateral.is_priced_by(set));
