@@ -54,16 +54,15 @@ is_known classes name = is_cash name || has_class classes name
 abbrev pub is_priced_by : List Class → Posted → Bool
 is_priced_by classes p = list_all (λ (e : List ℕ × ℕ). (e.1 == 0) || has_class classes e.0) p.units
 
--- the value of what is posted: the cash, and the units of each class of the set at the price less the haircut, rounded
--- down once
+-- the value of units of a class: at the price less the haircut, rounded down once (own profile)
+abbrev pub class_value : Class → ℕ → ℕ
+class_value class units = units * class.price * (10000 - class.haircut) / 10000
+
+-- the value of what is posted: the cash, and that of the units of each class of the set
 abbrev pub value : List Class → Posted → ℕ
-value classes p = p.cash + sum_by (λ c. units_of c.name p.units * c.price * (10000 - c.haircut) / 10000) classes
+value classes p = p.cash + sum_by (λ c. class_value c (units_of c.name p.units)) classes
 
 -- the limits of what is posted
 pub record IsPosted (cash : ℕ) (units : List (List ℕ × ℕ)) : Type 0 where
   pub cash_most : cash ≤ 10 ^ 15
   pub units_most : (name : List ℕ) → units_of name units ≤ 10 ^ 9
-
--- The value of units of a class, a word for the inside and for proofs.
-abbrev pub class_value : Class → ℕ → ℕ
-class_value class units = units * class.price * (10000 - class.haircut) / 10000

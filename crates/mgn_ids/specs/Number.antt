@@ -1,4 +1,4 @@
--- The numbers of lots, orders, units and sessions (own format and limits).
+-- The numbers of lots, orders and sessions (own format and limits).
 use Rattle.std.specs.Prelude.{ℕ, ◌^◌, ◌≤◌, List, Result, Ok, Err}
 use Rattle.mgn_num.specs.Reading.{unsigned_in}
 use Rattle.mgn_num.specs.declared.reading.NumFault.{NumFault}
@@ -10,11 +10,6 @@ use Rattle.mgn_ids.specs.declared.fault.IdFault.TheVariants.{Syntax, Range}
 pub record IsIdNumber (n : ℕ) : Type 0 where
   pub low : 1 ≤ n
   pub high : n ≤ 10 ^ 12
-
--- margin units: 1 to 1,024
-pub record IsUnitNumber (n : ℕ) : Type 0 where
-  pub low : 1 ≤ n
-  pub high : n ≤ 1024
 
 -- sessions: 1 to 16
 pub record IsSessionNumber (n : ℕ) : Type 0 where

@@ -12,6 +12,6 @@ pub mod short_id;
 pub use amounts::{LotQuantity, Premium, Units};
 pub use fault::IdFault;
 pub use names::{AccountName, ClassName, CommodityName, ContractName, OriginName, SetName};
-pub use numbers::{LotId, MOST_SESSIONS, OrderId, SessionNo, UnitNo};
+pub use numbers::{LotId, MOST_SESSIONS, OrderId, SessionNo};
 pub use places::Places;
 pub use short_id::ShortId;

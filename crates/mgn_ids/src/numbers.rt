@@ -111,45 +111,6 @@ impl OrderId {
     }
 }
 
-/// The number of a margin unit: units are numbered from 1, to 1,024, in order of making. Contracts see the number.
-#[derive(Clone, Copy, PartialEq, Eq, PartialOrd, Ord, Hash, Debug)]
-pub struct UnitNo {
-    number: u16,
-}
-
-impl Model for UnitNo {
-    ghost use Rattle.std.specs.Prelude.{ℕ};
-    ghost use Rattle.mgn_ids.specs.Number.{IsUnitNumber};
-
-    ghost Value = { ℕ };
-
-    ghost view = { λ n. n.number };
-
-    ghost invariant = { λ n. IsUnitNumber n.number };
-
-    ghost inverse = { λ n. record { number = n } };
-}
-
-impl UnitNo {
-    ghost use Rattle.mgn_ids.specs.Number.{IsUnitNumber};
-
-    /// The number as what it counts.
-    pub fn new(number: u16) -> Self
-        requires { IsUnitNumber number }
-        ensures { result ≡ number }
-    {
-        UnitNo { number }
-    }
-
-    /// The number.
-    pub fn number(self) -> u16
-        ensures value { result ≡ self }
-        ensures small { IsUnitNumber result }
-    {
-        self.number
-    }
-}
-
 /// How many sessions a day has at most.
 pub const MOST_SESSIONS: u8 = 16;
 

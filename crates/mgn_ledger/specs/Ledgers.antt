@@ -44,24 +44,24 @@ pub record IsLedger {T : Type 0} (shown : T → Day) (stamps : List T) (places :
   pub places_are : broken ≡ false → AreUnchangedSince shown stamps places day
 
 -- the answers without a place: no memory, a full history, or a service that is closed
-abbrev pub IsUnplaced : Reply → Type 0
-IsUnplaced reply = (reply ≡ Refused Memory) ⊎ ((reply ≡ Refused Full) ⊎ (reply ≡ Refused Broken))
+abbrev pub HasNoPlace : Reply → Type 0
+HasNoPlace reply = (reply ≡ Refused Memory) ⊎ ((reply ≡ Refused Full) ⊎ (reply ≡ Refused Broken))
 
 -- an answer with a place has it at the end of what the pass has then seen; one without leaves the pass as it was
-abbrev pub AnswersAt : PassView → Request → Option ℕ → Reply → PassView → Type 0
-AnswersAt old request (Some place) reply new = IsCalled old request place reply new
-AnswersAt old request None reply new = (new ≡ old) × IsUnplaced reply
+abbrev pub PassAnswersAt : PassView → Request → Option ℕ → Reply → PassView → Type 0
+PassAnswersAt old request (Some place) reply new = IsCalled old request place reply new
+PassAnswersAt old request None reply new = (new ≡ old) × HasNoPlace reply
 
-abbrev pub Answers : PassView → Request → Answer → PassView → Type 0
-Answers old request answer new = AnswersAt old request answer.place answer.reply new
+abbrev pub PassAnswers : PassView → Request → Answer → PassView → Type 0
+PassAnswers old request answer new = PassAnswersAt old request answer.place answer.reply new
 
 -- a command that got a place, with what its stamp shows; any other leaves the pass as it was
 abbrev pub Enters : {T J : Type 0} → (T → Day) → Day → PassView → Command → Plan → Entered T J → PassView → Type 0
 Enters shown day old command plan (Placed place reply stamp) new =
     IsCalled old (Do command) place reply new × Leads shown day plan reply stamp.1
-Enters shown day old command plan (Unplaced why) new = (new ≡ old) × IsUnplaced (Refused why)
+Enters shown day old command plan (Unplaced why) new = (new ≡ old) × HasNoPlace (Refused why)
 
 -- what a call is answered
-abbrev pub answer_of : {T J : Type 0} → Entered T J → Answer
-answer_of (Placed place reply stamp) = record { place = Some place; reply = reply }
-answer_of (Unplaced why) = record { place = None; reply = Refused why }
+abbrev pub entered_answer : {T J : Type 0} → Entered T J → Answer
+entered_answer (Placed place reply stamp) = record { place = Some place; reply = reply }
+entered_answer (Unplaced why) = record { place = None; reply = Refused why }

@@ -17,11 +17,11 @@ pub enum Entered<'a, T: Image, J: SlotNames> {
 
 impl<'a, T: Image, J: SlotNames> Entered<'a, T, J> {
     ghost use Rattle.std.specs.Prelude.{◌≡◌};
-    ghost use Rattle.mgn_ledger.specs.Ledgers.{answer_of};
+    ghost use Rattle.mgn_ledger.specs.Ledgers.{entered_answer};
 
     /// What the call is answered.
     pub fn into_answer(self) -> Answer
-        ensures { result ≡ answer_of self.entry }
+        ensures { result ≡ entered_answer self.entry }
     {
         match self {
             Entered::Placed(place, reply, _) => Answer {

@@ -11,7 +11,7 @@ ghost use Rattle.mgn_book.specs.BookViews.{Stands, opening};
 ghost use Rattle.mgn_day.specs.Changes.{SameUnit};
 ghost use Rattle.mgn_day.specs.Days.{set_of, version_of};
 ghost use Rattle.mgn_day.specs.Gathering.{AreReady};
-ghost use Rattle.mgn_ledger.specs.Ledgers.{Answers, Enters, IsUnplaced};
+ghost use Rattle.mgn_ledger.specs.Ledgers.{PassAnswers, Enters, HasNoPlace};
 ghost use Rattle.mgn_ledger.specs.Passes.{AreApart, AreAudited, IsBeside, fresh};
 
 use crate::entered::{AuditFault, Entered};
@@ -207,7 +207,7 @@ impl<'a, T: Image, J: TableName + SlotNames> Ledger<'a, T, J> {
         pass: &mut Pass<'a, T, J>,
         command: &Command,
     ) -> Answer
-        ensures { Answers pass.old (Do command.now) result pass.new }
+        ensures { PassAnswers pass.old (Do command.now) result pass.new }
     {
         let plan = self.plan(rt, command);
         let answer = self
@@ -291,7 +291,7 @@ impl<'a, T: Image, J: TableName + SlotNames> Ledger<'a, T, J> {
     ) -> Answer
         requires prepared { ArePrepared set prepared.old.units.items }
         requires ready { AreReady T.shown set prepared.old.units.items since.now }
-        ensures { Answers pass.old (Switch set) result pass.new }
+        ensures { PassAnswers pass.old (Switch set) result pass.new }
     {
         let fits = self.matches(pass);
         if let Some(why) = closed(&mut self.broken, &self.stamps, fits) {
@@ -407,7 +407,7 @@ fn closed<'a, T: Image, J: SlotNames>(
     ensures fits { result ≡ None → fits ≡ true }
     ensures room { result ≡ None → length stamps.now < length J.slots }
     ensures broken { broken.new ≡ false → broken.old ≡ false }
-    ensures unplaced { IfSome result (λ why. IsUnplaced (Refused why)) }
+    ensures unplaced { IfSome result (λ why. HasNoPlace (Refused why)) }
     ensures from_now_on { IfSome result (λ why. why ≡ Broken → broken.new ≡ true) }
 {
     if *broken {

@@ -87,7 +87,7 @@ pub record IsKnown (set : Tables) (a : AccountState) : Type 0 where
   pub lots : All (λ (x : Lot). is_live x.mark ≡ true → has_contract set x.contract ≡ true) a.lots
   pub holds : All (λ (x : Held). has_contract set x.contract ≡ true) a.holds
 
--- a premium other than 0 is for options of the premium style alone
+-- a premium other than 0 is for contracts of the premium style alone (own profile), which in the file of a set are options
 abbrev pub premium_fits : Tables → ℕ → ℕ → Bool
 premium_fits set i premium = (premium == 0) || is_premium (contract_at set.contracts i).style
 

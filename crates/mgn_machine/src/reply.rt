@@ -11,7 +11,7 @@ pub enum Refusal {
     NoAccount,
     /// There is no such origin.
     NoOrigin,
-    /// The name or number is there already.
+    /// The name or number is there already, or a MOVE is from an account to itself.
     Duplicate,
     /// The current set has no such contract.
     NoContract,
@@ -25,7 +25,7 @@ pub enum Refusal {
     NoRoom,
     /// A limit would be passed.
     Limit,
-    /// The premium does not fit the contract.
+    /// The premium or limit does not fit the contract, or the premium of a fill misses the limit of its order.
     Premium,
     /// It is more than is there, or has another sign than what is there.
     Over,

@@ -1,4 +1,5 @@
--- The tables of a parameter set, in file order.
+-- The tables of a parameter set, in file order: what a SPAN parameter file tells of commodities, months, contracts, spreads
+-- and spot months (CME SPAN), and of collateral (own profile).
 use Rattle.std.specs.Prelude.{ℕ, ◌==◌, ◌&&◌, Bool, true, false, List, [], pos, slice_index_or, take}
 use Rattle.mgn_params.specs.declared.tables.Class.{Class}
 use Rattle.mgn_params.specs.declared.tables.Commodity.{Commodity}

@@ -62,7 +62,7 @@ pub struct Spread {
     pub charge: u64,
 }
 
-/// A side of an intercommodity spread. Legs of one side have one direction, and those of the other the other.
+/// A side of an intercommodity spread. All legs of side A have one direction, those of side B the opposite one.
 #[derive(Clone, Copy, PartialEq, Eq, Debug)]
 pub enum LegSide {
     A,

@@ -10,9 +10,9 @@ use Rattle.mgn_machine.specs.declared.reply.Reply.{Reply}
 use Rattle.mgn_book.specs.BookViews.{Begins, BookView, opening, sets_after}
 use Rattle.mgn_book.proofs.Begun.{begins_after, begins_before, begins_itself, kept_so, step_begun}
 use Rattle.mgn_session.specs.Conversation.{ConversationView}
-use Rattle.mgn_session.specs.Session.{Answers, Call, Calls, Fetch, HasAnswered, HasStopped, HasTooMuch, IsCaughtUp, IsSession, IsUnplaced}
+use Rattle.mgn_session.specs.Session.{Answers, Call, Calls, Fetch, HasAnswered, HasRunOut, HasStopped, HasTooMuch, IsCaughtUp, IsSession, IsUnplaced}
 use Rattle.mgn_session.specs.declared.fault.SessionFault.{SessionFault}
-use Rattle.mgn_session.proofs.Seen.{IsSeen, IsSeenCall, seen_answered, seen_caught_up, seen_session, seen_stopped, seen_too_much, session_before, with_source}
+use Rattle.mgn_session.proofs.Seen.{IsSeen, IsSeenCall, seen_answered, seen_caught_up, seen_run_out, seen_session, seen_stopped, seen_too_much, session_before, with_source}
 use Rattle.mgn_script.proofs.PlainFacts.{refused_sets}
 use Rattle.mgn_script.specs.Plain.{Commits, CommitsAt, ScriptView}
 use Rattle.mgn_script.specs.Script.{Steps, StepsAt}
@@ -102,6 +102,11 @@ pub has_too_much : {S : Type 0} (gives : Fetch S) (before after : ConversationVi
     → HasTooMuch (Answers CallsPlain gives) before after (old, s) (new, t) → HasTooMuch (Answers (Steps new.sets) gives) before after ([], s) (new.day.history, t)
 has_too_much gives before after old new s t fresh a =
     rw (ap (λ (day : BookView). day.history) fresh.day) at (seen_too_much _ _ _ _ _ (seen_by new.sets gives) before after (old, s) (new, t) (opens new.sets old fresh) (begins_itself new.sets) a)
+
+pub runs_out : {S : Type 0} (gives : Fetch S) (before after : ConversationView) (old new : ScriptView) (s t : S) → IsFresh old
+    → HasRunOut (Answers CallsPlain gives) before after (old, s) (new, t) → HasRunOut (Answers (Steps new.sets) gives) before after ([], s) (new.day.history, t)
+runs_out gives before after old new s t fresh a =
+    rw (ap (λ (day : BookView). day.history) fresh.day) at (seen_run_out _ _ _ _ _ (seen_by new.sets gives) before after (old, s) (new, t) (opens new.sets old fresh) (begins_itself new.sets) a)
 
 -- what the book then is
 pub record IsScripted (old new : ScriptView) : Type 0 where

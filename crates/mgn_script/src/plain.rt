@@ -36,7 +36,7 @@ impl Model for Plain {
 }
 
 impl Plain {
-    /// A book before its first command, under its first set.
+    /// A book before its first command, under its first set. The only error is that memory was refused.
     pub fn new(alloc: Global, set: ParamSet) -> Result<Plain, AllocError>
         ensures sets { IfOk result (λ plain. plain.sets ≡ set ∷ []) }
         ensures day { IfOk result (λ plain. plain.day ≡ opening) }

@@ -2,7 +2,7 @@ ghost use Rattle.std.specs.Prelude.{◌≡◌, [], ℕ, IfOk, IfErr, OnErr};
 ghost use Rattle.mgn_machine.specs.History.{replay};
 ghost use Rattle.mgn_book.specs.BookViews.{Begins, opening};
 ghost use Rattle.mgn_session.specs.Conversation.{IsQuiet};
-ghost use Rattle.mgn_session.specs.Session.{Answers, BlamesDevices, HasAnswered, HasStopped, HasTooMuch, IsCaughtUp};
+ghost use Rattle.mgn_session.specs.Session.{Answers, BlamesDevices, HasAnswered, HasRunOut, HasStopped, HasTooMuch, IsCaughtUp};
 ghost use Rattle.mgn_script.specs.Script.{Steps};
 
 use crate::plain::Plain;
@@ -31,6 +31,9 @@ pub fn run_script<R: Read, W: Write, S: SetSource>(
         talk.old talk.new ([], source.old) (plain.new.day.history, source.new) n) }
     ensures lines { IfErr result (λ fault. fault ≡ SessionFault.Lines
         → HasTooMuch (Answers (Steps plain.new.sets) S.gives)
+        talk.old talk.new ([], source.old) (plain.new.day.history, source.new)) }
+    ensures memory { IfErr result (λ fault. fault ≡ SessionFault.Memory
+        → HasRunOut (Answers (Steps plain.new.sets) S.gives)
         talk.old talk.new ([], source.old) (plain.new.day.history, source.new)) }
     ensures failures { BlamesDevices talk.old talk.new result }
     ensures sets { Begins plain.old.sets plain.new.sets }

@@ -78,7 +78,7 @@ impl<'s, 'a, R: Wait, T: Image, J: TableName + SlotNames, G: Gate, W: Switches> 
 /// closed only the service knows, since other sessions use it too; so either may be answered at any time.
 impl<'s, 'a, R: Wait, T: Image, J: TableName + SlotNames, G: Gate, W: Switches> Exec
     for Seat<'s, 'a, R, T, J, G, W> {
-    ghost use Rattle.mgn_ledger.specs.Ledgers.{Answers};
+    ghost use Rattle.mgn_ledger.specs.Ledgers.{PassAnswers};
     ghost use Rattle.mgn_ledger.specs.Passes.{transcript};
 
     ghost entries = { λ seat. transcript seat };
@@ -87,7 +87,7 @@ impl<'s, 'a, R: Wait, T: Image, J: TableName + SlotNames, G: Gate, W: Switches> 
 
     ghost is_broken = { λ seat. Unit {0} };
 
-    ghost does = { λ old request answer new. Answers old request answer new };
+    ghost does = { λ old request answer new. PassAnswers old request answer new };
 
     fn exec(&mut self, command: &Command) -> Answer {
         self.service

@@ -1,5 +1,5 @@
 ghost use Rattle.mgn_machine.specs.declared.request.Request.TheVariants.{Switch};
-ghost use Rattle.mgn_ledger.specs.Ledgers.{Answers};
+ghost use Rattle.mgn_ledger.specs.Ledgers.{PassAnswers};
 
 use mgn_ledger::{Image, Pass};
 use mgn_machine::Answer;
@@ -12,7 +12,7 @@ use std::sync::Wait;
 /// Who works out what units require under the new set of a switch.
 pub trait Switches {
     ghost use Rattle.mgn_machine.specs.declared.request.Request.TheVariants.{Switch};
-    ghost use Rattle.mgn_ledger.specs.Ledgers.{Answers};
+    ghost use Rattle.mgn_ledger.specs.Ledgers.{PassAnswers};
 
     /// A switch of a pass to a set, as the service answers it.
     fn switch<'a, R: Wait, T: Image, J: TableName + SlotNames, G: Gate>(
@@ -23,7 +23,7 @@ pub trait Switches {
         gate: &G,
         set: ParamSet,
     ) -> Answer
-        ensures { Answers pass.old (Switch set) result pass.new };
+        ensures { PassAnswers pass.old (Switch set) result pass.new };
 }
 
 /// The session itself, on its own thread.

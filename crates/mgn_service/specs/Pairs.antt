@@ -6,7 +6,7 @@ use Rattle.mgn_machine.specs.declared.command.Command.{Command}
 use Rattle.mgn_machine.specs.declared.reply.Reply.TheVariants.{Done}
 use Rattle.mgn_machine.specs.declared.request.Request.TheVariants.{Do}
 use Rattle.mgn_day.specs.Days.{Day}
-use Rattle.mgn_ledger.specs.Ledgers.{Answers}
+use Rattle.mgn_ledger.specs.Ledgers.{PassAnswers}
 use Rattle.mgn_ledger.specs.Passes.{IsCalled, PassView}
 use Rattle.mgn_unit_desk.specs.UnitDesks.{IsAfter}
 use Rattle.mgn_unit_desk.specs.declared.sight.UnitMove.{UnitMove}
@@ -32,7 +32,7 @@ pub record AreSightsOf {T J : Type 0} (giver taker : DeskRows × Option (ℕ × 
 -- a look at both: the command is answered there and then, or its changes of these units are seen; or it is no longer one of
 -- these two
 abbrev pub LooksAtBoth : {T J : Type 0} → PassView → Command → DeskRows × Option (ℕ × T) → DeskRows × Option (ℕ × T) → LookedAtBoth T J → PassView → Type 0
-LooksAtBoth old command giver taker (looked.Answered answer) new = Answers old (Do command) answer new
+LooksAtBoth old command giver taker (looked.Answered answer) new = PassAnswers old (Do command) answer new
 LooksAtBoth old command giver taker (looked.Seen sights) new = (new ≡ old) × AreSightsOf giver taker sights
 LooksAtBoth old command giver taker looked.Apart new = new ≡ old
 
@@ -42,6 +42,6 @@ DecidesBoth shown old command sights (decided.Settled place stamp) new =
     IsCalled old (Do command) place Done new
     × IsAfter shown sights.giver.0 sights.giver.1.0.1 stamp.1
     × IsAfter shown sights.taker.0 sights.taker.1.0.1 stamp.1
-DecidesBoth shown old command sights (decided.Answered answer) new = Answers old (Do command) answer new
+DecidesBoth shown old command sights (decided.Answered answer) new = PassAnswers old (Do command) answer new
 DecidesBoth shown old command sights decided.Stale new = new ≡ old
 DecidesBoth shown old command sights decided.Apart new = new ≡ old

@@ -3,7 +3,7 @@
 ghost use Rattle.std.specs.Prelude.{◌≡◌, IfErr, IfOk, None, Some};
 ghost use Rattle.mgn_plan.specs.Plans.{CanChange};
 ghost use Rattle.mgn_day.specs.Days.{set_of};
-ghost use Rattle.mgn_ledger.specs.Ledgers.{IsUnplaced};
+ghost use Rattle.mgn_ledger.specs.Ledgers.{HasNoPlace};
 ghost use Rattle.mgn_service.specs.Commits.{Looks};
 ghost use Rattle.mgn_unit_desk.specs.UnitDesks.{moved_in};
 
@@ -38,7 +38,7 @@ pub(crate) fn sight<'a, T: Image, J: TableName + SlotNames>(
     requires { CanChange (set_of ledger.now) ledger.now.book.book.rows change.now }
     ensures change { IfOk result (λ sight. sight.0 ≡ moved_in change.now) }
     ensures has { IfOk result (λ sight. sight.1.1 ≡ None → own.now ≡ Some sight.1.0) }
-    ensures why { IfErr result (λ why. IsUnplaced (Reply.Refused why)) }
+    ensures why { IfErr result (λ why. HasNoPlace (Reply.Refused why)) }
 {
     let version = ledger.version();
     let set = ledger.set();

@@ -4,7 +4,7 @@
 ghost use Rattle.std.specs.Prelude.{◌≡◌, IfErr, IfOk};
 ghost use Rattle.mgn_plan.specs.Plans.{CanChange};
 ghost use Rattle.mgn_day.specs.Days.{set_of};
-ghost use Rattle.mgn_ledger.specs.Ledgers.{IsUnplaced};
+ghost use Rattle.mgn_ledger.specs.Ledgers.{HasNoPlace};
 ghost use Rattle.mgn_service.specs.Pairs.{AreSightsOf, DecidesBoth, LooksAtBoth};
 ghost use Rattle.mgn_unit_desk.specs.UnitDesks.{IsMoved};
 
@@ -51,7 +51,7 @@ fn both_sights<'a, T: Image, J: TableName + SlotNames>(
     requires giver { given.now.unit ≡ giver.now.0.unit }
     requires taker { taken.now.unit ≡ taker.now.0.unit }
     ensures of { IfOk result (λ sights. AreSightsOf giver.now taker.now sights) }
-    ensures why { IfErr result (λ why. IsUnplaced (Reply.Refused why)) }
+    ensures why { IfErr result (λ why. HasNoPlace (Reply.Refused why)) }
 {
     Ok(Sights {
         giver: sight(alloc, ledger, given, giver.stamp())?,

@@ -4,7 +4,7 @@ ghost use Rattle.mgn_machine.specs.declared.entry.Entry.{Entry};
 ghost use Rattle.mgn_machine.specs.declared.request.Request.TheVariants.{Do, Switch};
 ghost use Rattle.mgn_unit.specs.NewSets.{ArePrepared};
 ghost use Rattle.mgn_day.specs.Gathering.{AreReady};
-ghost use Rattle.mgn_ledger.specs.Ledgers.{Answers};
+ghost use Rattle.mgn_ledger.specs.Ledgers.{PassAnswers};
 ghost use Rattle.mgn_ledger.specs.Passes.{AreAudited, fresh};
 ghost use Rattle.mgn_service.specs.Commits.{Begins, Tries};
 
@@ -132,7 +132,7 @@ impl<'a, T: Image, J: TableName + SlotNames> Service<'a, T, J> {
         gate: &G,
         command: &Command,
     ) -> Answer
-        ensures { Answers pass.old (Do command.now) result pass.new }
+        ensures { PassAnswers pass.old (Do command.now) result pass.new }
     {
         if let Some(unit) = known_unit(pass, command) {
             return self.exec_one(rt, pass, gate, command, unit);
@@ -159,7 +159,7 @@ impl<'a, T: Image, J: TableName + SlotNames> Service<'a, T, J> {
         gate: &G,
         set: ParamSet,
     ) -> Answer
-        ensures { Answers pass.old (Switch set) result pass.new }
+        ensures { PassAnswers pass.old (Switch set) result pass.new }
     {
         let Ok(mut prepared) = self.prepare(rt, pass.session(), gate, &set) else {
             return Answer::refused(Refusal::Memory);
@@ -177,7 +177,7 @@ impl<'a, T: Image, J: TableName + SlotNames> Service<'a, T, J> {
         workers: &Workers,
         set: ParamSet,
     ) -> Answer
-        ensures { Answers pass.old (Switch set) result pass.new }
+        ensures { PassAnswers pass.old (Switch set) result pass.new }
     {
         let Ok(mut prepared) = self.prepare_by(rt, pass.session(), workers, &set) else {
             return Answer::refused(Refusal::Memory);
@@ -194,7 +194,7 @@ impl<'a, T: Image, J: TableName + SlotNames> Service<'a, T, J> {
         gate: &G,
         set: ParamSet,
     ) -> Answer
-        ensures { Answers pass.old (Switch set) result pass.new }
+        ensures { PassAnswers pass.old (Switch set) result pass.new }
     {
         let Ok(mut prepared) = self.prepare_alone(rt, pass.session(), gate, &set) else {
             return Answer::refused(Refusal::Memory);
@@ -213,7 +213,7 @@ impl<'a, T: Image, J: TableName + SlotNames> Service<'a, T, J> {
     ) -> Answer
         requires prepared { ArePrepared set prepared.old.units.units.items }
         requires ready { AreReady T.shown set prepared.old.units.units.items prepared.old.since.items }
-        ensures { Answers pass.old (Switch set) result pass.new }
+        ensures { PassAnswers pass.old (Switch set) result pass.new }
     {
         gate.at(Point::Prepared, pass.session());
         let since = prepared.since.as_slice();
@@ -231,7 +231,7 @@ impl<'a, T: Image, J: TableName + SlotNames> Service<'a, T, J> {
         command: &Command,
         unit: usize,
     ) -> Answer
-        ensures { Answers pass.old (Do command.now) result pass.new }
+        ensures { PassAnswers pass.old (Do command.now) result pass.new }
     {
         let Some(place) = self.desks.get(unit) else {
             return self.ledger.lock(rt).exec_plain(rt, pass, command);
@@ -349,7 +349,8 @@ impl<'a, T: Image, J: TableName + SlotNames> Service<'a, T, J> {
     }
 
     /// Ends the service, and gives how many entries its history has, where the passes are those that were made, each
-    /// once, and it has just their calls.
+    /// once, and it has just their calls. `Passes` where they are not, and `Unmatched` with a session whose calls it has
+    /// not; in both cases service and passes are gone.
     pub fn close(self, passes: Vec<Pass<'a, T, J>>) -> Result<u64, AuditFault>
         ensures { IfOk result (λ entries. (sets : List Tables) × (history : List Entry)
             × AreAudited sets history passes.entry.items entries) }

@@ -2,7 +2,7 @@
 
 ghost use Rattle.std.specs.Prelude.{◌≡◌, OnOk, Some};
 ghost use Rattle.mgn_machine.specs.declared.request.Request.TheVariants.{Do};
-ghost use Rattle.mgn_ledger.specs.Ledgers.{Answers};
+ghost use Rattle.mgn_ledger.specs.Ledgers.{PassAnswers};
 ghost use Rattle.mgn_service.specs.Commits.{Tries};
 ghost use Rattle.mgn_service.specs.Pairs.{AreSightsOf};
 
@@ -29,7 +29,7 @@ impl<'a, T: Image, J: TableName + SlotNames> Service<'a, T, J> {
         giver: usize,
         taker: usize,
     ) -> Answer
-        ensures { Answers pass.old (Do command.now) result pass.new }
+        ensures { PassAnswers pass.old (Do command.now) result pass.new }
     {
         let lower = self.desks.get(giver.min(taker));
         let higher = self.desks.get(giver.max(taker));
@@ -55,7 +55,7 @@ impl<'a, T: Image, J: TableName + SlotNames> Service<'a, T, J> {
         giver: &mut UnitDesk<'a, T, J>,
         taker: &mut UnitDesk<'a, T, J>,
     ) -> Answer
-        ensures { Answers pass.old (Do command.now) result pass.new }
+        ensures { PassAnswers pass.old (Do command.now) result pass.new }
     {
         for _look in 0..MOST_LOOKS {
             match self.try_both(rt, pass, gate, command, giver, taker) {

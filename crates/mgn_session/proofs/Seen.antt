@@ -1,5 +1,5 @@
 -- A session is a session of what is seen of it, where each of its steps is: for scripts.
-use Rattle.std.proofs.Common.{ℕ, List, [], ◌∷◌, Result, Ok, Err, ap, inl, inr, subst, sym}
+use Rattle.std.proofs.Common.{ℕ, List, [], ◌∷◌, ◌++◌, Result, Ok, Err, ap, inl, inr, subst, sym}
 use Rattle.mgn_params.specs.Tables.{Tables}
 use Rattle.mgn_setfile.specs.File.{outcome, records_of}
 use Rattle.mgn_setfile.specs.Fields.{Flaw}
@@ -12,7 +12,7 @@ use Rattle.mgn_wire.specs.declared.line.Line.{Line}
 use Rattle.mgn_wire.specs.declared.line.Line.TheVariants.{Do, Switch}
 use Rattle.mgn_wire.specs.declared.reply.LineReply.{LineReply}
 use Rattle.mgn_session.specs.Conversation.{ConversationView}
-use Rattle.mgn_session.specs.Session.{Answers, AnswersAll, Call, Executes, Fetch, HasAnswered, HasStopped, HasTooMuch, IsCaughtUp, IsSession, IsUndone, Reads, Step, Switches}
+use Rattle.mgn_session.specs.Session.{Answers, AnswersAll, Call, Executes, Fetch, HasAnswered, HasRunOut, HasStopped, HasTooMuch, IsCaughtUp, IsSession, IsUndone, Reads, Step, Switches}
 use Rattle.mgn_session.specs.declared.source.SourceFault.{SourceFault}
 use Rattle.mgn_session.specs.declared.source.SourceFault.TheVariants.{Missing, Failed, Long, Memory}
 
@@ -121,6 +121,22 @@ seen_too_much see Holds Within step seen is before after old new holds within s 
       reads = s.reads;
       writes = s.writes;
       session = (seen_session see Holds Within step seen is old new s.input s.text s.count holds within s.session).0;
+    }
+
+pub seen_run_out : {X Y : Type 0} (see : X → Y) (Holds Within : X → Type 0) (step : Step X) (seen : Step Y)
+    → IsSeen see Holds Within step seen → (before after : ConversationView) (old new : X)
+    → Holds old → Within new → HasRunOut step before after old new → HasRunOut seen before after (see old) (see new)
+seen_run_out see Holds Within step seen is before after old new holds within s =
+    record {
+      input = s.input;
+      more = s.more;
+      text = s.text;
+      lost = s.lost;
+      count = s.count;
+      reads = s.reads;
+      writes = s.writes;
+      lost_is = s.lost_is;
+      session = (seen_session see Holds Within step seen is old new s.input (s.text ++ s.lost) s.count holds within s.session).0;
     }
 
 -- The same of an executor alone: what answers lines is it and a source.

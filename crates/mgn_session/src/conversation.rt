@@ -129,7 +129,8 @@ impl<R: Read, W: Write> Conversation<R, W> {
         Ok(taken)
     }
 
-    /// Makes room for the line of a reply, so that a command whose reply would find no memory need not be carried out.
+    /// Makes room for the line of a reply, so that a command whose reply would find no memory need not be carried out. The
+    /// only error is that memory was refused; then nothing has changed.
     pub fn reserve(&mut self) -> Result<(), Memory>
         ensures ok { OnOk result (LONGEST_LINE ≤ self.new.room) }
         ensures err { OnErr result (self.new ≡ self.old) }

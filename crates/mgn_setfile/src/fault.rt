@@ -9,7 +9,8 @@ use crate::words::words_of;
 use std::fmt;
 use thiserror::Error;
 
-/// What is wrong with a record. A record's cause is the first of these that applies, in this order, `Memory` apart.
+/// What is wrong with a record. A record's cause is the first of these that applies, `Memory` apart; of `Name`, `Number`
+/// and `Range` it is that of the leftmost field with one, and a missing leg comes after these.
 #[derive(Clone, Copy, PartialEq, Eq, Debug)]
 pub enum Cause {
     /// The first record is no header of version 1 or 2, a later one is a header, or there is no record.

@@ -96,14 +96,6 @@ impl<'a, T: Drop, J: SlotNames> Stamps<'a, T, J> {
         self.tokens.len()
     }
 
-    /// How many places there can be: one for each slot.
-    pub fn most(&self) -> usize
-        ensures most { result ≡ length J.slots }
-        ensures so_far { length self.now ≤ result }
-    {
-        self.slots.len()
-    }
-
     /// Whether there is a place for each slot, so that there is no next one.
     pub fn is_full(&self) -> bool
         ensures full { IsTrue result → length self.now ≡ length J.slots }

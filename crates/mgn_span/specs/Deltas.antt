@@ -1,4 +1,4 @@
--- Deltas of months, tiers and commodities, in ten-thousandths. A month is named by its place in the set's table.
+-- Deltas of months, tiers and commodities (CME SPAN), in ten-thousandths. A month is named by its place in the set's table.
 use Rattle.std.specs.Prelude.{ℕ, ◌-◌, ◌==◌, ◌&&◌, Bool, nat_lt, if◌then◌else◌, ℤ, pos, negsuc, neg_ℤ, ◌*ℤ◌, List, length, map}
 use Rattle.std.specs.List.{range_with_len}
 use Rattle.mgn_num.specs.Signed.{signed_sum_by, signed_sum_below, sum_below}

@@ -12,6 +12,7 @@ abbrev pub short_option_minimum : List Position → ℕ → ℕ → ℕ
 short_option_minimum portfolio commodity charge =
     sum_by (λ p. if (p.0.commodity == commodity) && is_option p.0.kind then negative_part p.1 * charge else 0) portfolio
 
--- the net option value: the sum over the premium-style options of net times market value (CME SPAN)
+-- the net option value: the sum over the contracts of premium style of net times market value (CME SPAN); the file of a
+-- set has no other than options in that style
 abbrev pub net_option_value : List Position → ℤ
 net_option_value portfolio = signed_sum_by (λ p. if is_premium p.0.style then p.1 *ℤ pos p.0.option_value else pos 0) portfolio

@@ -1,4 +1,5 @@
--- The requirement of a list of nets under a set, one net for each contract in file order.
+-- The requirement of a list of nets under a set, one net for each contract in file order: scan risk, spread charges and
+-- credits, short option minimum and net option value (CME SPAN).
 use Rattle.std.specs.Prelude.{ℕ, ℤ, pos, ◌+ℤ◌, ◌-ℤ◌, List, length, map, slice_index, unsigned_abs}
 use Rattle.std.specs.Int.{int_max}
 use Rattle.std.specs.List.{range_with_len}

@@ -9,7 +9,7 @@ use mgn_slots::{SlotNames, Stamp};
 use mgn_unit::{Change, CopiedNets};
 use std::marker::Model;
 
-/// What a command changes in the row of a margin unit, whose account of it that may be.
+/// What a command changes in the row of a margin unit, whichever of its accounts the command names.
 #[derive(Clone, Copy)]
 pub struct UnitMove {
     /// The number of the unit.

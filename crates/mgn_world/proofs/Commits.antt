@@ -24,13 +24,13 @@ use Rattle.mgn_unit.proofs.Covered.{covers-known}
 use Rattle.mgn_plan.specs.declared.plans.Plan.{Plan}
 use Rattle.mgn_plan.specs.declared.plans.Plan.TheVariants.{Nothing, One, Two}
 use Rattle.mgn_plan.specs.Plans.{plan_of}
-use Rattle.mgn_world.specs.Claims.{HasPlan, IsAmong, IsReplayed, Rests, before_close}
+use Rattle.mgn_world.specs.Claims.{HasPlan, IsAmong, IsReplayed, IsAtRest, before_close}
 use Rattle.mgn_world.specs.declared.phases.Call.{Call}
 use Rattle.mgn_world.specs.declared.phases.Phase.{Phase}
 use Rattle.mgn_world.specs.declared.phases.Phase.TheVariants.{Idle, Held, Applied, Failed, Ended, Gathered}
 use Rattle.mgn_world.specs.Phases.{Gathering, View}
 use Rattle.mgn_world.specs.declared.phases.Seen.{Seen}
-use Rattle.mgn_world.specs.World.{World, are_fit, are_stale, desk_at, in_force, is_apart, is_done, is_fit, is_stale, lengthened, lock_at, phase_at, placed, plan_units, planned, same_nets, seen_at, stepped, unit_nets, units_of, with_phase}
+use Rattle.mgn_world.specs.World.{World, are_fit, are_stale, desk_at, in_force, is_apart, is_done, is_fit, is_stale, lengthened, lock_at, phase_at, placed, plan_units, planned, seen_at, stepped, unit_nets, units_of, with_phase}
 use Rattle.mgn_world.specs.Standing.{DeskOf, Good, HeldDesk, Owns, PhaseOf, Sees}
 use Rattle.mgn_world.proofs.Desks.{plan_held}
 use Rattle.mgn_world.proofs.Effects.{Before, Outcome, outcome}
@@ -148,15 +148,15 @@ pub pointwise_same : (xs : List ℤ) → pointwise int_eq xs xs ≡ true
 pointwise_same [] = refl
 pointwise_same (x ∷ xs) = (λ j. (Decides-int_eq x x).1 refl j && pointwise int_eq xs xs) ∙ pointwise_same xs
 
-nets_same : (n : UnitNets) → same_nets n n ≡ true
-nets_same n = λ j. pointwise_same n.lots j && pointwise_same n.buys j && pointwise_same n.sales j && pointwise_same n.all j
+nets_same : (n : UnitNets) → same_four n n ≡ true
+nets_same n = λ j. pointwise_same n.lots j && (pointwise_same n.buys j && (pointwise_same n.sales j && pointwise_same n.all j))
 
 fit_at : (w : World) (plan : Plan) (u : ℕ) (d : Option MarkedNets) (l : View) → l.plan ≡ plan → l.version ≡ w.state.version → HasPlan w.sets w.state.accounts l u d → is_fit w plan u d ≡ true
 fit_at w plan u None l same now h = absurd h
 fit_at w plan u (Some m) l same now h =
     let nets : m.nets ≡ planned plan (in_force w) w.state.accounts u = h.1 ∙ (λ j. planned (same j) (set_at w.sets (now j)) w.state.accounts u) in
-    (λ j. eq-eqb m.version w.state.version (h.0 ∙ now) j && same_nets m.nets (planned plan (in_force w) w.state.accounts u))
-    ∙ ap (λ (n : UnitNets). same_nets n (planned plan (in_force w) w.state.accounts u)) nets
+    (λ j. eq-eqb m.version w.state.version (h.0 ∙ now) j && same_four m.nets (planned plan (in_force w) w.state.accounts u))
+    ∙ ap (λ (n : UnitNets). same_four n (planned plan (in_force w) w.state.accounts u)) nets
     ∙ nets_same (planned plan (in_force w) w.state.accounts u)
 
 fit_all : (w : World) (plan : Plan) (us : List ℕ) (l : View) → l.plan ≡ plan → l.version ≡ w.state.version → ((u : ℕ) → IsAmong u us → HasPlan w.sets w.state.accounts l u (desk_at w u)) → are_fit w plan us ≡ true
@@ -204,7 +204,7 @@ never_apart w p k l good is e =
 
 -- after a command that is done the desks of its plan have the unit's nets
 pub settled : (w : World) (p u : ℕ) (k : Call) (l : View) (d : Option MarkedNets) → Good w → phase_at w p ≡ Applied k l → l.version ≡ w.state.version → is_done (step_under (in_force w) w.state k.command).1 ≡ true → HasPlan w.sets w.state.accounts l u d
-    → Rests w.sets (step_under (in_force w) w.state k.command).0.accounts u d
+    → IsAtRest w.sets (step_under (in_force w) w.state k.command).0.accounts u d
 settled w p u k l None good is now done h = absurd h
 settled w p u k l (Some m) good is now done h =
     let ok = session w p (Applied k l) good is in

@@ -33,7 +33,7 @@ use Rattle.mgn_world.specs.declared.phases.Call.{Call}
 use Rattle.mgn_world.specs.declared.phases.Phase.{Phase}
 use Rattle.mgn_world.specs.declared.phases.Phase.TheVariants.{Applied, Idle}
 use Rattle.mgn_world.specs.declared.state.WorldState.{WorldState}
-use Rattle.mgn_world.specs.DeskMoves.{AreDesks, IsRightIn, desk_shown}
+use Rattle.mgn_world.specs.DeskMoves.{AreRightDesks, IsRightIn, desk_shown}
 use Rattle.mgn_world.specs.Phases.{View}
 use Rattle.mgn_world.specs.Standing.{Good}
 use Rattle.mgn_world.specs.World.{are_stale, desk_at, is_stale, phase_at, plan_units, planned, seen_at}
@@ -70,7 +70,7 @@ right_of : (sets : List Tables) (version : ℕ) (m : Option Marked) → IsRightI
 right_of sets version None is = tt
 right_of sets version (Some m) is = λ e. subst (λ (v : ℕ). ArePortfolios (set_at sets v) m.portfolios) e is.1
 
-pub right_at : (sets : List Tables) (version : ℕ) (desks : List DeskRows) (u : ℕ) (d : DeskRows) → AreDesks sets desks → u < length desks → d ≡ slice_index_or desks u d → IsRight (set_at sets version) version d.marked
+pub right_at : (sets : List Tables) (version : ℕ) (desks : List DeskRows) (u : ℕ) (d : DeskRows) → AreRightDesks sets desks → u < length desks → d ≡ slice_index_or desks u d → IsRight (set_at sets version) version d.marked
 right_at sets version desks u d are inside e = right_of sets version d.marked (subst (λ (x : DeskRows). IsRightIn sets x.marked) (sym e) (are.right u d inside))
 
 pub all_one : {X : Type 0} (P : X → Type 0) (x : X) → P x → All P (x ∷ [])
@@ -205,7 +205,7 @@ found_first u d rest e = ap (λ (b : Bool). marked_in (cond b (Some d) (find (λ
 found_next : (u : ℕ) (d : DeskRows) (rest : List DeskRows) → d.unit ≢ u → desk_of u (d ∷ rest) ≡ desk_of u rest
 found_next u d rest n = ap (λ (b : Bool). marked_in (cond b (Some d) (find (λ x. x.unit == u) rest))) (ne_eqb d.unit u n)
 
-numbered : (sets : List Tables) (desks : List DeskRows) (u : ℕ) (d : DeskRows) → AreDesks sets desks → u < length desks → d ≡ slice_index_or desks u d → d.unit ≡ u
+numbered : (sets : List Tables) (desks : List DeskRows) (u : ℕ) (d : DeskRows) → AreRightDesks sets desks → u < length desks → d ≡ slice_index_or desks u d → d.unit ≡ u
 numbered sets desks u d are inside e = ap (λ (x : DeskRows). x.unit) e ∙ are.numbered u d inside
 
 pub decided_one : (w : WorldState) (p : ℕ) (k : Call) (l : View) (u : UnitChange) (d : DeskRows) (decision : Decision) (new : BookView) → Good (shown w) → IsSound w → phase_at (shown w) p ≡ Applied k l → l.plan ≡ One u → d ≡ slice_index_or w.desks.items u.unit d → Stands w.shelf new

@@ -16,7 +16,7 @@ use Rattle.mgn_plan.specs.declared.plans.UnitChange.{UnitChange}
 use Rattle.mgn_plan.specs.Plans.{moved_nets, nets_by, planned_nets}
 use Rattle.mgn_unit.specs.Rows.{nets_in, row_of}
 use Rattle.mgn_pricing.specs.Desks.{moves_of}
-use Rattle.mgn_world.specs.Claims.{HasPlan, IsAmong, Rests}
+use Rattle.mgn_world.specs.Claims.{HasPlan, IsAmong, IsAtRest}
 use Rattle.mgn_world.specs.declared.phases.Call.{Call}
 use Rattle.mgn_world.specs.declared.phases.Phase.{Phase}
 use Rattle.mgn_world.specs.declared.phases.Phase.TheVariants.{Idle, Held, Looked, Applied, Failed, Ended}
@@ -50,9 +50,9 @@ good_marked w p u k l good is there mine =
     subst (λ (phases : List Phase). Good (record w { desks = now; phases = phases })) (same_phase w p (Looked k l) is)
     (good_desks w p (Looked k l) now good there (length-set w.desks u marked) (session w p (Looked k l) good is)
     (λ x e. ⊎_elim
-    (λ (same : x ≡ u). subst (λ (i : ℕ). Rests w.sets w.state.accounts i (slice_index_or now i None)) (sym same)
-    (subst (Rests w.sets w.state.accounts u) (sym (get_or-set_same w.desks u marked None (desk_inside w p u good mine))) (view_inside w.sets w.state k l good.replayed.shown (session w p (Looked k l) good is).1, refl)))
-    (λ (other : x ≢ u). subst (Rests w.sets w.state.accounts x) (sym (get_or-set_other w.desks u x marked None other)) (held_desk w p x (Looked k l) good is e))
+    (λ (same : x ≡ u). subst (λ (i : ℕ). IsAtRest w.sets w.state.accounts i (slice_index_or now i None)) (sym same)
+    (subst (IsAtRest w.sets w.state.accounts u) (sym (get_or-set_same w.desks u marked None (desk_inside w p u good mine))) (view_inside w.sets w.state k l good.replayed.shown (session w p (Looked k l) good is).1, refl)))
+    (λ (other : x ≢ u). subst (IsAtRest w.sets w.state.accounts x) (sym (get_or-set_other w.desks u x marked None other)) (held_desk w p x (Looked k l) good is e))
     (cases_eq x u))
     (λ x n. get_or-set_other w.desks u x marked None (λ (e : x ≡ u). n (ap (lock_at w) e ∙ mine))))
   where
@@ -204,7 +204,7 @@ unplanned_other (Two u v) x d n =
 -- Apply
 
 -- a desk is of the looked version, with the nets of the unit
-pub ready : (sets : List Tables) (accounts : List AccountState) (version u : ℕ) (d : Option MarkedNets) → is_of version d ≡ true → Rests sets accounts u d → d ≡ marked version (nets_in (row_of (set_at sets version) accounts u))
+pub ready : (sets : List Tables) (accounts : List AccountState) (version u : ℕ) (d : Option MarkedNets) → is_of version d ≡ true → IsAtRest sets accounts u d → d ≡ marked version (nets_in (row_of (set_at sets version) accounts u))
 ready sets accounts version u None e rests = cc
 ready sets accounts version u (Some m) e rests =
     let same : m.version ≡ version = eqb-true m.version version e in
@@ -239,12 +239,12 @@ good_applied w p k l good is there all_of =
 
 -- Back
 
-unplanned_rests : (sets : List Tables) (accounts : List AccountState) (l : View) (u : ℕ) (d : Option MarkedNets) → l.version < length sets → HasPlan sets accounts l u d → Rests sets accounts u (unplanned_at l.plan u d)
+unplanned_rests : (sets : List Tables) (accounts : List AccountState) (l : View) (u : ℕ) (d : Option MarkedNets) → l.version < length sets → HasPlan sets accounts l u d → IsAtRest sets accounts u (unplanned_at l.plan u d)
 unplanned_rests sets accounts l u None there has = absurd has
 unplanned_rests sets accounts l u (Some m) there has =
     let nets = nets_in (row_of (set_at sets l.version) accounts u) in
     let now : Some m ≡ marked l.version (planned_nets l.plan u nets) = λ j. Some record { version = has.0 j; nets = has.1 j } in
-    subst (Rests sets accounts u) (sym (ap (unplanned_at l.plan u) (now ∙ sym (planned_nets_at l.plan u l.version nets)) ∙ unplanned_back l.plan u (marked l.version nets))) (there, refl)
+    subst (IsAtRest sets accounts u) (sym (ap (unplanned_at l.plan u) (now ∙ sym (planned_nets_at l.plan u l.version nets)) ∙ unplanned_back l.plan u (marked l.version nets))) (there, refl)
 
 pub good_backed : (w : World) (p : ℕ) (k : Call) (l : View) (again : Bool) → Good w → phase_at w p ≡ Failed k l again → p < length w.phases
     → Good (record w { desks = unplanned_desks l.plan w.desks; phases = slice_set w.phases p (if again then Held k else Ended k) })
@@ -252,7 +252,7 @@ good_backed w p k l again good is there = by again is
   where
     by : (b : Bool) → phase_at w p ≡ Failed k l b → Good (record w { desks = unplanned_desks l.plan w.desks; phases = slice_set w.phases p (if b then Held k else Ended k) })
     by b is = good_desks w p (if b then Held k else Ended k) (unplanned_desks l.plan w.desks) good there (unplanned_long l.plan w.desks) (after b is)
-        (λ u e. rests b u (subst (Rests w.sets w.state.accounts u) (sym (unplanned_desk l.plan w.desks u inside))
+        (λ u e. rests b u (subst (IsAtRest w.sets w.state.accounts u) (sym (unplanned_desk l.plan w.desks u inside))
         (unplanned_rests w.sets w.state.accounts l u (desk_at w u) (view_inside w.sets w.state k l good.replayed.shown ok.1) (held_desk w p u (Failed k l b) good is e))))
         (λ u n. unplanned_desk l.plan w.desks u inside ∙ unplanned_other l.plan u (desk_at w u) (λ h. n (plan_held w p u k l ok.0 ok.1 h)))
       where
@@ -266,6 +266,6 @@ good_backed w p k l again good is there = by again is
         after true is = let x = session w p (Failed k l true) good is in (x.0, omega (arith, x.1.looks, x.2))
         after false is = let x = session w p (Failed k l false) good is in (x.0, omega (arith, x.1.looks, x.1.version))
 
-        rests : (b : Bool) (u : ℕ) → Rests w.sets w.state.accounts u (slice_index_or (unplanned_desks l.plan w.desks) u None) → HeldDesk w.sets w.state.accounts u (slice_index_or (unplanned_desks l.plan w.desks) u None) (if b then Held k else Ended k)
+        rests : (b : Bool) (u : ℕ) → IsAtRest w.sets w.state.accounts u (slice_index_or (unplanned_desks l.plan w.desks) u None) → HeldDesk w.sets w.state.accounts u (slice_index_or (unplanned_desks l.plan w.desks) u None) (if b then Held k else Ended k)
         rests true u h = h
         rests false u h = h

@@ -11,7 +11,7 @@ use Rattle.mgn_machine.specs.Refusals.{IsKnown}
 use Rattle.mgn_machine.specs.State.{AccountState, State}
 use Rattle.mgn_plan.specs.declared.plans.Plan.{Plan}
 use Rattle.mgn_plan.specs.Plans.{plan_of, planned_nets}
-use Rattle.mgn_world.specs.Claims.{HasPlan, IsAmong, IsReplayed, Rests, before_close}
+use Rattle.mgn_world.specs.Claims.{HasPlan, IsAmong, IsReplayed, IsAtRest, before_close}
 use Rattle.mgn_world.specs.declared.phases.Call.{Call}
 use Rattle.mgn_world.specs.declared.phases.Phase.{Phase}
 use Rattle.mgn_world.specs.declared.phases.Phase.TheVariants.{Idle, Held, Looked, Applied, Failed, Ended, Gathered}
@@ -48,7 +48,7 @@ holder (Some q) p = ⊎_elim (λ (e : q ≡ p). inl (ap (λ (n : ℕ). Some n) e
 pub planned_same : (plan : Plan) (t t' : Tables) (xs ys : List AccountState) (u : ℕ) → unit_nets t' ys u ≡ unit_nets t xs u → planned plan t' ys u ≡ planned plan t xs u
 planned_same plan t t' xs ys u e = ap (planned_nets plan u) e
 
-pub rests_kept : (M : ℕ → Type 0) (sets now : List Tables) (xs ys : List AccountState) (u : ℕ) (d : Option MarkedNets) → length sets ≤ length now → ((i : ℕ) → i < length sets → set_at now i ≡ set_at sets i) → M u → Keeps M xs ys → Rests sets xs u d → Rests now ys u d
+pub rests_kept : (M : ℕ → Type 0) (sets now : List Tables) (xs ys : List AccountState) (u : ℕ) (d : Option MarkedNets) → length sets ≤ length now → ((i : ℕ) → i < length sets → set_at now i ≡ set_at sets i) → M u → Keeps M xs ys → IsAtRest sets xs u d → IsAtRest now ys u d
 rests_kept M sets now xs ys u None long same alone keeps rests = tt
 rests_kept M sets now xs ys u (Some m) long same alone keeps rests = (
   omega (arith, rests.0, long),
@@ -56,7 +56,7 @@ rests_kept M sets now xs ys u (Some m) long same alone keeps rests = (
 )
 
 -- where no net of the unit changed
-pub rests_same : (sets : List Tables) (xs ys : List AccountState) (u : ℕ) (d : Option MarkedNets) → ((t : Tables) → unit_nets t ys u ≡ unit_nets t xs u) → Rests sets xs u d → Rests sets ys u d
+pub rests_same : (sets : List Tables) (xs ys : List AccountState) (u : ℕ) (d : Option MarkedNets) → ((t : Tables) → unit_nets t ys u ≡ unit_nets t xs u) → IsAtRest sets xs u d → IsAtRest sets ys u d
 rests_same sets xs ys u None same rests = tt
 rests_same sets xs ys u (Some m) same rests = (rests.0, rests.1 ∙ sym (same (set_at sets m.version)))
 

@@ -14,7 +14,7 @@ use Rattle.mgn_machine.specs.Step.{step, step_under}
 use Rattle.mgn_machine.specs.State.{State}
 use Rattle.mgn_machine.proofs.Versions.{keeps_version}
 use Rattle.mgn_plan.specs.Plans.{plan_of}
-use Rattle.mgn_world.specs.Claims.{HasPlan, IsAmong, IsIn, IsReached, Rests, before_close, call_in, shown_now}
+use Rattle.mgn_world.specs.Claims.{HasPlan, IsAmong, IsIn, IsReached, IsAtRest, before_close, call_in, shown_now}
 use Rattle.mgn_world.specs.declared.phases.Call.{Call}
 use Rattle.mgn_world.specs.declared.phases.Deed.TheVariants.{Commit}
 use Rattle.mgn_world.specs.declared.phases.Phase.{Phase}
@@ -33,7 +33,7 @@ use Rattle.mgn_world.specs.Standing.{DeskOf, Good, HeldDesk, Owns, PhaseOf, Sees
 pub good_reached : (w : World) → IsReached w → Good w
 good_reached w r = subst Good (sym r.is) (good_run (opening r.set) r.steps r.gathered (good_opening r.set r.limits))
 
-pub free_rests : (w : World) (u : ℕ) → IsReached w → lock_at w u ≡ None → Rests w.sets w.state.accounts u (desk_at w u)
+pub free_rests : (w : World) (u : ℕ) → IsReached w → lock_at w u ≡ None → IsAtRest w.sets w.state.accounts u (desk_at w u)
 free_rests w u r e = subst (DeskOf w.sets w.state.accounts w.phases u (desk_at w u)) e ((good_reached w r).desks u)
 
 pub failed_plan : (w : World) (p u : ℕ) (k : Call) (l : View) (again : Bool) → Good w → phase_at w p ≡ Failed k l again → IsAmong u (plan_units l.plan) → HasPlan w.sets w.state.accounts l u (desk_at w u)

@@ -11,7 +11,7 @@ use Rattle.mgn_desk.specs.Desks.{DeskRows, IsMarkedBy, MarkedNets, Requires, mar
 use Rattle.std.specs.Prelude.{All, replicate}
 use Rattle.std.proofs.lemmas.List.Elements.{All-replicate}
 use Rattle.mgn_world.specs.declared.phases.Phase.TheVariants.{Idle}
-use Rattle.mgn_world.specs.DeskMoves.{AreDesks, IsReadyFor, IsRightIn, desk_shown}
+use Rattle.mgn_world.specs.DeskMoves.{AreRightDesks, IsReadyFor, IsRightIn, desk_shown}
 use Rattle.mgn_world.specs.Worlds.{IsPhase, required}
 
 pub shows_set : (desks : List DeskRows) (u : ℕ) (d e : DeskRows) (f : Option MarkedNets → Option MarkedNets) → u < length desks → desk_shown d ≡ f (desk_shown (slice_index_or desks u e)) → map desk_shown (slice_set desks u d) ≡ slice_set (map desk_shown desks) u (f (slice_index_or (map desk_shown desks) u None))
@@ -35,7 +35,7 @@ change_more f d xs i inside =
     let e : suc i ≡ i + 1 = omega arith in
     change_next f d xs i inside ∙ ap (λ (n : ℕ). map f (take n xs) ++ drop n xs) e
 
-pub no_desks : (sets : List Tables) → AreDesks sets []
+pub no_desks : (sets : List Tables) → AreRightDesks sets []
 no_desks sets = record { numbered = λ u d inside. absurd (omega (arith, inside)); right = λ i d inside. absurd (omega (arith, inside)) }
 
 pub sixteen_idle : (sets : List Tables) (units n : ℕ) → All (IsPhase sets units) (replicate n Idle)

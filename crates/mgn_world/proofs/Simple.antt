@@ -13,7 +13,7 @@ use Rattle.mgn_machine.specs.State.{AccountState, State, account_at, no_account}
 use Rattle.mgn_plan.specs.declared.plans.Plan.{Plan}
 use Rattle.mgn_plan.specs.declared.plans.Plan.TheVariants.{Nothing}
 use Rattle.mgn_plan.specs.Plans.{plan_of}
-use Rattle.mgn_world.specs.Claims.{IsAmong, Rests, before_close}
+use Rattle.mgn_world.specs.Claims.{IsAmong, IsAtRest, before_close}
 use Rattle.mgn_world.specs.declared.phases.Call.{Call}
 use Rattle.mgn_world.specs.declared.phases.Phase.{Phase}
 use Rattle.mgn_world.specs.declared.phases.Phase.TheVariants.{Idle, Held}
@@ -140,7 +140,7 @@ good_taken w p c good idle there some free =
     }
 
 -- the units of a session given back, where their desks rest
-pub good_finished : (w : World) (p : ℕ) (st : Phase) → Good w → phase_at w p ≡ st → p < length w.phases → ((u : ℕ) (d : Option MarkedNets) → HeldDesk w.sets w.state.accounts u d st → Rests w.sets w.state.accounts u d) → Good (finished w p)
+pub good_finished : (w : World) (p : ℕ) (st : Phase) → Good w → phase_at w p ≡ st → p < length w.phases → ((u : ℕ) (d : Option MarkedNets) → HeldDesk w.sets w.state.accounts u d st → IsAtRest w.sets w.state.accounts u d) → Good (finished w p)
 good_finished w p st good is there on =
     good_after w v p good record {
       version = omega arith;

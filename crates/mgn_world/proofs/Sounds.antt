@@ -19,7 +19,7 @@ use Rattle.mgn_world.specs.declared.state.WorldState.{WorldState}
 use Rattle.mgn_world.specs.declared.phases.Call.{Call}
 use Rattle.mgn_world.specs.declared.phases.Phase.{Phase}
 use Rattle.mgn_world.specs.declared.phases.Phase.TheVariants.{Idle, Held, Looked, Applied, Failed, Ended, Gathered}
-use Rattle.mgn_world.specs.DeskMoves.{AreDesks, IsRightIn}
+use Rattle.mgn_world.specs.DeskMoves.{AreRightDesks, IsRightIn}
 use Rattle.mgn_world.specs.Phases.{View}
 use Rattle.mgn_world.specs.declared.phases.Seen.{Seen}
 use Rattle.mgn_world.specs.World.{World, applies, are_of, phase_at, planned_desks}
@@ -65,7 +65,7 @@ less_or zero (suc b) = inl (omega arith)
 less_or (suc a) zero = inr (omega arith)
 less_or (suc a) (suc b) = ⊎_elim (λ h. inl (omega (arith, h))) (λ h. inr (omega (arith, h))) (less_or a b)
 
-pub desk_pushed : (sets : List Tables) (desks : List DeskRows) (d : DeskRows) → d.unit ≡ length desks → d.marked ≡ None → AreDesks sets desks → AreDesks sets (desks ++ d ∷ [])
+pub desk_pushed : (sets : List Tables) (desks : List DeskRows) (d : DeskRows) → d.unit ≡ length desks → d.marked ≡ None → AreRightDesks sets desks → AreRightDesks sets (desks ++ d ∷ [])
 desk_pushed sets desks d unit empty are = record {
   numbered = λ u x inside. by u x inside (less_or u (length desks));
   right = All-append (λ (y : DeskRows). IsRightIn sets y.marked) desks (d ∷ []) are.right (λ i x inside. last i x inside);
@@ -109,11 +109,11 @@ phase_more sets m n (Gathered g) le is = is
 pub phases_more : (sets : List Tables) (m n : ℕ) (phases : List Phase) → m ≤ n → All (IsPhase sets m) phases → All (IsPhase sets n) phases
 phases_more sets m n phases le all i d inside = phase_more sets m n (get_or phases i d) le (all i d inside)
 
-pub housed_sound : (w v : WorldState) → IsSound w → v.shelf ≡ w.shelf → Stands v.shelf v.book → v.phases ≡ w.phases → AreDesks w.shelf v.desks.items → length w.desks.items ≤ length v.desks.items → IsSound v
+pub housed_sound : (w v : WorldState) → IsSound w → v.shelf ≡ w.shelf → Stands v.shelf v.book → v.phases ≡ w.phases → AreRightDesks w.shelf v.desks.items → length w.desks.items ≤ length v.desks.items → IsSound v
 housed_sound w v sound shelf stands phases desks more = record {
   book = stands;
   sixteen = ap (λ (x : Vec Phase Global). length x.items) phases ∙ sound.sixteen;
-  desks = subst (λ (sets : List Tables). AreDesks sets v.desks.items) (sym shelf) desks;
+  desks = subst (λ (sets : List Tables). AreRightDesks sets v.desks.items) (sym shelf) desks;
   phases = subst (λ (sets : List Tables). All (IsPhase sets (length v.desks.items)) v.phases.items) (sym shelf)
       (subst (λ (x : Vec Phase Global). All (IsPhase w.shelf (length v.desks.items)) x.items) (sym phases) (phases_more w.shelf (length w.desks.items) (length v.desks.items) w.phases.items more sound.phases));
 }
@@ -127,7 +127,7 @@ pub after_sound : (w v : WorldState) (p : ℕ) (st : Phase) → IsSound w → v.
 after_sound w v p st sound shelf stands desks is put = record {
   book = stands;
   sixteen = ap (λ (xs : List Phase). length xs) put ∙ length-set w.phases.items p st ∙ sound.sixteen;
-  desks = subst (λ (sets : List Tables). AreDesks sets v.desks.items) (sym shelf) (subst (λ (x : Vec DeskRows Global). AreDesks w.shelf x.items) (sym desks) sound.desks);
+  desks = subst (λ (sets : List Tables). AreRightDesks sets v.desks.items) (sym shelf) (subst (λ (x : Vec DeskRows Global). AreRightDesks w.shelf x.items) (sym desks) sound.desks);
   phases = subst (λ (sets : List Tables). All (IsPhase sets (length v.desks.items)) v.phases.items) (sym shelf)
       (subst (λ (x : Vec DeskRows Global). All (IsPhase w.shelf (length x.items)) v.phases.items) (sym desks)
       (subst (All (IsPhase w.shelf (length w.desks.items))) (sym put) (phases_set w.shelf (length w.desks.items) (length w.desks.items) w.phases.items p st refl is sound.phases)));
@@ -181,7 +181,7 @@ grown_sound w v p t reply sound shelf stands desks put =
     record {
       book = stands;
       sixteen = ap (λ (xs : List Phase). length xs) put ∙ length-set w.phases.items p Idle ∙ sound.sixteen;
-      desks = subst (λ (sets : List Tables). AreDesks sets v.desks.items) (sym now) (subst (λ (x : Vec DeskRows Global). AreDesks (w.shelf ++ after.0) x.items) (sym desks) record {
+      desks = subst (λ (sets : List Tables). AreRightDesks sets v.desks.items) (sym now) (subst (λ (x : Vec DeskRows Global). AreRightDesks (w.shelf ++ after.0) x.items) (sym desks) record {
         numbered = sound.desks.numbered;
         right = λ i d inside. right_more w.shelf after.0 (get_or w.desks.items i d).marked (sound.desks.right i d inside);
       });

@@ -49,9 +49,9 @@ IsAmong u [] = ⊥
 IsAmong u (v ∷ vs) = (u ≡ v) ⊎ IsAmong u vs
 
 -- a desk is empty, or has the nets of the unit under the set of its own version
-abbrev pub Rests : List Tables → List AccountState → ℕ → Option MarkedNets → Type 0
-Rests sets accounts u None = Unit {0}
-Rests sets accounts u (Some m) = (m.version < length sets) × (m.nets ≡ unit_nets (set_at sets m.version) accounts u)
+abbrev pub IsAtRest : List Tables → List AccountState → ℕ → Option MarkedNets → Type 0
+IsAtRest sets accounts u None = Unit {0}
+IsAtRest sets accounts u (Some m) = (m.version < length sets) × (m.nets ≡ unit_nets (set_at sets m.version) accounts u)
 
 -- a desk is of the looked version, and has the unit's nets changed by exactly the plan
 abbrev pub HasPlan : List Tables → List AccountState → View → ℕ → Option MarkedNets → Type 0

@@ -19,7 +19,7 @@ IsRightIn sets None = Unit {0}
 IsRightIn sets (Some m) = (m.version < length sets) × ArePortfolios (set_at sets m.version) m.portfolios
 
 -- each desk is that of the unit at its place, and right
-pub record AreDesks (sets : List Tables) (desks : List DeskRows) : Type 0 where
+pub record AreRightDesks (sets : List Tables) (desks : List DeskRows) : Type 0 where
   pub numbered : (u : ℕ) (d : DeskRows) → u < length desks → (slice_index_or desks u d).unit ≡ u
   pub right : All (λ (d : DeskRows). IsRightIn sets d.marked) desks
 

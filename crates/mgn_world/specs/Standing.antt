@@ -10,7 +10,7 @@ use Rattle.mgn_machine.specs.Refusals.{IsKnown}
 use Rattle.mgn_machine.specs.State.{AccountState, State}
 use Rattle.mgn_plan.specs.declared.plans.Plan.TheVariants.{Nothing}
 use Rattle.mgn_plan.specs.Plans.{plan_of}
-use Rattle.mgn_world.specs.Claims.{HasPlan, IsAmong, IsReplayed, Rests, before_close}
+use Rattle.mgn_world.specs.Claims.{HasPlan, IsAmong, IsReplayed, IsAtRest, before_close}
 use Rattle.mgn_world.specs.declared.phases.Call.{Call}
 use Rattle.mgn_world.specs.declared.phases.Phase.{Phase}
 use Rattle.mgn_world.specs.declared.phases.Phase.TheVariants.{Idle, Held, Looked, Applied, Failed, Ended, Gathered}
@@ -20,16 +20,16 @@ use Rattle.mgn_world.specs.World.{World, desk_at, in_force, lock_at, phase_at, p
 -- the desk of a unit that a session holds, by the session's phase
 abbrev pub HeldDesk : List Tables → List AccountState → ℕ → Option MarkedNets → Phase → Type 0
 HeldDesk sets accounts u d Idle = ⊥
-HeldDesk sets accounts u d (Held k) = Rests sets accounts u d
-HeldDesk sets accounts u d (Looked k l) = Rests sets accounts u d
+HeldDesk sets accounts u d (Held k) = IsAtRest sets accounts u d
+HeldDesk sets accounts u d (Looked k l) = IsAtRest sets accounts u d
 HeldDesk sets accounts u d (Applied k l) = HasPlan sets accounts l u d
 HeldDesk sets accounts u d (Failed k l again) = HasPlan sets accounts l u d
-HeldDesk sets accounts u d (Ended k) = Rests sets accounts u d
+HeldDesk sets accounts u d (Ended k) = IsAtRest sets accounts u d
 HeldDesk sets accounts u d (Gathered g) = ⊥
 
 -- the desk of any unit
 abbrev pub DeskOf : List Tables → List AccountState → List Phase → ℕ → Option MarkedNets → Option ℕ → Type 0
-DeskOf sets accounts phases u d None = Rests sets accounts u d
+DeskOf sets accounts phases u d None = IsAtRest sets accounts u d
 DeskOf sets accounts phases u d (Some p) = HeldDesk sets accounts u d (slice_index_or phases p Idle)
 
 -- Sessions.

@@ -1,7 +1,5 @@
 -- The world of sessions: its state, and what each step does to it (own profile). Rows and figures are functions of the
 -- state, so it has none.
-use Rattle.std.specs.Cmp.Lexicographic.{pointwise}
-use Rattle.std.specs.Ordering.{int_eq}
 use Rattle.std.specs.Prelude.{ℕ, zero, suc, ◌+◌, ◌-◌, ◌==◌, ◌&&◌, ◌||◌, Bool, true, false, not, Option, None, Some, List, [], ◌∷◌, ◌++◌, length, map, replicate, slice_index_or, slice_set, if◌then◌else◌, nat_le, nat_lt, Result, Ok, Err}
 use Rattle.std.specs.List.{range_with_len}
 use Rattle.mgn_params.specs.Shelves.{set_at}
@@ -28,6 +26,7 @@ use Rattle.mgn_plan.specs.declared.plans.Plan.TheVariants.{Nothing, One, Two}
 use Rattle.mgn_plan.specs.declared.plans.UnitChange.{UnitChange}
 use Rattle.mgn_plan.specs.Plans.{plan_of, planned_nets}
 use Rattle.mgn_pricing.specs.Desks.{moves_of}
+use Rattle.mgn_pricing.specs.Given.{same_four}
 use Rattle.mgn_book.specs.BookViews.{sets_after}
 use Rattle.mgn_world.specs.declared.phases.Call.{Call}
 use Rattle.mgn_world.specs.declared.phases.Deed.{Deed}
@@ -248,16 +247,11 @@ are_stale version desks (x ∷ xs) = is_stale version (slice_index_or desks x.un
 abbrev pub planned : Plan → Tables → List AccountState → ℕ → UnitNets
 planned plan set accounts u = planned_nets plan u (nets_in (row_of set accounts u))
 
-abbrev pub same_nets : UnitNets → UnitNets → Bool
-same_nets a b =
-    pointwise int_eq a.lots b.lots && pointwise int_eq a.buys b.buys && pointwise int_eq a.sales b.sales
-    && pointwise int_eq a.all b.all
-
 -- a desk is of the version in force, and has the nets of the unit after the plan
 abbrev pub is_fit : World → Plan → ℕ → Option MarkedNets → Bool
 is_fit w plan u None = false
 is_fit w plan u (Some m) =
-    (m.version == w.state.version) && same_nets m.nets (planned plan (in_force w) w.state.accounts u)
+    (m.version == w.state.version) && same_four m.nets (planned plan (in_force w) w.state.accounts u)
 
 abbrev pub are_fit : World → Plan → List ℕ → Bool
 are_fit w plan [] = true

@@ -15,7 +15,7 @@ use Rattle.mgn_book.specs.BookViews.{Stands}
 use Rattle.mgn_world.specs.declared.phases.Phase.{Phase}
 use Rattle.mgn_world.specs.declared.phases.Phase.TheVariants.{Idle, Held, Looked, Applied, Failed, Ended, Gathered}
 use Rattle.mgn_world.specs.declared.state.WorldState.{WorldState}
-use Rattle.mgn_world.specs.DeskMoves.{AreDesks, desk_shown}
+use Rattle.mgn_world.specs.DeskMoves.{AreRightDesks, desk_shown}
 use Rattle.mgn_world.specs.Phases.{Gathering, View}
 use Rattle.mgn_world.specs.declared.phases.Seen.{Seen}
 use Rattle.mgn_world.specs.World.{World, in_force, no_nets}
@@ -93,5 +93,5 @@ IsPhase sets units (Gathered g) = IsGathered sets g
 pub record IsSound (w : WorldState) : Type 0 where
   pub book : Stands w.shelf w.book
   pub sixteen : length w.phases.items ≡ 16
-  pub desks : AreDesks w.shelf w.desks.items
+  pub desks : AreRightDesks w.shelf w.desks.items
   pub phases : All (IsPhase w.shelf (length w.desks.items)) w.phases.items

@@ -7,7 +7,7 @@ ghost use Rattle.mgn_machine.specs.declared.reply.Reply.TheVariants.{Refused};
 ghost use Rattle.mgn_machine.specs.declared.request.Request.TheVariants.{Do};
 ghost use Rattle.mgn_machine.specs.Step.{step};
 ghost use Rattle.mgn_plan.specs.Plans.{plan_of};
-ghost use Rattle.mgn_world.specs.Claims.{HasPlan, IsAmong, IsIn, IsReached, IsReplayed, KeepsSets, Rests, Switches, before_close, shown_now};
+ghost use Rattle.mgn_world.specs.Claims.{HasPlan, IsAmong, IsIn, IsReached, IsReplayed, KeepsSets, IsAtRest, Switches, before_close, shown_now};
 ghost use Rattle.mgn_world.specs.declared.phases.Call.{Call};
 ghost use Rattle.mgn_world.specs.declared.phases.Deed.TheVariants.{Commit};
 ghost use Rattle.mgn_world.specs.declared.phases.Phase.TheVariants.{Applied, Ended, Failed};
@@ -24,7 +24,7 @@ pub fn every_list()
 
 /// A law, and no work: where no session holds a unit, its desk is empty or has the unit's nets.
 pub fn free_unit_rests()
-    ensures { (w : World) (u : ℕ) → IsReached w → lock_at w u ≡ None → Rests w.sets w.state.accounts u (desk_at w u) }
+    ensures { (w : World) (u : ℕ) → IsReached w → lock_at w u ≡ None → IsAtRest w.sets w.state.accounts u (desk_at w u) }
 {}
 
 /// A law, and no work: from the Apply of a call to its done Commit or its Back, the desk of each unit of its plan has

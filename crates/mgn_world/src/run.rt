@@ -2,7 +2,7 @@
 
 ghost use Rattle.std.specs.Prelude.{◌≡◌, IfOk, OnOk, map};
 ghost use Rattle.mgn_world.specs.Claims.{IsLimited, IsReached, IsReplayed};
-ghost use Rattle.mgn_world.specs.DeskMoves.{AreDesks, desk_shown};
+ghost use Rattle.mgn_world.specs.DeskMoves.{AreRightDesks, desk_shown};
 ghost use Rattle.mgn_world.specs.Standing.{Good};
 ghost use Rattle.mgn_world.specs.World.{desk_at, next, opening, run};
 ghost use Rattle.mgn_world.specs.Worlds.{AreRows, IsSound, required, shown};
@@ -114,7 +114,7 @@ impl World {
     /// The desks, by the numbers of their units.
     pub fn desks(&self) -> &[Desk]
         ensures shown { map desk_shown result.now ≡ self.now.desks }
-        ensures right { AreDesks self.now.sets result.now }
+        ensures right { AreRightDesks self.now.sets result.now }
     {
         self.kept.desks.as_slice()
     }

@@ -5,7 +5,7 @@ ghost use Rattle.mgn_params.specs.Tables.{Tables};
 ghost use Rattle.mgn_machine.specs.declared.request.Request.TheVariants.{Do};
 ghost use Rattle.mgn_plan.specs.declared.plans.Plan.TheVariants.{Nothing};
 ghost use Rattle.mgn_plan.specs.Plans.{plan_of};
-ghost use Rattle.mgn_world.specs.DeskMoves.{AreDesks, desk_shown};
+ghost use Rattle.mgn_world.specs.DeskMoves.{AreRightDesks, desk_shown};
 ghost use Rattle.mgn_world.specs.Standing.{Good};
 ghost use Rattle.mgn_world.specs.World.{entered, finished, in_force, lengthened, opening};
 ghost use Rattle.mgn_world.specs.Worlds.{IsSound, shown};
@@ -61,8 +61,8 @@ impl WorldState {
             lengthened (length self.old.book.book.rows) (map desk_shown self.old.desks.items)) }
         ensures locks { OnOk result (self.new.locks.items ≡
             lengthened (length self.old.book.book.rows) self.old.locks.items) }
-        ensures sound { OnOk result (AreDesks self.old.shelf self.old.desks.items →
-            AreDesks self.old.shelf self.new.desks.items) }
+        ensures sound { OnOk result (AreRightDesks self.old.shelf self.old.desks.items →
+            AreRightDesks self.old.shelf self.new.desks.items) }
         ensures grown { OnOk result (length self.old.desks.items ≤ length self.new.desks.items) }
         ensures shelf { self.new.shelf ≡ self.old.shelf }
         ensures book { self.new.book ≡ self.old.book }
@@ -124,7 +124,7 @@ pub(crate) fn session_at(place: usize) -> SessionNo
 fn more_desks(desks: &mut Vec<Desk>, units: usize) -> Result<(), AllocError>
     ensures shown { OnOk result (map desk_shown desks.new.items ≡ lengthened units (map desk_shown desks.old.items)) }
     ensures grown { OnOk result (length desks.old.items ≤ length desks.new.items) }
-    ensures sound { OnOk result ((sets : List Tables) → AreDesks sets desks.old.items → AreDesks sets desks.new.items) }
+    ensures sound { OnOk result ((sets : List Tables) → AreRightDesks sets desks.old.items → AreRightDesks sets desks.new.items) }
 {
     for unit in desks.len()..units {
         desks.push(Desk::empty(unit))?;

@@ -5,7 +5,7 @@ ghost use Rattle.mgn_params.specs.Shelves.{set_at};
 ghost use Rattle.mgn_nets.specs.Portfolios.{AreUnitNets};
 ghost use Rattle.mgn_desk.specs.Portfolios.{opposite};
 ghost use Rattle.mgn_pricing.specs.Desks.{moves_of};
-ghost use Rattle.mgn_world.specs.DeskMoves.{AreDesks, AreReadyFor, CanGiveBack, IsReadyFor, desk_shown};
+ghost use Rattle.mgn_world.specs.DeskMoves.{AreRightDesks, AreReadyFor, CanGiveBack, IsReadyFor, desk_shown};
 ghost use Rattle.mgn_world.specs.declared.phases.Seen.{Seen as SeenNets};
 ghost use Rattle.mgn_world.specs.World.{are_of, desks_with, desks_without, mark_first, planned_desks, unplanned_desks};
 
@@ -37,13 +37,13 @@ fn mark(
     version: Version,
     seen: &Seen,
 ) -> Result<(), AllocError>
-    requires desks { AreDesks shelf.now desks.old }
+    requires desks { AreRightDesks shelf.now desks.old }
     requires version { version < length shelf.now }
     requires unit { seen.now.unit < length desks.old }
     requires nets { AreUnitNets (set_at shelf.now version) seen.now.nets }
     ensures marked { OnOk result (map desk_shown desks.new ≡
         slice_set (map desk_shown desks.old) seen.now.unit (Some record { version = version; nets = seen.now.nets })) }
-    ensures desks { OnOk result (AreDesks shelf.now desks.new) }
+    ensures desks { OnOk result (AreRightDesks shelf.now desks.new) }
     ensures long { length desks.new ≡ length desks.old }
 {
     let Some(set) = shelf.get(version) else {
@@ -62,12 +62,12 @@ pub(crate) fn mark_first(
     version: Version,
     seen: &[Seen],
 ) -> Result<(), AllocError>
-    requires desks { AreDesks shelf.now desks.old }
+    requires desks { AreRightDesks shelf.now desks.old }
     requires version { version < length shelf.now }
     requires there { All (λ (x : SeenNets). x.unit < length desks.old) seen.now }
     requires nets { All (λ (x : SeenNets). AreUnitNets (set_at shelf.now version) x.nets) seen.now }
     ensures marked { OnOk result (map desk_shown desks.new ≡ mark_first version seen.now (map desk_shown desks.old)) }
-    ensures desks { OnOk result (AreDesks shelf.now desks.new) }
+    ensures desks { OnOk result (AreRightDesks shelf.now desks.new) }
     ensures long { length desks.new ≡ length desks.old }
 {
     for one in seen {
@@ -80,12 +80,12 @@ pub(crate) fn mark_first(
 
 // Moves the desk of a unit as a change of its row says.
 fn apply_one(desks: &mut [Desk], shelf: &SetList, version: Version, change: &UnitChange)
-    requires desks { AreDesks shelf.now desks.old }
+    requires desks { AreRightDesks shelf.now desks.old }
     requires version { version < length shelf.now }
     requires ready { IsReadyFor (set_at shelf.now version) version (moves_of change.now.change)
         (slice_index_or (map desk_shown desks.old) change.now.unit None) }
     ensures moved { map desk_shown desks.new ≡ desks_with change.now (map desk_shown desks.old) }
-    ensures desks { AreDesks shelf.now desks.new }
+    ensures desks { AreRightDesks shelf.now desks.new }
     ensures long { length desks.new ≡ length desks.old }
 {
     let Some(set) = shelf.get(version) else {
@@ -96,12 +96,12 @@ fn apply_one(desks: &mut [Desk], shelf: &SetList, version: Version, change: &Uni
 
 // Moves it back.
 fn take_back_one(desks: &mut [Desk], shelf: &SetList, version: Version, change: &UnitChange)
-    requires desks { AreDesks shelf.now desks.old }
+    requires desks { AreRightDesks shelf.now desks.old }
     requires version { version < length shelf.now }
     requires ready { IsReadyFor (set_at shelf.now version) version (opposite (moves_of change.now.change))
         (slice_index_or (map desk_shown desks.old) change.now.unit None) }
     ensures moved { map desk_shown desks.new ≡ desks_without change.now (map desk_shown desks.old) }
-    ensures desks { AreDesks shelf.now desks.new }
+    ensures desks { AreRightDesks shelf.now desks.new }
     ensures long { length desks.new ≡ length desks.old }
 {
     let Some(set) = shelf.get(version) else {
@@ -112,11 +112,11 @@ fn take_back_one(desks: &mut [Desk], shelf: &SetList, version: Version, change: 
 
 /// Moves the desks of a plan's units as the plan says.
 pub(crate) fn apply(desks: &mut [Desk], shelf: &SetList, version: Version, plan: &Plan)
-    requires desks { AreDesks shelf.now desks.old }
+    requires desks { AreRightDesks shelf.now desks.old }
     requires version { version < length shelf.now }
     requires ready { AreReadyFor (set_at shelf.now version) version plan.now (map desk_shown desks.old) }
     ensures moved { map desk_shown desks.new ≡ planned_desks plan.now (map desk_shown desks.old) }
-    ensures desks { AreDesks shelf.now desks.new }
+    ensures desks { AreRightDesks shelf.now desks.new }
     ensures long { length desks.new ≡ length desks.old }
 {
     match plan {
@@ -131,11 +131,11 @@ pub(crate) fn apply(desks: &mut [Desk], shelf: &SetList, version: Version, plan:
 
 /// Takes a plan back from the desks of its units.
 pub(crate) fn take_back(desks: &mut [Desk], shelf: &SetList, version: Version, plan: &Plan)
-    requires desks { AreDesks shelf.now desks.old }
+    requires desks { AreRightDesks shelf.now desks.old }
     requires version { version < length shelf.now }
     requires ready { CanGiveBack (set_at shelf.now version) version plan.now (map desk_shown desks.old) }
     ensures moved { map desk_shown desks.new ≡ unplanned_desks plan.now (map desk_shown desks.old) }
-    ensures desks { AreDesks shelf.now desks.new }
+    ensures desks { AreRightDesks shelf.now desks.new }
     ensures long { length desks.new ≡ length desks.old }
 {
     match plan {

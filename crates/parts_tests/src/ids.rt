@@ -2,7 +2,7 @@
 
 use mgn_ids::{
     AccountName, ClassName, CommodityName, ContractName, IdFault, LotId, LotQuantity, OrderId,
-    OriginName, Places, Premium, SessionNo, SetName, UnitNo, Units,
+    OriginName, Places, Premium, SessionNo, SetName, Units,
 };
 use std::test::Fail;
 
@@ -74,14 +74,10 @@ fn other_numbers_are_refused(rt: HostRuntime) {
 }
 
 #[test]
-fn sessions_and_units_are_numbered(rt: HostRuntime) {
+fn sessions_are_numbered(rt: HostRuntime) {
     assert_eq!(rt;
         (SessionNo::new(1).number(), SessionNo::new(16).number()),
         (1, 16)
-    );
-    assert_eq!(rt;
-        (UnitNo::new(1).number(), UnitNo::new(1024).number()),
-        (1, 1024)
     );
 }
 

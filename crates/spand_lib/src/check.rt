@@ -7,7 +7,8 @@ use std::io::ErrorKind;
 use std::rt::Files;
 use std::{io, str};
 
-/// Tells on standard output what a set has. Where its file is no set, the fault tells the first faulty record and why.
+/// Tells on standard output what a set has. Where its file is no set, the fault tells the first faulty record and why
+/// (`BadRecord`); `NoSet` where there is no file of it to be had, `Output` where standard output fails, and `Memory`.
 pub fn run<R: Files + Print + AllocGlobal>(rt: &R, file: &SetPath) -> Result<(), Fault> {
     let mut folder = Folder::new(rt, file.dir.as_str());
     match set::read(rt.alloc(), &mut folder, file.set.as_str()) {

@@ -94,7 +94,8 @@ fn of_source(fault: SourceFault) -> Fault
     }
 }
 
-/// The set of a name with the version of its format, by its file in a folder.
+/// The set of a name with the version of its format, by its file in a folder. `NoSet` where the name is none, or the folder
+/// gives no file of it; `BadSet` where the file is no set; and `Memory`.
 pub fn read<S: SetSource>(alloc: Global, folder: &mut S, name: &str) -> Result<SetFile, Fault>
     ensures { ReadsNamed S.gives folder.old (name_in name.now) result folder.new }
 {

@@ -3,7 +3,7 @@ use Rattle.std.specs.Prelude.{◌≡◌, ℕ, List}
 use Rattle.std.specs.List.{All, AllZip}
 use Rattle.mgn_params.specs.Tables.{Tables}
 use Rattle.mgn_machine.specs.declared.entry.Entry.{Entry}
-use Rattle.mgn_ledger.specs.Ledgers.{Answers as PassAnswers}
+use Rattle.mgn_ledger.specs.Ledgers.{PassAnswers}
 use Rattle.mgn_ledger.specs.Passes.{AreAudited, PassView, fresh, transcript}
 use Rattle.mgn_session.specs.Session.{Answers, Calls, Fetch, Step}
 use Rattle.mgn_server.specs.Served.{Serves}

@@ -39,7 +39,8 @@ pub struct Writers<O, F> {
     pub errors: F,
 }
 
-/// Serves sessions over connections under a first set, and returns once all of them have ended.
+/// Serves sessions over connections under a first set, and returns once all of them have ended. `Memory` where the
+/// book's service is refused memory, `Port` where the listener is not to be had; else as `serve`.
 pub fn run<
     R: Threads + Wait + Sync,
     W: Switches + Sync,

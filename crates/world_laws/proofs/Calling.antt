@@ -11,7 +11,7 @@ use Rattle.mgn_machine.specs.State.{AccountState}
 use Rattle.mgn_plan.specs.declared.plans.Plan.{Plan}
 use Rattle.mgn_plan.specs.declared.plans.Plan.TheVariants.{Nothing, One, Two}
 use Rattle.mgn_plan.specs.Plans.{plan_of}
-use Rattle.mgn_world.specs.Claims.{IsAmong, IsReached, Rests}
+use Rattle.mgn_world.specs.Claims.{IsAmong, IsReached, IsAtRest}
 use Rattle.mgn_world.specs.declared.phases.Call.{Call}
 use Rattle.mgn_world.specs.declared.phases.Deed.{Deed}
 use Rattle.mgn_world.specs.declared.phases.Deed.TheVariants.{Apply, Back, End, Look}
@@ -174,11 +174,11 @@ end_frees w p k is =
 
 -- Desks of units that are held
 
-pub held_rests : (w : World) (p u : ℕ) (k : Call) → IsReached w → phase_at w p ≡ Held k → lock_at w u ≡ Some p → Rests w.sets w.state.accounts u (desk_at w u)
+pub held_rests : (w : World) (p u : ℕ) (k : Call) → IsReached w → phase_at w p ≡ Held k → lock_at w u ≡ Some p → IsAtRest w.sets w.state.accounts u (desk_at w u)
 held_rests w p u k reached is mine = held_desk w p u (Held k) (good_reached w reached) is mine
 
-pub looked_rests : (w : World) (p u : ℕ) (k : Call) (l : View) → IsReached w → phase_at w p ≡ Looked k l → lock_at w u ≡ Some p → Rests w.sets w.state.accounts u (desk_at w u)
+pub looked_rests : (w : World) (p u : ℕ) (k : Call) (l : View) → IsReached w → phase_at w p ≡ Looked k l → lock_at w u ≡ Some p → IsAtRest w.sets w.state.accounts u (desk_at w u)
 looked_rests w p u k l reached is mine = held_desk w p u (Looked k l) (good_reached w reached) is mine
 
-pub ended_rests : (w : World) (p u : ℕ) (k : Call) → IsReached w → phase_at w p ≡ Ended k → lock_at w u ≡ Some p → Rests w.sets w.state.accounts u (desk_at w u)
+pub ended_rests : (w : World) (p u : ℕ) (k : Call) → IsReached w → phase_at w p ≡ Ended k → lock_at w u ≡ Some p → IsAtRest w.sets w.state.accounts u (desk_at w u)
 ended_rests w p u k reached is mine = held_desk w p u (Ended k) (good_reached w reached) is mine

@@ -19,7 +19,7 @@ use Rattle.mgn_world.specs.declared.phases.Phase.TheVariants.{Idle, Held, Looked
 use Rattle.mgn_world.specs.declared.phases.Step.{Step}
 use Rattle.mgn_world.specs.World.{World, applies, are_free, are_of, backs, begin_on, begins, commits, does, ends, finished, gathers, in_force, is_full, look_on, looks, marks, next, opening, phase_at, prepares, run, units_of, with_phase}
 use Rattle.mgn_world.proofs.Said.{good_reached}
-use Rattle.world_laws.specs.Entries.{AddsOne, Answers, IsCurrent}
+use Rattle.world_laws.specs.Entries.{AddsOne, AnswersCall, IsCurrent}
 use Rattle.world_laws.specs.Moves.{Enters, KeepsBook, step_of}
 use Rattle.world_laws.proofs.Calling.{in_any, look_enters, same_book}
 use Rattle.world_laws.proofs.Committing.{begin_commits, commit_now, full, set_commits}
@@ -42,14 +42,14 @@ in_sixteen w p reached less = let e = sixteen w reached in omega (arith, e, less
 adds : (p : ℕ) (request : Request) (w v : World) → Enters p request w v → AddsOne (suc p) w v
 adds p request w v e = (entry (p + 1) (calls (p + 1) w.history + 1) (recorded request (step w.sets w.state request).1) (step w.sets w.state request).1, (omega arith, e.history))
 
-room_by : (w : World) (p : ℕ) (st : Phase) (d : Deed) → IsReached w → p < 16 → phase_at w p ≡ st → Answers w st d → IsCurrent w st → length w.history < 1000000 → AddsOne (suc p) w (next w (step_of p d))
+room_by : (w : World) (p : ℕ) (st : Phase) (d : Deed) → IsReached w → p < 16 → phase_at w p ≡ st → AnswersCall w st d → IsCurrent w st → length w.history < 1000000 → AddsOne (suc p) w (next w (step_of p d))
 room_by w p Idle (Begin c) reached less is ok now few = adds p (Do c) w (next w (step_of p (Begin c))) (begin_commits w p c (in_sixteen w p reached less) is ok few).enters
 room_by w p (Held k) Look reached less is ok now few = adds p (Do k.command) w (next w (step_of p Look)) (look_enters w p k is ok few)
 room_by w p (Applied k l) Commit reached less is ok now few = adds p (Do k.command) w (next w (step_of p Commit)) (commit_now w p k l reached is few now _ refl).enters
 room_by w p (Gathered g) Commit reached less is ok now few = adds p (Switch g.set) w (next w (step_of p Commit)) (set_commits w p g is few).enters
 room_by w p st d reached less is ok now few = absurd ok
 
-pub room : (w : World) (p : ℕ) (d : Deed) → IsReached w → p < 16 → Answers w (phase_at w p) d → IsCurrent w (phase_at w p) → length w.history < 1000000 → AddsOne (suc p) w (next w (step_of p d))
+pub room : (w : World) (p : ℕ) (d : Deed) → IsReached w → p < 16 → AnswersCall w (phase_at w p) d → IsCurrent w (phase_at w p) → length w.history < 1000000 → AddsOne (suc p) w (next w (step_of p d))
 room w p d reached less ok now few = room_by w p (phase_at w p) d reached less refl ok now few
 
 pub few : (w : World) → IsReached w → length w.history ≤ 1000000

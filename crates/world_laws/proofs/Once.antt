@@ -11,7 +11,7 @@ use Rattle.mgn_world.specs.declared.phases.Phase.TheVariants.{Idle, Held, Looked
 use Rattle.mgn_world.specs.declared.phases.Step.{Step}
 use Rattle.mgn_world.specs.World.{World, applies, backs, commits, does, does_as, ends, looks, marks, next, phase_at, prepares, run}
 use Rattle.std.proofs.lemmas.List.{get_or-set_same}
-use Rattle.world_laws.specs.Entries.{AddsOne, Answers, IsAnswered, StartsNone, starts}
+use Rattle.world_laws.specs.Entries.{AddsOne, AnswersCall, IsAnswered, StartsNone, starts}
 use Rattle.world_laws.specs.Moves.{step_of}
 use Rattle.world_laws.proofs.Places.{inside_or}
 use Rattle.world_laws.proofs.Turning.{others_stay, turn_as}
@@ -22,16 +22,16 @@ one_most_as : (w : World) (number : ℕ) (d : Deed) → ((does_as w number d).hi
 one_most_as w zero d = inl refl
 one_most_as w (suc p) d = ⊎_elim
     (λ (same : (does_as w (suc p) d).history ≡ w.history). inl same)
-    (λ (more : Answers w (phase_at w p) d × IsAnswered (phase_at (does_as w (suc p) d) p) × AddsOne (suc p) w (does_as w (suc p) d)). inr more.2)
+    (λ (more : AnswersCall w (phase_at w p) d × IsAnswered (phase_at (does_as w (suc p) d) p) × AddsOne (suc p) w (does_as w (suc p) d)). inr more.2)
     (turn_as w p d).history
 
 pub one_most : (w : World) (e : Step) → ((next w e).history ≡ w.history) ⊎ AddsOne e.session w (next w e)
 one_most w e = one_most_as w e.session e.deed
 
-pub answers : (w : World) (p : ℕ) (d : Deed) → ((next w (step_of p d)).history ≡ w.history) ⊎ (Answers w (phase_at w p) d × IsAnswered (phase_at (next w (step_of p d)) p))
+pub answers : (w : World) (p : ℕ) (d : Deed) → ((next w (step_of p d)).history ≡ w.history) ⊎ (AnswersCall w (phase_at w p) d × IsAnswered (phase_at (next w (step_of p d)) p))
 answers w p d = ⊎_elim
     (λ (same : (does_as w (suc p) d).history ≡ w.history). inl same)
-    (λ (more : Answers w (phase_at w p) d × IsAnswered (phase_at (does_as w (suc p) d) p) × AddsOne (suc p) w (does_as w (suc p) d)). inr (more.0, more.1))
+    (λ (more : AnswersCall w (phase_at w p) d × IsAnswered (phase_at (does_as w (suc p) d) p) × AddsOne (suc p) w (does_as w (suc p) d)). inr (more.0, more.1))
     (turn_as w p d).history
 
 -- A session whose call was answered adds no entry until it starts another.
@@ -130,7 +130,7 @@ once_as : (w : World) (number : ℕ) (d : Deed) (es : List Step) → calls numbe
 once_as w zero d es more none = absurd (omega (arith, more))
 once_as w (suc p) d es more none = ⊎_elim
     (λ (same : (does_as w (suc p) d).history ≡ w.history). let e = ap (calls (suc p)) same in absurd (omega (arith, more, e)))
-    (λ (x : Answers w (phase_at w p) d × IsAnswered (phase_at (does_as w (suc p) d) p) × AddsOne (suc p) w (does_as w (suc p) d)). holds_run (does_as w (suc p) d) p es x.1 none)
+    (λ (x : AnswersCall w (phase_at w p) d × IsAnswered (phase_at (does_as w (suc p) d) p) × AddsOne (suc p) w (does_as w (suc p) d)). holds_run (does_as w (suc p) d) p es x.1 none)
     (turn_as w p d).history
 
 pub once : (w : World) (e : Step) (es : List Step) → calls e.session w.history < calls e.session (next w e).history → StartsNone e.session es → calls e.session (run (next w e) es).history ≡ calls e.session (next w e).history

@@ -20,7 +20,7 @@ use Rattle.mgn_world.specs.declared.phases.Phase.{Phase}
 use Rattle.mgn_world.specs.declared.phases.Phase.TheVariants.{Idle, Held, Looked, Applied, Failed, Ended, Gathered}
 use Rattle.mgn_world.specs.Phases.{View}
 use Rattle.mgn_world.specs.World.{World, applies, are_free, are_of, are_stale, backs, begin_on, begins, commits, does, does_as, ends, finished, gathers, in_force, is_apart, is_done, is_full, look_on, looks, marks, phase_at, placed, prepares, stepped, units_of, with_phase}
-use Rattle.world_laws.specs.Entries.{AddsOne, Answers, IsAnswered}
+use Rattle.world_laws.specs.Entries.{AddsOne, AnswersCall, IsAnswered}
 use Rattle.world_laws.proofs.Places.{inside_or}
 
 -- one session's phase is set, or none is
@@ -60,7 +60,7 @@ begin_on_turn w p c [] idle =
     (answered w (stepped w p (Do c) (step w.sets w.state (Do c))) p _ (Do c) (step w.sets w.state (Do c)) w.phases (inl refl) (subst IsAnswered (sym idle) tt) refl refl)
 begin_on_turn w p c (u ∷ us) idle = choose w p _ (are_free w.locks (u ∷ us)) _ _ (one w _ p _ _ refl refl) (none w w p _ refl refl)
 
-begin_turn : (w : World) (p : ℕ) (c : Command) (st : Phase) → phase_at w p ≡ st → Turn w p (Answers w st (Begin c)) (begins w p c st)
+begin_turn : (w : World) (p : ℕ) (c : Command) (st : Phase) → phase_at w p ≡ st → Turn w p (AnswersCall w st (Begin c)) (begins w p c st)
 begin_turn w p c Idle is = begin_on_turn w p c (units_of w.state c) is
 begin_turn w p c (Held k) is = none w w p _ refl refl
 begin_turn w p c (Looked k l) is = none w w p _ refl refl
@@ -80,7 +80,7 @@ look_on_turn w p k Nothing there = planless_turn w p k (is_full w) there
 look_on_turn w p k (One u) there = one w _ p _ _ refl refl
 look_on_turn w p k (Two u v) there = one w _ p _ _ refl refl
 
-look_turn : (w : World) (p : ℕ) (st : Phase) → p < length w.phases → Turn w p (Answers w st Look) (looks w p st)
+look_turn : (w : World) (p : ℕ) (st : Phase) → p < length w.phases → Turn w p (AnswersCall w st Look) (looks w p st)
 look_turn w p (Held k) there = look_on_turn w p k (plan_of (in_force w) w.state k.command) there
 look_turn w p Idle there = none w w p _ refl refl
 look_turn w p (Looked k l) there = none w w p _ refl refl
@@ -111,7 +111,7 @@ set_turn w p t true there = one w _ p _ Idle refl refl
 set_turn w p t false there =
     answered w (with_phase (stepped w p (Switch t) (step w.sets w.state (Switch t))) p Idle) p _ (Switch t) (step w.sets w.state (Switch t)) w.phases (inr (Idle, refl)) (set_same w p Idle _ there refl tt) tt refl
 
-commit_turn : (w : World) (p : ℕ) (st : Phase) → p < length w.phases → Turn w p (Answers w st Commit) (commits w p st)
+commit_turn : (w : World) (p : ℕ) (st : Phase) → p < length w.phases → Turn w p (AnswersCall w st Commit) (commits w p st)
 commit_turn w p (Applied k l) there =
     choose w p _ (is_full w) _ _ (one w _ p _ _ refl refl) (choose w p _ (are_stale w.state.version w.desks l.seen) _ _ (one w _ p _ _ refl refl)
     (choose w p _ (is_apart w (plan_of (in_force w) w.state k.command)) _ _ (one w _ p _ _ refl refl) (placed_turn w p k l there)))
@@ -138,7 +138,7 @@ prepare_turn : (w : World) (p u : ℕ) (may : Type 0) (st : Phase) → Turn w p 
 prepare_turn w p u may (Gathered g) = one w _ p may _ refl refl
 prepare_turn w p u may st = none w w p may refl refl
 
-pub turn : (w : World) (p : ℕ) (d : Deed) → p < length w.phases → Turn w p (Answers w (phase_at w p) d) (does w p d)
+pub turn : (w : World) (p : ℕ) (d : Deed) → p < length w.phases → Turn w p (AnswersCall w (phase_at w p) d) (does w p d)
 turn w p (Begin c) there = begin_turn w p c (phase_at w p) refl
 turn w p Look there = look_turn w p (phase_at w p) there
 turn w p Mark there = mark_turn w p _ (phase_at w p)
@@ -151,11 +151,11 @@ turn w p (Prepare u) there = prepare_turn w p u _ (phase_at w p)
 
 -- All steps.
 
-turn_by : (w : World) (p : ℕ) (d : Deed) (b : Bool) → nat_lt p (length w.phases) ≡ b → Turn w p (Answers w (phase_at w p) d) (if b then does w p d else w)
+turn_by : (w : World) (p : ℕ) (d : Deed) (b : Bool) → nat_lt p (length w.phases) ≡ b → Turn w p (AnswersCall w (phase_at w p) d) (if b then does w p d else w)
 turn_by w p d true e = turn w p d (inside_or p (length w.phases) true e refl)
 turn_by w p d false e = none w w p _ refl refl
 
-pub turn_as : (w : World) (p : ℕ) (d : Deed) → Turn w p (Answers w (phase_at w p) d) (does_as w (suc p) d)
+pub turn_as : (w : World) (p : ℕ) (d : Deed) → Turn w p (AnswersCall w (phase_at w p) d) (does_as w (suc p) d)
 turn_as w p d = turn_by w p d (nat_lt p (length w.phases)) refl
 
 -- the other sessions are in the phases that they were in

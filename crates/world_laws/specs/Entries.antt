@@ -15,12 +15,12 @@ abbrev pub AddsOne : ℕ → World → World → Type 0
 AddsOne session w v = (e : Entry) × ((e.session ≡ session) × (v.history ≡ w.history ++ e ∷ []))
 
 -- the steps that answer: a Begin without units, a Look without a plan, the Commit of an applied call or of a gathered set
-abbrev pub Answers : World → Phase → Deed → Type 0
-Answers w Idle (Begin c) = units_of w.state c ≡ []
-Answers w (Held k) Look = plan_of (in_force w) w.state k.command ≡ Nothing
-Answers w (Applied k l) Commit = Unit {0}
-Answers w (Gathered g) Commit = Unit {0}
-Answers w phase deed = ⊥
+abbrev pub AnswersCall : World → Phase → Deed → Type 0
+AnswersCall w Idle (Begin c) = units_of w.state c ≡ []
+AnswersCall w (Held k) Look = plan_of (in_force w) w.state k.command ≡ Nothing
+AnswersCall w (Applied k l) Commit = Unit {0}
+AnswersCall w (Gathered g) Commit = Unit {0}
+AnswersCall w phase deed = ⊥
 
 -- a call that is applied looked under the set in force
 abbrev pub IsCurrent : World → Phase → Type 0

@@ -8,7 +8,7 @@ ghost use Rattle.mgn_machine.specs.Step.{step};
 ghost use Rattle.mgn_plan.specs.declared.plans.Plan.{Plan};
 ghost use Rattle.mgn_plan.specs.declared.plans.Plan.TheVariants.{Nothing};
 ghost use Rattle.mgn_plan.specs.Plans.{plan_of};
-ghost use Rattle.mgn_world.specs.Claims.{IsAmong, IsReached, Rests};
+ghost use Rattle.mgn_world.specs.Claims.{IsAmong, IsReached, IsAtRest};
 ghost use Rattle.mgn_world.specs.declared.phases.Call.{Call};
 ghost use Rattle.mgn_world.specs.declared.phases.Deed.{Deed};
 ghost use Rattle.mgn_world.specs.declared.phases.Deed.TheVariants.{Apply, Back, Begin, Commit, End, Look, Mark};
@@ -133,10 +133,10 @@ pub fn end_frees_the_units()
 /// The desk of a unit that a call holds without its plan applied is empty, or has the unit's nets.
 pub fn desks_rest_before_apply_and_after_back()
     ensures held { (w : World) (p u : ℕ) (k : Call)
-        → IsReached w → phase_at w p ≡ Held k → lock_at w u ≡ Some p → Rests w.sets w.state.accounts u (desk_at w u) }
+        → IsReached w → phase_at w p ≡ Held k → lock_at w u ≡ Some p → IsAtRest w.sets w.state.accounts u (desk_at w u) }
     ensures looked { (w : World) (p u : ℕ) (k : Call) (l : View)
         → IsReached w → phase_at w p ≡ Looked k l → lock_at w u ≡ Some p
-        → Rests w.sets w.state.accounts u (desk_at w u) }
+        → IsAtRest w.sets w.state.accounts u (desk_at w u) }
     ensures ended { (w : World) (p u : ℕ) (k : Call)
-        → IsReached w → phase_at w p ≡ Ended k → lock_at w u ≡ Some p → Rests w.sets w.state.accounts u (desk_at w u) }
+        → IsReached w → phase_at w p ≡ Ended k → lock_at w u ≡ Some p → IsAtRest w.sets w.state.accounts u (desk_at w u) }
 {}

@@ -6,7 +6,7 @@ ghost use Rattle.mgn_world.specs.Claims.{IsReached};
 ghost use Rattle.mgn_world.specs.declared.phases.Deed.{Deed};
 ghost use Rattle.mgn_world.specs.declared.phases.Step.{Step};
 ghost use Rattle.mgn_world.specs.World.{World, next, phase_at, run};
-ghost use Rattle.world_laws.specs.Entries.{AddsOne, Answers, IsAnswered, IsCurrent, StartsNone};
+ghost use Rattle.world_laws.specs.Entries.{AddsOne, AnswersCall, IsAnswered, IsCurrent, StartsNone};
 ghost use Rattle.world_laws.specs.Moves.{KeepsBook, step_of};
 
 /// A step adds one entry at most, and that entry is of its own session.
@@ -18,14 +18,14 @@ pub fn a_step_adds_one_entry_at_most()
 /// applied call or of a gathered set. The session's call is then answered.
 pub fn entries_are_answers()
     ensures { (w : World) (p : ℕ) (d : Deed) → ((next w (step_of p d)).history ≡ w.history)
-        ⊎ (Answers w (phase_at w p) d × IsAnswered (phase_at (next w (step_of p d)) p)) }
+        ⊎ (AnswersCall w (phase_at w p) d × IsAnswered (phase_at (next w (step_of p d)) p)) }
 {}
 
 /// Only a full history takes nothing: a step that answers adds an entry, unless the history has 1,000,000 entries, or
 /// another set came into force since an applied call looked. There are never more.
 pub fn only_a_full_history_takes_nothing()
     ensures room { (w : World) (p : ℕ) (d : Deed)
-        → IsReached w → p < 16 → Answers w (phase_at w p) d → IsCurrent w (phase_at w p)
+        → IsReached w → p < 16 → AnswersCall w (phase_at w p) d → IsCurrent w (phase_at w p)
         → length w.history < 1000000 → AddsOne (suc p) w (next w (step_of p d)) }
     ensures full { (w : World) (p : ℕ) (d : Deed)
         → length w.history ≡ 1000000 → KeepsBook w (next w (step_of p d)) }

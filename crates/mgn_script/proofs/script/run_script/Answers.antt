@@ -1,5 +1,5 @@
 use Rattle.mgn_session.proofs.RunFacts.{if_err, if_ok, on_err}
-use Rattle.mgn_script.proofs.ScriptFacts.{answers, catches_up, has_too_much, replays, starts, stops}
+use Rattle.mgn_script.proofs.ScriptFacts.{answers, catches_up, has_too_much, replays, runs_out, starts, stops}
 use Rattle.mgn_script.proofs.script.run_script.Goals as goal
 
 pub returns-clause-ok : goal.returns-clause-ok
@@ -21,6 +21,11 @@ pub returns-clause-lines : goal.returns-clause-lines
 returns-clause-lines g c =
     let fresh = starts _ c.requires.fresh (rw (← c.plain.view_is) c.plain.invariant.stands.shown) in
     if_err c.run_lines.result c.run_lines.ensures.lines (λ fault all is. has_too_much _ _ _ _ _ _ _ fresh (all is))
+
+pub returns-clause-memory : goal.returns-clause-memory
+returns-clause-memory g c =
+    let fresh = starts _ c.requires.fresh (rw (← c.plain.view_is) c.plain.invariant.stands.shown) in
+    if_err c.run_lines.result c.run_lines.ensures.memory (λ fault all is. runs_out _ _ _ _ _ _ _ fresh (all is))
 
 pub returns-clause-sets : goal.returns-clause-sets
 returns-clause-sets g c =

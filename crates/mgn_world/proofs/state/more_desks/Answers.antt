@@ -1,7 +1,7 @@
 use Rattle.std.proofs.Common.{◌≡◌, ◌≤◌, ◌∙◌, ◌+◌, ◌-◌, ◌++◌, arith, ap, length, List, [], ◌∷◌, ℕ, None, replicate, map, subst, sym}
 use Rattle.std.proofs.lemmas.List.{length-append, length-map, map-append}
 use Rattle.mgn_desk.specs.Desks.{DeskRows}
-use Rattle.mgn_world.specs.DeskMoves.{AreDesks, desk_shown}
+use Rattle.mgn_world.specs.DeskMoves.{AreRightDesks, desk_shown}
 use Rattle.mgn_world.proofs.Sounds.{desk_pushed, left, one_none_more}
 use Rattle.mgn_world.proofs.state.more_desks.Goals as goal
 
@@ -16,7 +16,7 @@ loop-unit-preserved c =
       stays = λ few. absurd (omega (arith, few, c.loop-unit-test.true, c.loop-unit.invariant.from));
       from = omega (arith, c.loop-unit.invariant.from);
       long = ap (λ (xs : List DeskRows). length xs) c.in_ok-push.ensures.items ∙ length-append c.loop-unit.desks.items (c.empty.result ∷ []) ∙ ap (λ (n : ℕ). n + 1) c.loop-unit.invariant.long;
-      sound = λ sets are. subst (AreDesks sets) (sym c.in_ok-push.ensures.items) (desk_pushed sets c.loop-unit.desks.items c.empty.result (ap (λ (d : DeskRows). d.unit) c.empty.ensures ∙ sym c.loop-unit.invariant.long) (ap (λ (d : DeskRows). d.marked) c.empty.ensures) (c.loop-unit.invariant.sound sets are));
+      sound = λ sets are. subst (AreRightDesks sets) (sym c.in_ok-push.ensures.items) (desk_pushed sets c.loop-unit.desks.items c.empty.result (ap (λ (d : DeskRows). d.unit) c.empty.ensures ∙ sym c.loop-unit.invariant.long) (ap (λ (d : DeskRows). d.marked) c.empty.ensures) (c.loop-unit.invariant.sound sets are));
     }
 
 pub returns-clause-shown : goal.returns-clause-shown

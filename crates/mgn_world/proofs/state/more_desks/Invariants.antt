@@ -1,6 +1,6 @@
 use Rattle.std.proofs.Common.{◌≡◌, ◌≤◌, ◌++◌, ◌-◌, List, None, length, map, replicate}
 use Rattle.mgn_params.specs.Tables.{Tables}
-use Rattle.mgn_world.specs.DeskMoves.{AreDesks, desk_shown}
+use Rattle.mgn_world.specs.DeskMoves.{AreRightDesks, desk_shown}
 use Rattle.mgn_world.proofs.state.more_desks.Given as goal
 
 abbrev pub invariant-loop-unit : goal.invariant-loop-unit
@@ -9,5 +9,5 @@ invariant-loop-unit l = record {
   stays : l.units ≤ length l.initial.desks.items → l.unit ≡ length l.initial.desks.items;
   from : length l.initial.desks.items ≤ l.unit;
   long : length l.desks.items ≡ l.unit;
-  sound : (sets : List Tables) → AreDesks sets l.initial.desks.items → AreDesks sets l.desks.items;
+  sound : (sets : List Tables) → AreRightDesks sets l.initial.desks.items → AreRightDesks sets l.desks.items;
 }

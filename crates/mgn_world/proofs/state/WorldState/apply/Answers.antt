@@ -5,7 +5,7 @@ use Rattle.mgn_params.specs.Shelves.{set_at}
 use Rattle.mgn_desk.specs.Desks.{DeskRows}
 use Rattle.mgn_world.specs.declared.phases.Phase.{Phase}
 use Rattle.mgn_world.specs.declared.phases.Phase.TheVariants.{Applied, Looked}
-use Rattle.mgn_world.specs.DeskMoves.{AreDesks, AreReadyFor, desk_shown}
+use Rattle.mgn_world.specs.DeskMoves.{AreRightDesks, AreReadyFor, desk_shown}
 use Rattle.mgn_world.specs.Phases.{View}
 use Rattle.mgn_world.specs.World.{are_of, planned_desks}
 use Rattle.mgn_world.specs.Worlds.{IsPhase, shown}
@@ -46,7 +46,7 @@ returns-clause-sound c =
     record {
       book = c.requires.sound.book;
       sixteen = ap (λ (xs : List Phase). length xs) set ∙ length-set c.args.self.now.phases.items c.args.place (Applied c.in-Looked.field-0 l) ∙ c.requires.sound.sixteen;
-      desks = subst (AreDesks c.args.self.now.shelf) (sym all) c.apply.ensures.desks;
+      desks = subst (AreRightDesks c.args.self.now.shelf) (sym all) c.apply.ensures.desks;
       phases = subst (All (IsPhase c.args.self.now.shelf (length desks))) (sym set)
           (phases_set c.args.self.now.shelf (length desks) (length c.args.self.now.desks.items) c.args.self.now.phases.items c.args.place (Applied c.in-Looked.field-0 l)
           (ap (λ (ds : List DeskRows). length ds) all ∙ c.apply.ensures.long ∙ ap (λ (ds : List DeskRows). length ds) c.as_mut_slice.ensures.value) seen c.requires.sound.phases);

@@ -6,7 +6,7 @@ use Rattle.mgn_params.specs.Shelves.{set_at}
 use Rattle.mgn_desk.specs.Desks.{DeskRows}
 use Rattle.mgn_world.specs.declared.phases.Phase.{Phase}
 use Rattle.mgn_world.specs.declared.phases.Phase.TheVariants.{Ended, Failed, Held}
-use Rattle.mgn_world.specs.DeskMoves.{AreDesks, CanGiveBack, desk_shown}
+use Rattle.mgn_world.specs.DeskMoves.{AreRightDesks, CanGiveBack, desk_shown}
 use Rattle.mgn_world.specs.Phases.{View}
 use Rattle.mgn_world.specs.Worlds.{IsPhase, shown}
 use Rattle.mgn_world.proofs.Ready.{back_ready}
@@ -32,7 +32,7 @@ returns-clause-sound c =
     record {
       book = c.requires.sound.book;
       sixteen = ap (λ (xs : List Phase). length xs) set ∙ length-set c.args.self.now.phases.items c.args.place next ∙ c.requires.sound.sixteen;
-      desks = subst (AreDesks c.args.self.now.shelf) (sym all) c.take_back.ensures.desks;
+      desks = subst (AreRightDesks c.args.self.now.shelf) (sym all) c.take_back.ensures.desks;
       phases = subst (All (IsPhase c.args.self.now.shelf (length desks))) (sym set)
           (phases_set c.args.self.now.shelf (length desks) (length c.args.self.now.desks.items) c.args.self.now.phases.items c.args.place next
           (ap (λ (ds : List DeskRows). length ds) all ∙ c.take_back.ensures.long ∙ ap (λ (ds : List DeskRows). length ds) c.as_mut_slice.ensures.value)

@@ -1,7 +1,7 @@
 use Rattle.std.proofs.Common.{◌≡◌, ◌∙◌, All, ℕ, List, length, map, replicate, sym, subst, ap, arith}
 use Rattle.mgn_world.specs.declared.phases.Phase.{Phase}
 use Rattle.mgn_world.specs.declared.phases.Phase.TheVariants.{Idle}
-use Rattle.mgn_world.specs.DeskMoves.{AreDesks, desk_shown}
+use Rattle.mgn_world.specs.DeskMoves.{AreRightDesks, desk_shown}
 use Rattle.mgn_world.specs.Standing.{Good}
 use Rattle.mgn_world.specs.World.{opening}
 use Rattle.mgn_world.specs.Worlds.{IsPhase, shown}
@@ -34,6 +34,6 @@ pub returns-clause-sound : goal.returns-clause-sound
 returns-clause-sound c = record {
   book = c.new-book.ensures.stands;
   sixteen = ap (λ (xs : List Phase). length xs) (sixteen c);
-  desks = subst (AreDesks c.in_ok-shelf.shelf) (sym c.new-2.ensures.items) (no_desks c.in_ok-shelf.shelf);
+  desks = subst (AreRightDesks c.in_ok-shelf.shelf) (sym c.new-2.ensures.items) (no_desks c.in_ok-shelf.shelf);
   phases = subst (All (IsPhase c.in_ok-shelf.shelf (length c.new-2.result.items))) (sym (sixteen c)) (sixteen_idle c.in_ok-shelf.shelf (length c.new-2.result.items) 16);
 }
