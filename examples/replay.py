@@ -2,8 +2,8 @@
 """Goes through a day of `spand serve` again: merges the transcripts of all its sessions by place, has the whole day answered
 anew as one session, and compares all replies that have a place, to the byte.
 
-Usage: replay.py [--program PROGRAM] [--dir DIR] --set NAME TRANSCRIPT...
-       replay.py --to PORT TRANSCRIPT...
+Usage: replay.py [--program PROGRAM] [--dir DIR] [--entries N] --set NAME TRANSCRIPT...
+       replay.py [--entries N] --to PORT TRANSCRIPT...
 
 NAME is the set that the server was started with, and DIR has the files of all sets of the day, unchanged. The day is answered
 by `PROGRAM script`. With --to it is sent to a server instead, one that was just started on the same set and has no entry yet,
@@ -11,7 +11,8 @@ as one of its sessions: this brings a book back after a restart. All entries are
 
 Transcripts are those that client.py writes. Lines that were answered without a place (codes 10, 11, 12, 40, 41, 90, 91 and 92)
 changed nothing and are left out. A place that is missing, a place given twice and a reply that differs are named, and the
-status is 1. The status is 0 where all replies are the same.
+status is 1. The status is 0 where all replies are the same. N is the number of the day's entries, as the server's line AUDIT
+tells it. Without it the last place is the highest that a transcript has, and no place after that is missing.
 """
 import argparse
 import contextlib
@@ -39,8 +40,9 @@ def place_of(reply):
     return int(words[1]) if len(words) > 1 and (words[0] == b"OK" or words[2].isdigit()) else None
 
 
-def merge(paths):
-    """Returns the day, which is the commands with their replies by place, and what is wrong with the places."""
+def merge(paths, least):
+    """Returns the day, which is the commands with their replies by place, and what is wrong with the places. It has at least so
+    many places, whether a transcript has them or not."""
     day, faults, unanswered = {}, [], []
     for path in paths:
         entries = read_transcript(path)
@@ -51,7 +53,7 @@ def merge(paths):
                 faults.append(f"place {place} is given twice")
             elif place:
                 day[place] = command, reply
-    missing = [f"place {place} is missing" for place in range(1, max(day, default=0)) if place not in day]
+    missing = [f"place {place} is missing" for place in range(1, max([*day, least]) + 1) if place not in day]
     return [day[place] for place in sorted(day)], faults + missing + (unanswered if missing else [])
 
 
@@ -100,13 +102,14 @@ def main():
     parser = argparse.ArgumentParser(description="Has a day of spand serve answered anew and compares the replies.")
     parser.add_argument("--program", default=TOP / "crates/spand/out/spand")
     parser.add_argument("--dir", default=TOP / "sets")
+    parser.add_argument("--entries", type=int, default=0, metavar="N", help="how many entries the day has, as AUDIT tells")
     how = parser.add_mutually_exclusive_group(required=True)
     how.add_argument("--set", metavar="NAME")
     how.add_argument("--to", type=int, metavar="PORT")
     parser.add_argument("transcripts", nargs="+", metavar="TRANSCRIPT")
     words = parser.parse_args()
     try:
-        day, faults = merge(words.transcripts)
+        day, faults = merge(words.transcripts, words.entries)
         lines = b"".join(command for command, _ in day)
         if not faults and words.to:
             faults = differences(day, answers_of_server(words.to, lines))

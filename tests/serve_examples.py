@@ -61,7 +61,10 @@ def the_examples(program):
         everything = [at("second"), at("first"), at("third")]
         same = ["--program", program, "--set", "ONE"]
         wants_of_replay("the whole day", [*same, *everything], 0, b"13 entries are the same\n")
+        wants_of_replay("the entries that AUDIT tells", [*same, "--entries", 13, *everything], 0, b"13 entries are the same\n")
         wants_of_replay("a missing place", [*same, *everything[1:]], 1, b"place 9 is missing\nplace 10 is missing\n")
+        wants_of_replay("places that are missing at the end", [*same, "--entries", 13, *everything[:2]], 1,
+                        b"".join(b"place %d is missing\n" % it for it in (11, 12, 13)))
         wants_of_replay("a place twice", [*same, *everything, at("third")], 1,
                         b"".join(b"place %d is given twice\n" % it for it in (11, 12, 13)))
         at("other").write_bytes(at("second").read_bytes().replace(b"-200", b"-201"))
