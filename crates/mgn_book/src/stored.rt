@@ -168,40 +168,40 @@ pub(crate) fn store_command(names: &mut Names, command: &Command, likely: &Likel
     ensures no_set { sets_needed result ≡ 0 }
     ensures few { AddsFew names.old names.new }
 {
-    match *command {
-        Command::NewOrigin(origin, mode) => StoredRequest::NewOrigin(origin, mode),
+    match command {
+        Command::NewOrigin(origin, mode) => StoredRequest::NewOrigin(*origin, *mode),
         Command::NewAccount(account, origin) => StoredRequest::NewAccount {
-            origin,
-            account: names.place_of_account(account, likely.account),
+            origin: *origin,
+            account: names.place_of_account(*account, likely.account),
         },
-        Command::Trade(trade) => store_trade(names, &trade, likely),
+        Command::Trade(trade) => store_trade(names, trade, likely),
         Command::Bust(account, lot) => StoredRequest::Bust(
-            names.place_of_account(account, likely.account),
-            lot,
+            names.place_of_account(*account, likely.account),
+            *lot,
         ),
-        Command::Hold(hold) => store_hold(names, &hold, likely),
-        Command::Fill(fill) => store_fill(names, &fill, likely),
+        Command::Hold(hold) => store_hold(names, hold, likely),
+        Command::Fill(fill) => store_fill(names, fill, likely),
         Command::Release(account, order) => {
-            StoredRequest::Release(names.place_of_account(account, likely.account), order)
+            StoredRequest::Release(names.place_of_account(*account, likely.account), *order)
         }
-        Command::Transfer(transfer) => store_transfer(names, &transfer, likely),
+        Command::Transfer(transfer) => store_transfer(names, transfer, likely),
         Command::Post(account, class, units) => StoredRequest::Post {
-            class: names.place_of_class(class),
-            account: names.place_of_account(account, likely.account),
-            units,
+            class: names.place_of_class(*class),
+            account: names.place_of_account(*account, likely.account),
+            units: *units,
         },
         Command::Draw(account, class, units) => StoredRequest::Draw {
-            class: names.place_of_class(class),
-            account: names.place_of_account(account, likely.account),
-            units,
+            class: names.place_of_class(*class),
+            account: names.place_of_account(*account, likely.account),
+            units: *units,
         },
         Command::Ask(account) => StoredRequest::Ask(names.place_of_account(
-            account,
+            *account,
             likely.account,
         )),
-        Command::Total(origin) => StoredRequest::Total(origin),
+        Command::Total(origin) => StoredRequest::Total(*origin),
         Command::Statement(account) => StoredRequest::Statement(names.place_of_account(
-            account,
+            *account,
             likely.account,
         )),
         Command::EndDay => StoredRequest::EndDay,

@@ -315,13 +315,13 @@ impl Register {
         ensures plan { result ≡ plan_of set.now self.now.state command.now }
         ensures possible { IsPossible set.now self.now.rows result }
     {
-        match *command {
-            Command::Trade(trade) => self.trade_plan(set, &trade),
-            Command::Bust(account, lot) => self.bust_plan(set, account, lot),
-            Command::Hold(hold) => self.hold_plan(set, &hold),
-            Command::Fill(fill) => self.fill_plan(set, &fill),
-            Command::Release(account, order) => self.release_plan(set, account, order),
-            Command::Transfer(transfer) => self.move_plan(set, &transfer),
+        match command {
+            Command::Trade(trade) => self.trade_plan(set, trade),
+            Command::Bust(account, lot) => self.bust_plan(set, *account, *lot),
+            Command::Hold(hold) => self.hold_plan(set, hold),
+            Command::Fill(fill) => self.fill_plan(set, fill),
+            Command::Release(account, order) => self.release_plan(set, *account, *order),
+            Command::Transfer(transfer) => self.move_plan(set, transfer),
             Command::NewOrigin(..)
             | Command::NewAccount(..)
             | Command::Post(..)

@@ -57,7 +57,7 @@ impl Register {
     }
 
     /// What is answered to the question for an account's statement. An error says that memory was refused.
-    pub fn state(
+    pub fn answer_statement(
         &self,
         alloc: Global,
         set: &ParamSet,

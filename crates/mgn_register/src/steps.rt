@@ -77,30 +77,30 @@ pub fn step(
     ensures told { IfOk result (λ reply. is_brief reply ≡ false → register.new ≡ register.old) }
     ensures idle { IsIdle (plan_of set.now register.old.state command.now) known.now work.old work.new }
 {
-    match *command {
-        Command::NewOrigin(name, mode) => answer_of(register.originate(alloc, set, name, mode)),
-        Command::NewAccount(name, origin) => answer_of(register.open(alloc, set, name, origin)),
-        Command::Trade(trade) => answer_of(register.trade(alloc, set, &trade, plan, known, work)),
+    match command {
+        Command::NewOrigin(name, mode) => answer_of(register.originate(alloc, set, *name, *mode)),
+        Command::NewAccount(name, origin) => answer_of(register.open(alloc, set, *name, *origin)),
+        Command::Trade(trade) => answer_of(register.trade(alloc, set, trade, plan, known, work)),
         Command::Bust(account, lot) => answer_of(register.bust(
-            alloc, set, account, lot, plan, known, work,
+            alloc, set, *account, *lot, plan, known, work,
         )),
-        Command::Hold(hold) => answer_of(register.hold(alloc, set, &hold, plan, known, work)),
-        Command::Fill(fill) => answer_of(register.fill(alloc, set, &fill, plan, known, work)),
+        Command::Hold(hold) => answer_of(register.hold(alloc, set, hold, plan, known, work)),
+        Command::Fill(fill) => answer_of(register.fill(alloc, set, fill, plan, known, work)),
         Command::Release(account, order) => answer_of(register.release(
-            alloc, set, account, order, plan, known, work,
+            alloc, set, *account, *order, plan, known, work,
         )),
         Command::Transfer(transfer) => answer_of(register.transfer(
-            alloc, set, &transfer, plan, known, work,
+            alloc, set, transfer, plan, known, work,
         )),
         Command::Post(account, class, units) => answer_of(register.post(
-            set, account, &class, units,
+            set, *account, class, *units,
         )),
         Command::Draw(account, class, units) => answer_of(register.draw(
-            set, account, &class, units,
+            set, *account, class, *units,
         )),
-        Command::Ask(account) => Ok(register.ask(set, account)),
-        Command::Total(origin) => Ok(register.total(set, origin)),
-        Command::Statement(account) => register.state(alloc, set, account),
+        Command::Ask(account) => Ok(register.ask(set, *account)),
+        Command::Total(origin) => Ok(register.total(set, *origin)),
+        Command::Statement(account) => register.answer_statement(alloc, set, *account),
         Command::EndDay => answer_of(register.end(set)),
     }
 }

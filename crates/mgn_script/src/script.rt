@@ -39,6 +39,7 @@ pub fn run_script<R: Read, W: Write, S: SetSource>(
     ensures sets { Begins plain.old.sets plain.new.sets }
     ensures state { plain.new.day.book.state ≡ replay plain.new.sets plain.new.day.history }
 {
+    // What the type of the book says is a fact for the last clauses.
     let _ = &plain.book;
     run_lines(alloc, talk, plain, source)
 }

@@ -26,7 +26,8 @@ use std::sync::atomic::{AtomicU64, Ordering};
 use std::sync::{Mutex, Wait};
 use std::thread::Threads;
 
-/// How often a call looks at the book at most.
+/// How often a call looks at the book at most. A look is stale only where another set came into force since, and a day
+/// has at most 65.
 pub(crate) const MOST_LOOKS: u8 = 65;
 
 /// A book that sessions on threads of their own share: the book under one lock, and the desk of each margin unit under

@@ -8,7 +8,7 @@ ghost use Rattle.mgn_session.specs.Conversation.{HasFailedToRead, HasFailedToSen
 use crate::counted::Counted;
 use crate::ends::count_ends;
 use crate::fault::SessionFault;
-use mgn_wire::{LONGEST_LINE, LineReply, Memory, reply_text};
+use mgn_wire::{LONGEST_REPLY, LineReply, Memory, reply_text};
 use std::alloc::Global;
 use std::io::{Read, Write};
 use std::marker::Model;
@@ -132,11 +132,11 @@ impl<R: Read, W: Write> Conversation<R, W> {
     /// Makes room for the line of a reply, so that a command whose reply would find no memory need not be carried out. The
     /// only error is that memory was refused; then nothing has changed.
     pub fn reserve(&mut self) -> Result<(), Memory>
-        ensures ok { OnOk result (LONGEST_LINE ≤ self.new.room) }
+        ensures ok { OnOk result (LONGEST_REPLY ≤ self.new.room) }
         ensures err { OnErr result (self.new ≡ self.old) }
         ensures kept { self.new ≡ with_room self.old self.new.room }
     {
-        self.waiting.reserve(LONGEST_LINE)?;
+        self.waiting.reserve(LONGEST_REPLY)?;
         Ok(())
     }
 
@@ -146,7 +146,7 @@ impl<R: Read, W: Write> Conversation<R, W> {
         requires { 0 < self.old.owed }
         ensures ok { OnOk result (HasReplied self.old self.new (text_of reply.now)) }
         ensures err { OnErr result (self.new ≡ with_room self.old self.new.room) }
-        ensures fits { lines_after reply.now ≡ [] → LONGEST_LINE ≤ self.old.room → IsOk result }
+        ensures fits { lines_after reply.now ≡ [] → LONGEST_REPLY ≤ self.old.room → IsOk result }
     {
         reply_text(reply, &mut self.waiting)?;
         self.owed -= 1;

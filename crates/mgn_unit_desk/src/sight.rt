@@ -69,23 +69,13 @@ impl<'a, T: Shows, J: SlotNames> Sight<'a, T, J> {
         ensures unit { IsTrue result → now.now.unit ≡ self.now.0.unit }
         ensures moves { IsTrue result → SameMoves now.now.change self.now.0.change }
     {
-        let seen = &self.change;
-        if !(now.unit == seen.unit) {
-            return false;
-        }
-        if !(now.change.contract == seen.change.contract) {
-            return false;
-        }
-        if !(now.change.lots.quantity == seen.change.lots.quantity) {
-            return false;
-        }
-        if !(now.change.buys.quantity == seen.change.buys.quantity) {
-            return false;
-        }
-        if !(now.change.sales.quantity == seen.change.sales.quantity) {
-            return false;
-        }
-        now.change.all.quantity == seen.change.all.quantity
+        let (seen, moves) = (&self.change.change, &now.change);
+        now.unit == self.change.unit
+            && moves.contract == seen.contract
+            && moves.lots.quantity == seen.lots.quantity
+            && moves.buys.quantity == seen.buys.quantity
+            && moves.sales.quantity == seen.sales.quantity
+            && moves.all.quantity == seen.all.quantity
     }
 
     /// The version that was in force.

@@ -9,5 +9,5 @@ mod words;
 
 pub use fault::{LineFault, Memory};
 pub use line::{Line, read_line};
-pub use reply::{LONGEST_LINE, LineReply, reply_text};
+pub use reply::{LONGEST_REPLY, LineReply, reply_text};
 pub use statement::{line_count, statement_text};

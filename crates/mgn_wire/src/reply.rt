@@ -12,7 +12,7 @@ use std::alloc::AllocError;
 
 /// No line of a reply is longer, with its line feed: five numbers of at most 38 bytes and a place of at most 20, with what
 /// stands between them. The further lines of a statement are not bounded by it.
-pub const LONGEST_LINE: usize = 224;
+pub const LONGEST_REPLY: usize = 224;
 
 /// What a line is answered.
 #[derive(Drop)]
@@ -246,11 +246,11 @@ fn print_line(reply: &LineReply, out: &mut Vec<u8>) -> Result<(), AllocError>
 
 /// Appends the text of what a line is answered: a line, and after it those of a statement, each with its line feed. On
 /// `Memory` the text is as it was. A reply of one line, as all are but a statement, finds memory where the buffer has room
-/// for `LONGEST_LINE` bytes.
+/// for `LONGEST_REPLY` bytes.
 pub fn reply_text(reply: &LineReply, out: &mut Vec<u8>) -> Result<(), Memory>
     ensures ok { OnOk result (out.new.items ≡ out.old.items ++ text_of reply.now) }
     ensures err { OnErr result (out.new.items ≡ out.old.items) }
-    ensures room { lines_after reply.now ≡ [] → length out.old.items + LONGEST_LINE ≤ vec_capacity out.old → IsOk result }
+    ensures room { lines_after reply.now ≡ [] → length out.old.items + LONGEST_REPLY ≤ vec_capacity out.old → IsOk result }
     ensures capacity { lines_after reply.now ≡ [] → vec_capacity out.old ≤ vec_capacity out.new }
 {
     let before = out.len();

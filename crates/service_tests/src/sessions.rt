@@ -78,15 +78,15 @@ pub(crate) const ORDERS: [Answered; 14] = [
 const TURNS: [Answered; 11] = [
     ("ORIGIN CUST GROSS", "OK 1\n"),
     ("OPEN A1 CUST", "OK 2\n"),
-    ("OPEN C3 CUST", "OK 3\n"),
+    ("OPEN BL CUST", "OK 3\n"),
     ("TRADE A1 1 AAA1 2 0", "OK 4\n"),
-    ("TRADE C3 1 AAA1 1 0", "OK 5\n"),
+    ("TRADE BL 1 AAA1 1 0", "OK 5\n"),
     ("TRADE A1 2 AAA1 -1 0", "OK 6\n"),
     ("TRADE A1 3 AAA1 -1 0", "OK 7\n"),
-    ("TRADE C3 2 AAA1 1 0", "OK 8\n"),
+    ("TRADE BL 2 AAA1 1 0", "OK 8\n"),
     ("BUST A1 3", "OK 9\n"),
     ("ASK A1", "OK 10 300 300 0 0 -300\n"),
-    ("ASK C3", "OK 11 600 600 0 0 -600\n"),
+    ("ASK BL", "OK 11 600 600 0 0 -600\n"),
 ];
 
 // An order that is filled in part before what is left of it is released, and its number held again. What the session
