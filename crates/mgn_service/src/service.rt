@@ -11,7 +11,7 @@ ghost use Rattle.mgn_service.specs.Commits.{Begins, Tries};
 use crate::commits::{Decided, commit};
 use crate::looks::{Looked, look};
 use crate::orders::{keep_order, order_of};
-use crate::units::{CommandUnits, keep_unit, known_unit, units_of};
+use crate::units::{CommandUnits, keep_units, known_units, units_of};
 use crate::waits::hold;
 use mgn_ids::SessionNo;
 use mgn_ledger::{AuditFault, Image, Ledger, Pass};
@@ -135,17 +135,24 @@ impl<'a, T: Image, J: TableName + SlotNames> Service<'a, T, J> {
     ) -> Answer
         ensures { PassAnswers pass.old (Do command.now) result pass.new }
     {
-        if let Some(unit) = known_unit(pass, command) {
-            return self.exec_one(rt, pass, gate, command, unit);
+        match known_units(pass, command) {
+            CommandUnits::One(unit) => return self.exec_one(rt, pass, gate, command, unit),
+            CommandUnits::Two(giver, taker) => {
+                return self.exec_two(rt, pass, gate, command, giver, taker);
+            }
+            CommandUnits::Nothing => {}
         }
         let begun = begin(rt, &mut hold(rt, &self.ledger), pass, command);
         match begun {
             Begun::Answered(answer) => answer,
             Begun::One(unit) => {
-                keep_unit(pass, command, unit);
+                keep_units(pass, command, unit, unit);
                 self.exec_one(rt, pass, gate, command, unit)
             }
-            Begun::Two(giver, taker) => self.exec_two(rt, pass, gate, command, giver, taker),
+            Begun::Two(giver, taker) => {
+                keep_units(pass, command, giver, taker);
+                self.exec_two(rt, pass, gate, command, giver, taker)
+            }
         }
     }
 

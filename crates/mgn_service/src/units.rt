@@ -44,27 +44,51 @@ fn named_by(command: &Command) -> Named {
     }
 }
 
-/// The unit of the one account that a command names, as an earlier call of the pass found it.
-pub(crate) fn known_unit<T: Image, J: SlotNames>(
-    pass: &Pass<'_, T, J>,
-    command: &Command,
-) -> Option<usize> {
-    match named_by(command) {
-        Named::One(account) => pass.known_unit(&account),
-        Named::Nobody | Named::Two(_, _) => None,
+// The unit of one account, if it is there.
+fn of_one(unit: Option<usize>) -> CommandUnits {
+    match unit {
+        Some(unit) => CommandUnits::One(unit),
+        None => CommandUnits::Nothing,
     }
 }
 
-/// Keeps the unit of the one account that a command names for later calls of the pass.
-pub(crate) fn keep_unit<T: Image, J: SlotNames>(
+// The units of a giver and a taker, if both are there: one where they are the same.
+fn of_two(giver: Option<usize>, taker: Option<usize>) -> CommandUnits {
+    match (giver, taker) {
+        (Some(giver), Some(taker)) if giver == taker => CommandUnits::One(giver),
+        (Some(giver), Some(taker)) => CommandUnits::Two(giver, taker),
+        _ => CommandUnits::Nothing,
+    }
+}
+
+/// The units of the accounts that a command names, if it names any and earlier calls of the pass found all of them.
+pub(crate) fn known_units<T: Image, J: SlotNames>(
+    pass: &Pass<'_, T, J>,
+    command: &Command,
+) -> CommandUnits {
+    match named_by(command) {
+        Named::Nobody => CommandUnits::Nothing,
+        Named::One(account) => of_one(pass.known_unit(&account)),
+        Named::Two(from, to) => of_two(pass.known_unit(&from), pass.known_unit(&to)),
+    }
+}
+
+/// Keeps the units of the accounts that a command names for later calls of the pass. Of one account that is the giver's.
+pub(crate) fn keep_units<T: Image, J: SlotNames>(
     pass: &mut Pass<'_, T, J>,
     command: &Command,
-    unit: usize,
+    giver: usize,
+    taker: usize,
 )
     ensures { pass.new ≡ pass.old }
 {
-    if let Named::One(account) = named_by(command) {
-        pass.keep_unit(account, unit);
+    match named_by(command) {
+        Named::Nobody => {}
+        Named::One(account) => pass.keep_unit(account, giver),
+        Named::Two(from, to) => {
+            pass.keep_unit(from, giver);
+            pass.keep_unit(to, taker);
+        }
     }
 }
 
@@ -75,14 +99,7 @@ pub(crate) fn units_of<T: Image, J: TableName + SlotNames>(
 ) -> CommandUnits {
     match named_by(command) {
         Named::Nobody => CommandUnits::Nothing,
-        Named::One(account) => match ledger.unit_of(&account) {
-            Some(unit) => CommandUnits::One(unit),
-            None => CommandUnits::Nothing,
-        },
-        Named::Two(from, to) => match (ledger.unit_of(&from), ledger.unit_of(&to)) {
-            (Some(giver), Some(taker)) if giver == taker => CommandUnits::One(giver),
-            (Some(giver), Some(taker)) => CommandUnits::Two(giver, taker),
-            _ => CommandUnits::Nothing,
-        },
+        Named::One(account) => of_one(ledger.unit_of(&account)),
+        Named::Two(from, to) => of_two(ledger.unit_of(&from), ledger.unit_of(&to)),
     }
 }
