@@ -75,7 +75,7 @@ pub(crate) const ORDERS: [Answered; 14] = [
 ];
 
 // Two accounts, each a unit of its own, whose names a session keeps at one place when it keeps their units.
-const TURNS: [Answered; 11] = [
+const TURNS: [Answered; 16] = [
     ("ORIGIN CUST GROSS", "OK 1\n"),
     ("OPEN A1 CUST", "OK 2\n"),
     ("OPEN BL CUST", "OK 3\n"),
@@ -87,6 +87,11 @@ const TURNS: [Answered; 11] = [
     ("BUST A1 3", "OK 9\n"),
     ("ASK A1", "OK 10 300 300 0 0 -300\n"),
     ("ASK BL", "OK 11 600 600 0 0 -600\n"),
+    ("POST A1 CASH 5000", "OK 12\n"),
+    ("POST BL CASH 5000", "OK 13\n"),
+    ("MOVE 9 A1 BL AAA1 1", "OK 14\n"),
+    ("ASK A1", "OK 15 0 0 5000 5000 5000\n"),
+    ("ASK BL", "OK 16 900 900 5000 5000 4100\n"),
 ];
 
 // An order that is filled in part before what is left of it is released, and its number held again. What the session
