@@ -89,7 +89,7 @@ fn read_rest(
     ensures err { IfErr result (TellsFault text.now) }
 {
     let mut count = 1u64;
-    loop {
+    'records: loop {
         let number = count + 1;
         match reader.read_byte_record(row) {
             Ok(true) => add_numbered(alloc, text, draft, row, number)?,
