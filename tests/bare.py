@@ -20,7 +20,7 @@ import kit
 import source
 
 # May only fall: with an edit for a function, write the number down that this script then counts.
-MOST = 78
+MOST = 76
 LEFT_OUT = re.compile(r"bench_\w+|\w+_tests|worked_sets")
 
 
