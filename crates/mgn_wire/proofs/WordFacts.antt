@@ -9,7 +9,6 @@ use Rattle.std.proofs.lemmas.List.Elements.{All-from_get_or}
 use Rattle.std.proofs.lemmas.List.{get_or-drop, drop-drop, take_all, take_more_set, map-append}
 use Rattle.std.proofs.lemmas.List.Folds.{list_all-append}
 use Rattle.std.proofs.Math.ListN.{set}
-use borrow.Author.Count.{below_more}
 use Rattle.mgn_wire.specs.Word.{words_of}
 use Rattle.mgn_wire.specs.Line.{all_filled, line_in, line_of}
 use Rattle.mgn_wire.specs.declared.line.Line.{Line}
@@ -32,14 +31,6 @@ cut_at line start i begun inside clear here =
     let after : start + (i - start + 1) ≡ i + 1 = omega arith in
     let rest : drop (i - start + 1) left ≡ drop (i + 1) line = rw (drop-drop, after) refl in
     rw rest at (rw at at cut)
-
-apart : (x y : ℕ) → (x ≡ y → ⊥) → (x == y) ≡ false
-apart x y differ = grind (arith, nat_tests)
-
-pub still_clear : (line : List ℕ) (start i : ℕ) → ((k : ℕ) → start ≤ k → k < i → (get_or line k 0 == 32) ≡ false) → (get_or line i 0 ≡ 32 → ⊥)
-    → (k : ℕ) → start ≤ k → k < i + 1 → (get_or line k 0 == 32) ≡ false
-still_clear line start i clear other k from below =
-    below_more (λ j. start ≤ j → (get_or line j 0 == 32) ≡ false) i (λ j low begun. clear j begun low) (λ _. apart (get_or line i 0) 32 other) k below from
 
 pub cut_last : (line : List ℕ) (start : ℕ) → start ≤ length line → ((k : ℕ) → start ≤ k → k < length line → (get_or line k 0 == 32) ≡ false)
     → words_of (drop start line) ≡ take (length line - start) (drop start line) ∷ []
