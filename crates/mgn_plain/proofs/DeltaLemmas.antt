@@ -57,7 +57,7 @@ start_share_none month g leg = grind arith
 month_net_none : (month : Month) (g : ℕ) → month_net month (pos 0) g ≡ pos 0
 month_net_none month g = grind arith
 
-pub months_flat : (t : Tables) (deltas : List ℤ) (m : ℕ) (sums : MonthSums) → value_at deltas m ≡ pos 0 → AreMonthSumsTo t deltas m sums → AreMonthSumsTo t deltas (m + 1) sums
+months_flat : (t : Tables) (deltas : List ℤ) (m : ℕ) (sums : MonthSums) → value_at deltas m ≡ pos 0 → AreMonthSumsTo t deltas m sums → AreMonthSumsTo t deltas (m + 1) sums
 months_flat t deltas m sums none are = record {
   one_row_each = are.one_row_each;
   one_net_each = are.one_net_each;
@@ -69,6 +69,19 @@ months_flat t deltas m sums none are = record {
       let share : net_share_by t.months deltas g m ≡ pos 0 = rw none (month_net_none (month_at t.months m) g) in
       omega (arith, ints, are.nets g h, share, signed_sum_below_more (net_share_by t.months deltas g) m);
 }
+
+-- nor do several that follow one another
+
+months_run : (t : Tables) (deltas : List ℤ) (m n : ℕ) (sums : MonthSums) → ((k : ℕ) → m ≤ k → k < m + n → value_at deltas k ≡ pos 0) → AreMonthSumsTo t deltas m sums → AreMonthSumsTo t deltas (m + n) sums
+months_run t deltas m zero sums flat are = let none : m + 0 ≡ m = omega arith in rw none are
+months_run t deltas m (suc n) sums flat are =
+    let last : m + suc n ≡ (m + n) + 1 = omega arith in
+    rw last (months_flat t deltas (m + n) sums (flat (m + n) (omega arith) (omega arith)) (months_run t deltas m n sums (λ k low high. flat k low (omega (arith, high))) are))
+
+pub months_flat_to : (t : Tables) (deltas : List ℤ) (m n : ℕ) (sums : MonthSums) → m ≤ n → ((k : ℕ) → m ≤ k → k < n → value_at deltas k ≡ pos 0) → AreMonthSumsTo t deltas m sums → AreMonthSumsTo t deltas n sums
+months_flat_to t deltas m n sums low flat are =
+    let all : m + (n - m) ≡ n = omega (arith, low) in
+    rw all at (months_run t deltas m (n - m) sums (λ k from to. flat k from (omega (arith, to, low))) are)
 
 -- the sizes of all month deltas together are at most 10^12 for each position
 month_sizes : (t : Tables) (nets : List ℤ) (i : ℕ) → IsWithinLimits t → AreNets t nets → i ≤ length t.contracts → sum_below (λ m. unsigned_abs (month_delta (take i (positions t.contracts nets)) m)) (length t.months) ≤ i * 10 ^ 12

@@ -1,4 +1,4 @@
-ghost use Rattle.std.specs.Prelude.{◌≡◌, ℕ, ◌+◌, ◌*◌, ◌<◌, ◌≤◌, ◌^◌, ℤ, ◌+ℤ◌, ◌*ℤ◌, unsigned_abs, List, length, IfOk};
+ghost use Rattle.std.specs.Prelude.{◌≡◌, ◌≢◌, ℕ, ◌+◌, ◌*◌, ◌<◌, ◌≤◌, ◌^◌, ◌↔◌, ℤ, ◌+ℤ◌, ◌*ℤ◌, pos, unsigned_abs, List, length, IfOk, IsTrue};
 ghost use Rattle.mgn_span.specs.Scan.{value_at};
 ghost use Rattle.mgn_span.specs.Sizes.{IsDelta};
 ghost use Rattle.mgn_span.specs.Words.{month_share};
@@ -98,16 +98,49 @@ fn add_month(sums: &mut MonthSums, set: &ParamSet, deltas: &[Delta], m: usize)
     add_net(&mut sums.nets, month, delta);
 }
 
-// Adds what all months count for. Nothing is read of a month where the delta is 0, as most are.
+// How many neighbouring deltas are compared at once.
+const GROUP: usize = 8;
+
+// Whether the eight deltas from a place on are 0.
+fn are_zero(deltas: &[Delta], from: usize) -> bool
+    requires { from + 8 ≤ length deltas.now }
+    ensures { IsTrue result ↔ ((k : ℕ) → k < 8 → value_at deltas.now (from + k) ≡ pos 0) }
+{
+    let mut zero = true;
+    // No delta ends the loop, so that several are compared at once.
+    for k in 0..GROUP {
+        zero &= deltas[from + k] == Delta::ZERO;
+    }
+    zero
+}
+
+// The first place from one on where the delta is not 0, or the number of deltas if there is none.
+fn next_moved(deltas: &[Delta], from: usize) -> usize
+    requires { from ≤ length deltas.now }
+    ensures within { (from ≤ result) × (result ≤ length deltas.now) }
+    ensures passed { (m : ℕ) → from ≤ m → m < result → value_at deltas.now m ≡ pos 0 }
+    ensures moved { result < length deltas.now → value_at deltas.now result ≢ pos 0 }
+{
+    let mut place = from;
+    'groups: while GROUP <= deltas.len() - place && are_zero(deltas, place) {
+        place += GROUP;
+    }
+    'places: while place < deltas.len() && delta_at(deltas, place) == Delta::ZERO {
+        place += 1;
+    }
+    place
+}
+
+// Adds what all months count for. Those where the delta is 0, as it is in most, are passed over.
 fn add_months(sums: &mut MonthSums, set: &ParamSet, deltas: &[Delta])
     requires deltas { (nets : List ℤ) × AreDeltas set.now nets deltas.now }
     requires sums { AreMonthSumsTo set.now deltas.now 0 sums.old }
     ensures { AreMonthSumsTo set.now deltas.now (length set.now.months) sums.new }
 {
-    for m in 0..set.month_count() {
-        if delta_at(deltas, m) != Delta::ZERO {
-            add_month(sums, set, deltas, m);
-        }
+    let mut m = next_moved(deltas, 0);
+    while m < set.month_count() {
+        add_month(sums, set, deltas, m);
+        m = next_moved(deltas, m + 1);
     }
 }
 

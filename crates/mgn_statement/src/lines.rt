@@ -61,7 +61,9 @@ pub(crate) fn commodity_lines(
     requires figures { figures.now ≡ record { set = set.now; nets = nets.now } }
     ensures { IfOk result (λ lines. lines ≡ commodity_lines set.now (positions set.now.contracts nets.now)) }
 {
-    let held = held_commodities(set, nets);
+    let marks = held_commodities(set, nets);
+    // Few sets have as many commodities as there are marks.
+    let held = &marks[..set.commodity_count()];
     let count = held.iter().filter(|&&mark| mark).count();
     let mut lines = CommodityLines::with_capacity(alloc, count)?;
     for commodity in 0..set.commodity_count() {

@@ -1,15 +1,19 @@
-use Rattle.std.proofs.Common.{arith, ◌≡◌, pos}
-use Rattle.std.proofs.lemmas.Int.{ints}
-use Rattle.mgn_span.specs.Scan.{value_at}
-use Rattle.mgn_plain.proofs.DeltaLemmas.{months_flat}
+use Rattle.std.proofs.Common.{◌+◌, arith}
+use Rattle.mgn_plain.proofs.DeltaLemmas.{months_flat_to}
 use Rattle.mgn_plain.proofs.deltas.add_months.Goals as goal
-use Rattle.mgn_plain.proofs.deltas.add_months.Goals.{then-ne, else-ne}
+
+pub loop-m-init : goal.loop-m-init
+loop-m-init c =
+    let next = c.next_moved-m.ensures in
+    record {
+      within = omega (arith, next.within.1, c.requires.deltas.1.one_delta_each);
+      sums = months_flat_to c.args.set.now c.args.deltas.now 0 c.next_moved-m.result c.args.sums.now next.within.0 next.passed c.requires.sums;
+    }
 
 pub loop-m-preserved : goal.loop-m-preserved
 loop-m-preserved c =
-    elim c.if-ne.branch [
-      | then-ne w ↦ rw w.sums-is w.add_month.ensures
-      | else-ne w ↦
-          let none : value_at c.args.deltas.now c.loop-m.m ≡ pos 0 = grind (arith, ints) in
-          rw w.sums-is (months_flat c.args.set.now c.args.deltas.now c.loop-m.m c.loop-m.sums none c.loop-m.invariant)
-    ]
+    let next = c.next_moved-m-in-loop-m.ensures in
+    record {
+      within = omega (arith, next.within.1, c.requires.deltas.1.one_delta_each);
+      sums = months_flat_to c.args.set.now c.args.deltas.now (c.loop-m.m + 1) c.next_moved-m-in-loop-m.result c.add_month.new.sums next.within.0 next.passed c.add_month.ensures;
+    }

@@ -1,5 +1,6 @@
-use Rattle.std.proofs.Common.{◌≡◌, ◌<◌, ◌∙◌, ◌++◌, ◌∷◌, [], Bool, List, ap, arith, false, filter, length, length-append, map, sym, true}
+use Rattle.std.proofs.Common.{◌≡◌, ◌<◌, ◌≤◌, ◌∙◌, ◌++◌, ◌∷◌, [], Bool, List, ap, arith, false, filter, length, length-append, map, sym, take, true}
 use Rattle.std.specs.List.{range_with_len}
+use Rattle.std.proofs.lemmas.List.{get_or-take, length-take-le}
 use Rattle.std.proofs.lemmas.List.Sums.{count_by_more_no, count_by_more_yes}
 use Rattle.mgn_machine.specs.declared.statement.CommodityLine.{CommodityLine}
 use Rattle.mgn_machine.specs.Statements.{commodity_line, is_held}
@@ -16,14 +17,19 @@ unfolding commodity_figures
 loop-commodity-preserved c =
     let set' = c.args.set.now in
     let held = positions c.args.set.now.contracts c.args.nets.now in
-    let marks = c.held_commodities-held.result in
+    let all = c.held_commodities-marks.result in
+    let n = c.commodity_count.result in
+    let marks = take n all in
     let g = c.loop-commodity.commodity in
     let was = c.loop-commodity.invariant in
     let line = commodity_line c.args.set.now held in
-    let inside : c.loop-commodity.commodity < length c.held_commodities-held.result = omega (arith, c.held_commodities-held.ensures.long, c.commodity_count-commodity-end.ensures.few) in
+    let few : n ≤ length all = omega (arith, c.held_commodities-marks.ensures.long, c.commodity_count.ensures.few) in
+    let below : g < n = omega (arith, c.commodity_count.ensures.value, c.commodity_count-commodity-end.ensures.value) in
+    let inside : g < length marks = omega (arith, below, length-take-le n all few) in
+    let same = sym (c.held_commodities-marks.ensures.held g) ∙ sym (get_or-take n all g false below) in
     elim c.if-held-commodity.branch [
       | then-held-commodity+in_ok-push w ↦
-          let marked : is_held held g ≡ true = sym (c.held_commodities-held.ensures.held g) ∙ w.if-held-commodity.true in
+          let marked : is_held held g ≡ true = same ∙ w.if-held-commodity.true in
           let figures : w.commodity.result ≡ commodity_figures set' held g = rw c.requires.figures at w.commodity.ensures.figures in
           let told : w.line_of.result ≡ line g = w.line_of.ensures ∙ ap (λ (f : CommodityFigures). line_by set' g f) figures in
           rw w.lines-is (record {
@@ -35,7 +41,7 @@ loop-commodity-preserved c =
             len = omega (arith, ap length w.in_ok-push.ensures.ok, length-append c.loop-commodity.lines (w.line_of.result ∷ []), was.len, count_by_more_yes (λ (mark : Bool). mark) marks g _ inside w.if-held-commodity.true);
           })
       | else-held-commodity w ↦
-          let unmarked : is_held held g ≡ false = sym (c.held_commodities-held.ensures.held g) ∙ w.if-held-commodity.false in
+          let unmarked : is_held held g ≡ false = same ∙ w.if-held-commodity.false in
           rw w.lines-is (record {
             so_far = was.so_far ∙ sym (left_number line (is_held held) g unmarked);
             len = was.len ∙ sym (count_by_more_no (λ (mark : Bool). mark) marks g _ inside w.if-held-commodity.false);
