@@ -5,4 +5,5 @@ pub mod StateLemmas
 pub mod TurnLemmas
 pub mod ReworkedLemmas
 pub mod ToldLemmas
+pub mod PlacesLemmas
 pub mod QuietLemmas

@@ -1,5 +1,5 @@
 -- The places of the spreads that were formed again, when one more may have been: for `rework_reached`.
-use Rattle.std.proofs.Common.{◌≡◌, ℕ, ◌+◌, ◌<◌, ◌≤◌, Bool, true, false, inl, inr, List, [], ◌∷◌, ◌++◌, length, ap, ◌∙◌, sym, subst, arith, ⊎_elim, All, length-append}
+use Rattle.std.proofs.Common.{◌≡◌, ℕ, ◌<◌, Bool, true, false, inl, inr, List, [], ◌∷◌, ◌++◌, ap, ◌∙◌, sym, subst, ⊎_elim, All}
 use Rattle.std.specs.Prelude.{if◌then◌else◌}
 use Rattle.std.proofs.lemmas.Bool.{or_parts}
 use Rattle.std.proofs.lemmas.List.Elements.{All-push}
@@ -7,13 +7,6 @@ use Rattle.std.proofs.lemmas.List.Folds.{list_any-append}
 use Rattle.mgn_params.specs.declared.tables.CreditSpread.{CreditSpread}
 use Rattle.mgn_params.specs.Tables.{credit_spread_at, legs_of}
 use Rattle.mgn_inter.specs.Rows.{IsNextOf, named, names}
-
-pub few_next : (old new : List ℕ) (i : ℕ) → length old ≤ i → IsNextOf old i new → length new ≤ i + 1
-few_next old new i few next =
-    ⊎_elim
-    (λ (same : new ≡ old). rw same (omega (arith, few)))
-    (λ (more : new ≡ old ++ i ∷ []). rw more (omega (arith, few, length-append old (i ∷ []))))
-    next
 
 pub places_next : (count : ℕ) (old new : List ℕ) (i : ℕ) → i < count → All (λ n. n < count) old → IsNextOf old i new → All (λ n. n < count) new
 places_next count old new i inside all next =

@@ -13,7 +13,7 @@ use Rattle.mgn_inter.specs.Rows.{kept_at}
 use Rattle.mgn_inter.specs.Told.{credits_at, credits_else, places_where, told_of}
 
 -- the second of a choice by a Bool
-if_false : {X : Type 0} (b : Bool) (x y : X) → b ≡ false → (if b then x else y) ≡ y
+pub if_false : {X : Type 0} (b : Bool) (x y : X) → b ≡ false → (if b then x else y) ≡ y
 if_false b x y h = rw h refl
 
 -- tests that agree below a number have the same places there

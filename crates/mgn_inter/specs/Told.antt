@@ -1,5 +1,6 @@
 -- The places of the spreads that credit something else after a change.
-use Rattle.std.specs.Prelude.{ℕ, zero, suc, Bool, not, if◌then◌else◌, List, [], ◌∷◌, ◌++◌}
+use Rattle.std.specs.Prelude.{ℕ, zero, suc, ◌==◌, Bool, not, if◌then◌else◌, List, [], ◌∷◌, ◌++◌}
+use Rattle.std.specs.Int.{bit_at}
 use Rattle.std.specs.Str.{bytes_eq}
 use Rattle.mgn_inter.specs.declared.spread_state.SpreadState.{SpreadState}
 use Rattle.mgn_inter.specs.Rows.{kept_at}
@@ -16,6 +17,10 @@ credits_else was now i = not (bytes_eq (credits_at was i) (credits_at now i))
 abbrev pub places_where : (ℕ → Bool) → ℕ → List ℕ
 places_where test zero = []
 places_where test (suc n) = if test n then places_where test n ++ n ∷ [] else places_where test n
+
+-- the places of a number's bits that are 1, in order
+unfoldable pub places_of : ℕ → List ℕ
+places_of bits = places_where (λ i. bit_at bits i == 1) 64
 
 -- the places of those of the first spreads that credit something else, in file order
 abbrev pub told_of : List SpreadState → List SpreadState → ℕ → List ℕ

@@ -146,7 +146,7 @@ impl InterCredits {
         requires inside { i < length set.now.credits }
         requires turn { (was : Credited) × IsAtTurn set.now g was moved.old i self.old }
         requires waiting { AreWaiting set.now.credits g moved.old i waiting.old }
-        requires room { length reworked.old ≤ i }
+        requires behind { All (λ k. k < i) reworked.old }
         ensures turn { (was : Credited) → IsAtTurn set.now g was moved.old i self.old →
             IsAtTurn set.now g was moved.new (i + 1) self.new }
         ensures waiting { AreWaiting set.now.credits g moved.new (i + 1) waiting.new }
@@ -163,7 +163,7 @@ impl InterCredits {
         let legs = &spread.legs[..spread.count];
         let is_told = self.rework(set, i, moved);
         await_moved(waiting, set, moved, legs);
-        reworked.tell(is_told, i as u8);
+        reworked.tell(is_told, i);
     }
 
     // Forms again the spreads that a change of a commodity reaches. Those that name it wait for their turn, and those
@@ -231,10 +231,7 @@ impl InterCredits {
     {
         set.limits();
         let spread = spread_at(set.credits(), i);
-        let legs = &spread.legs[..spread.count];
-        let kept = &mut self.kept[i];
-        move_rest(&mut kept.rests, legs, g, rest);
-        move_rest(&mut kept.after, legs, g, rest);
+        move_rest(&mut self.kept[i], &spread.legs[..spread.count], g, rest);
     }
 
     // The same of all spreads that name the commodity, of which none forms of the old rest, nor of this.

@@ -1,47 +1,50 @@
-ghost use Rattle.std.specs.Prelude.{◌≡◌, ℕ, ◌<◌, ◌≤◌, List, [], ◌∷◌, ◌++◌, length, take, if◌then◌else◌};
+ghost use Rattle.std.specs.Prelude.{◌≡◌, ◌<◌, List, ℕ, [], ◌∷◌, ◌++◌, All, IfSome, None, if◌then◌else◌};
+ghost use Rattle.mgn_inter.specs.Told.{places_of};
 
+use crate::naming::first_place;
 use std::marker::Model;
 
 /// The places of the spreads that credit something else after a change, in file order. Contracts see the places.
 #[derive(Drop)]
 pub struct Reworked {
-    places: [u8; 64],
-    count: usize,
+    // Bit `i` stands for the spread at place `i`.
+    places: u64,
 }
 
 impl Model for Reworked {
     ghost Value = { List ℕ };
 
-    ghost view = { λ r. take r.count r.places };
-
-    ghost invariant = { λ r. r.count ≤ 64 };
+    ghost view = { λ r. places_of r.places };
 }
 
 impl Reworked {
     pub(crate) fn none() -> Reworked
         ensures { result ≡ [] }
     {
-        Reworked {
-            places: [0; 64],
-            count: 0,
-        }
+        Reworked { places: 0 }
     }
 
-    // Adds a place, if it is to be told.
-    pub(crate) fn tell(&mut self, is_told: bool, place: u8)
-        requires { length self.old < 64 }
+    // Adds a place behind all that are there, if it is to be told.
+    pub(crate) fn tell(&mut self, is_told: bool, place: usize)
+        requires place { place < 64 }
+        requires behind { All (λ i. i < place) self.old }
         ensures { self.new ≡ (if is_told then self.old ++ place ∷ [] else self.old) }
     {
         if is_told {
-            self.places[self.count] = place;
-            self.count += 1;
+            self.places |= 1 << place;
         }
     }
 
-    /// The places.
-    pub fn places(&self) -> &[u8]
-        ensures { result.now ≡ self.now }
+    /// Takes the first place off, if there is one.
+    pub fn pop_first(&mut self) -> Option<usize>
+        ensures some { IfSome result (λ i. self.old ≡ i ∷ self.new) }
+        ensures none { result ≡ None → (self.old ≡ []) × (self.new ≡ []) }
     {
-        &self.places[..self.count]
+        let place = first_place(self.places);
+        if place == 64 {
+            return None;
+        }
+        self.places &= !(1 << place);
+        Some(place)
     }
 }

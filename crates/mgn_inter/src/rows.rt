@@ -3,7 +3,7 @@
 ghost use Rattle.std.specs.Prelude.{◌≡◌, ℕ, ℤ, ◌+◌, ◌<◌, ◌≤◌, ◌^◌, ◌==◌, if◌then◌else◌, length, map, All, IsTrue, not, slice_index, List};
 ghost use Rattle.std.specs.List.{IsDistinct, list_all};
 ghost use Rattle.std.specs.Str.{bytes_eq};
-ghost use Rattle.mgn_inter.specs.Quiet.{AreAlike, IsRowMoved};
+ghost use Rattle.mgn_inter.specs.Quiet.{AreAlike, IsMoved};
 ghost use Rattle.mgn_inter.specs.Rows.{AreRestsOf, brought, IsKept, marked, moved_at, reached, share_of};
 ghost use Rattle.mgn_span.specs.Words.{AreNear, AreNumbers, leg_at};
 ghost use Rattle.mgn_span.specs.Credits.{fits, formed, forms};
@@ -11,6 +11,7 @@ ghost use Rattle.mgn_params.specs.Limits.{IsCreditSpread};
 ghost use Rattle.mgn_span.specs.Scan.{value_at};
 ghost use Rattle.mgn_params.specs.Tables.{legs_of};
 
+use crate::spread_state::SpreadState;
 use mgn_params::{CreditSpread, Leg, LegSide};
 use mgn_span::legs::{amount_of_legs, credits_of_legs, rest_fits, spread_forms, use_rests};
 use mgn_span::{Delta, delta_at};
@@ -156,15 +157,15 @@ pub(crate) fn kept_forms(kept: &[Delta; 4], legs: &[Leg]) -> bool
     all_kept_fit(true, kept, legs) || all_kept_fit(false, kept, legs)
 }
 
-/// Gives the legs of a commodity another rest in a row of what is kept.
-pub(crate) fn move_rest(kept: &mut [Delta; 4], legs: &[Leg], g: usize, rest: Delta)
+/// Gives the legs of a commodity another rest, before the spread and after it, in what is kept of a spread.
+pub(crate) fn move_rest(kept: &mut SpreadState, legs: &[Leg], g: usize, rest: Delta)
     requires few { length legs.now ≤ 4 }
-    ensures long { length kept.new ≡ 4 }
-    ensures moved { IsRowMoved g rest legs.now kept.old kept.new }
+    ensures { IsMoved g rest legs.now kept.old kept.new }
 {
     for k in 0..legs.len() {
         if legs[k].commodity == g {
-            kept[k] = rest;
+            kept.rests[k] = rest;
+            kept.after[k] = rest;
         }
     }
 }

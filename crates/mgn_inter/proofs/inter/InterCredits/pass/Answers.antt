@@ -1,4 +1,4 @@
-use Rattle.std.proofs.Common.{◌≡◌, ◌∙◌, ◌<◌, List, ap, arith, length, refl, slice_set, subst}
+use Rattle.std.proofs.Common.{◌≡◌, ◌∙◌, ◌<◌, List, ap, arith, length, slice_set, subst}
 use Rattle.std.proofs.lemmas.List.{get_or_default}
 use Rattle.mgn_params.specs.declared.tables.CreditSpread.{CreditSpread}
 use Rattle.mgn_params.specs.Tables.{credit_spread_at, legs_of}
@@ -16,15 +16,8 @@ returns c =
     let long : length kept ≡ length c.args.self.now.kept = ap (λ (r : Credited). length r.kept) c.self.view_is in
     let low : c.args.i < length kept = omega (arith, long, c.requires.kept, c.requires.inside) in
     let spread_is : c.spread_at-spread.result.now ≡ s = c.spread_at-spread.ensures ∙ ap (λ (ss : List CreditSpread). credit_spread_at ss c.args.i) c.credits.ensures in
-    let kept_is : c.index_mut-kept.result.now ≡ kept_at kept c.args.i = c.index_mut-kept.ensures.value ∙ get_or_default kept c.args.i c.index_mut-kept.result.now nothing_kept low in
-    let own : SpreadState = record { rests = c.move_rest.new.kept; after = c.move_rest-2.new.kept; credits = c.index_mut-kept.result.now.credits } in
-    let moved : IsMoved g rest (legs_of c.spread_at-spread.result.now) c.index_mut-kept.result.now own = record {
-      rests_long = c.move_rest.ensures.long;
-      after_long = c.move_rest-2.ensures.long;
-      rests = c.move_rest.ensures.moved;
-      after = c.move_rest-2.ensures.moved;
-      credits = refl;
-    } in
-    let of_spread = subst (λ (one : CreditSpread). IsMoved g rest (legs_of one) c.index_mut-kept.result.now own) spread_is moved in
+    let kept_is : c.index_mut.result.now ≡ kept_at kept c.args.i = c.index_mut.ensures.value ∙ get_or_default kept c.args.i c.index_mut.result.now nothing_kept low in
+    let own : SpreadState = c.move_rest.new.kept in
+    let of_spread = subst (λ (one : CreditSpread). IsMoved g rest (legs_of one) c.index_mut.result.now own) spread_is c.move_rest.ensures in
     let of_kept = subst (λ (k : SpreadState). IsMoved g rest (legs_of s) k own) kept_is of_spread in
     (own, ap (λ (r : Credited). record r { kept = slice_set r.kept c.args.i own }) c.self.view_is, subst (λ (r : Credited). IsMoved g rest (legs_of s) (kept_at r.kept c.args.i) own) c.self.view_is of_kept)

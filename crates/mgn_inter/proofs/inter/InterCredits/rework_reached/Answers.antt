@@ -5,10 +5,10 @@ use Rattle.mgn_params.specs.declared.tables.CreditSpread.{CreditSpread}
 use Rattle.mgn_params.specs.Tables.{credit_spread_at, legs_of}
 use Rattle.mgn_inter.specs.Credited.{IsAtTurn}
 use Rattle.mgn_inter.specs.Rows.{Misses, names}
-use Rattle.mgn_inter.specs.Told.{told_of}
-use Rattle.mgn_inter.proofs.ToldLemmas.{told_next, told_none}
+use Rattle.mgn_inter.specs.Told.{credits_else, told_of}
+use Rattle.mgn_inter.proofs.ToldLemmas.{places_below, told_next, told_none}
 use Rattle.mgn_inter.proofs.TurnLemmas.{misses_of, turn_jumped, turn_last, turn_skipped, waiting_first}
-use Rattle.mgn_inter.proofs.ReworkedLemmas.{few_next, others_next, places_next}
+use Rattle.mgn_inter.proofs.ReworkedLemmas.{others_next, places_next}
 use Rattle.mgn_inter.proofs.inter.InterCredits.rework_reached.Goals as goal
 use Rattle.mgn_inter.proofs.inter.InterCredits.rework_reached.Goals.{After-min-i}
 
@@ -28,12 +28,17 @@ loop-i-init c =
       waiting = λ j from there none. waiting_first set'.credits c.args.g c.args.naming (misses c) j (omega arith) there none;
       numbers = (refl, refl);
       inside = first;
-      few = rw c.none-reworked.ensures (omega arith);
       places = rw c.none-reworked.ensures (All-nil (λ (i : ℕ). i < length set'.credits));
       others = λ k h. refl;
       left = λ j from. refl;
       told = rw c.none-reworked.ensures (told_none c.args.self.now.kept c.min-i.result);
     }
+
+-- the places so far are of spreads before this one
+pub turn-requires-clause-behind : goal.turn-requires-clause-behind
+turn-requires-clause-behind c =
+    let i = c.loop-i.i in
+    rw c.loop-i.invariant.told (places_below (credits_else c.args.self.now.kept c.loop-i.self.kept) i)
 
 pub loop-i-preserved : goal.loop-i-preserved
 loop-i-preserved c =
@@ -54,7 +59,6 @@ loop-i-preserved c =
       waiting = λ j from low unset. c.turn.ensures.waiting j (omega (arith, from, behind)) low unset;
       numbers = (c.turn.ensures.numbers.0 ∙ now.numbers.0, c.turn.ensures.numbers.1 ∙ now.numbers.1);
       inside = far;
-      few = let more = few_next c.loop-i.reworked c.turn.new.reworked c.loop-i.i now.few c.turn.ensures.places in omega (arith, more, behind);
       places = places_next (length set'.credits) c.loop-i.reworked c.turn.new.reworked c.loop-i.i inside now.places c.turn.ensures.places;
       others = λ k h.
           c.turn.ensures.others k h ∙ now.others k (others_next k set'.credits c.loop-i.reworked c.turn.new.reworked c.loop-i.i c.turn.ensures.places h);

@@ -10,7 +10,6 @@ invariant-loop-i l = record {
   waiting : AreWaiting l.set.credits l.g l.moved l.i l.waiting;
   numbers : KeepsNumbers l.initial.self l.self;
   inside : l.i ≤ length l.set.credits;
-  few : length l.reworked ≤ l.i;
   places : All (λ i. i < length l.set.credits) l.reworked;
   others : (k : ℕ) → named k l.set.credits l.reworked ≡ false → slice_index l.self.credits k ≡ slice_index l.initial.self.credits k;
   left : (j : ℕ) → l.i ≤ j → kept_at l.self.kept j ≡ kept_at l.initial.self.kept j;
