@@ -336,17 +336,18 @@ impl Portfolio {
     }
 
     // Writes the risks of the commodities that the spreads at some places name.
-    fn mend_spreads(&mut self, set: &ParamSet, places: &[u8])
+    fn mend_spreads(&mut self, set: &ParamSet, places: Reworked)
         requires ready { IsReady set.now self.old }
         requires risks { length self.old.risks ≡ length set.now.commodities }
-        requires places { All (λ i. i < length set.now.credits) places.now }
+        requires places { All (λ i. i < length set.now.credits) places }
         ensures kept { self.new ≡ with_risks self.old self.new.risks }
         ensures long { length self.new.risks ≡ length self.old.risks }
         ensures risks { (k : ℕ) → k < length self.old.risks → value_at self.new.risks k ≡
-            (if named k set.now.credits places.now then worked_risk self.old k else value_at self.old.risks k) }
+            (if named k set.now.credits places then worked_risk self.old k else value_at self.old.risks k) }
     {
-        for place in places {
-            self.mend_spread(set, usize::from(*place));
+        let mut left = places;
+        while let Some(place) = left.pop_first() {
+            self.mend_spread(set, place);
         }
     }
 
@@ -359,7 +360,7 @@ impl Portfolio {
     {
         let reworked = self.refresh(set, g);
         self.mend(g);
-        self.mend_spreads(set, reworked.places());
+        self.mend_spreads(set, reworked);
     }
 
     /// Changes one net: a quantity more of the contract at `i`, bought above 0 and sold below.

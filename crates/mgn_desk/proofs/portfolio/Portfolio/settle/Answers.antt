@@ -1,4 +1,4 @@
-use Rattle.std.proofs.Common.{◌<◌, ◌∙◌, ℕ, ℤ, List, All, length, slice_set, ap, subst, sym, length-set}
+use Rattle.std.proofs.Common.{◌∙◌, ℤ, List, length, slice_set, ap, subst, sym, length-set}
 use Rattle.mgn_desk.specs.WorkedPortfolios.{IsReady, worked_risk, WorkedPortfolio}
 use Rattle.mgn_desk.proofs.WorkedLemmas.{portfolio_written, ready_after, ready_with_risks}
 use Rattle.mgn_desk.proofs.portfolio.Portfolio.settle.Goals as goal
@@ -26,10 +26,10 @@ mend_spreads-requires c =
     record {
       ready = subst (λ (x : WorkedPortfolio). IsReady set' x) (sym c.mend.ensures) (ready_with_risks set' refreshed risks (ready before));
       risks = ap (λ (x : WorkedPortfolio). length x.risks) c.mend.ensures ∙ length-set refreshed.risks g risk ∙ ap (λ (rs : List ℤ). length rs) c.refresh-reworked.ensures.kept.risks ∙ c.requires.behind.risks.one_each;
-      places = subst (λ (xs : List ℕ). All (λ i. i < length set'.credits) xs) (sym c.places.ensures) c.refresh-reworked.ensures.places;
+      places = c.refresh-reworked.ensures.places;
     }
 
 pub returns-clause-portfolio : goal.returns-clause-portfolio
 returns-clause-portfolio c =
     let before = (goal.at.returns-clause-portfolio c).After-refresh-reworked in
-    portfolio_written c.args.set.now c.args.self.now c.refresh-reworked.new.self c.mend.new.self c.mend_spreads.new.self c.places.result.now c.args.g c.requires.commodity c.requires.behind c.refresh-reworked.ensures.kept (ready before) (rw (sym c.places.ensures) at c.refresh-reworked.ensures.others) c.mend.ensures c.mend_spreads.ensures.kept c.mend_spreads.ensures.long c.mend_spreads.ensures.risks
+    portfolio_written c.args.set.now c.args.self.now c.refresh-reworked.new.self c.mend.new.self c.mend_spreads.new.self c.refresh-reworked.result c.args.g c.requires.commodity c.requires.behind c.refresh-reworked.ensures.kept (ready before) c.refresh-reworked.ensures.others c.mend.ensures c.mend_spreads.ensures.kept c.mend_spreads.ensures.long c.mend_spreads.ensures.risks
