@@ -112,7 +112,7 @@ start_small t nets g leg limits are =
     omega (arith, all, sizes, is, le, few)
 
 -- nor does it after the first months
-pub start_small_to : (t : Tables) (nets deltas : List ℤ) (m : ℕ) (sums : MonthSums) (g leg : ℕ) → IsWithinLimits t → AreDeltas t nets deltas → AreMonthSumsTo t deltas m sums → m ≤ length t.months → g < length t.commodities → leg < 16 → leg_of sums.starts.items g leg ≤ 10 ^ 16
+pub start_small_to : (t : Tables) (nets deltas : List ℤ) (m : ℕ) (sums : MonthSums) (g leg : ℕ) → IsWithinLimits t → AreDeltas t nets deltas → AreMonthSumsTo t deltas m sums → m ≤ length t.months → g < length t.commodities → leg < 16 → leg_of sums.starts g leg ≤ 10 ^ 16
 start_small_to t nets deltas m sums g leg limits are summed few h k =
     let fewer = sum_below_fewer (leg_share t.months deltas g leg) m (length t.months) few in
     omega (arith, summed.starts g leg h k, fewer, start_is t nets deltas g leg are, start_small t nets g leg limits are.of_nets)
@@ -132,11 +132,11 @@ pub months_all : (t : Tables) (nets deltas : List ℤ) (sums : MonthSums) → Is
 months_all t nets deltas sums limits are summed = record {
   starts = record {
     one_row_each = summed.one_row_each;
-    each = λ g h. starts_are t nets deltas sums.starts.items g are (summed.sixteen g h) (λ leg k. summed.starts g leg h k);
+    each = λ g h. starts_are t nets deltas sums.starts g are (summed.sixteen g h) (λ leg k. summed.starts g leg h k);
     small = λ g leg h.
         ⊎_elim
         (λ (low : leg < 16). omega (arith, start_small_to t nets deltas (length t.months) sums g leg limits are summed (omega arith) h low))
-        (λ past. rw (get_or_past (legs_row sums.starts.items g) leg 0 (omega (arith, summed.sixteen g h, past))) (omega arith))
+        (λ past. rw (get_or_past (legs_row sums.starts g) leg 0 (omega (arith, summed.sixteen g h, past))) (omega arith))
         (cases_lt leg 16);
   };
   net_deltas = record {

@@ -88,12 +88,12 @@ if_ok_along (Ok x) P Q along h = along x h
 if_ok_along (Err e) P Q along h = h
 
 -- the figures from the rows are those of the definitions
-pub figures_are : (t : Tables) (nets : List ℤ) (rows : FigureRows) (g : ℕ) (scan : ScanFigures) (i s c m r : ℤ) → AreFigureRows t nets rows → g < length t.commodities → scan ≡ scanned (total_of rows.sums.totals.items g) → i ≡ pos (charges_of (legs_row rows.starts.items g) (stages_of t.spreads g)) → s ≡ pos (spot_charge_from (legs_row rows.starts.items g) (left_by (legs_row rows.starts.items g) (stages_of t.spreads g)) (spot_of t.spots g)) → c ≡ pos (slice_index rows.credits.items g) → m ≡ pos (slice_index rows.sums.minimums.items g) → r ≡ int_max (scan.scan +ℤ i +ℤ s -ℤ c) m → let built : CommodityFigures = record { scan = scan.scan; active = scan.active; price_risk2 = scan.price_risk2; intra = i; spot = s; credit = c; minimum = m; risk = r } in built ≡ commodity_figures t (positions t.contracts nets) g
+pub figures_are : (t : Tables) (nets : List ℤ) (rows : FigureRows) (g : ℕ) (scan : ScanFigures) (i s c m r : ℤ) → AreFigureRows t nets rows → g < length t.commodities → scan ≡ scanned (total_of rows.sums.totals g) → i ≡ pos (charges_of (legs_row rows.starts g) (stages_of t.spreads g)) → s ≡ pos (spot_charge_from (legs_row rows.starts g) (left_by (legs_row rows.starts g) (stages_of t.spreads g)) (spot_of t.spots g)) → c ≡ pos (slice_index rows.credits.items g) → m ≡ pos (slice_index rows.sums.minimums.items g) → r ≡ int_max (scan.scan +ℤ i +ℤ s -ℤ c) m → let built : CommodityFigures = record { scan = scan.scan; active = scan.active; price_risk2 = scan.price_risk2; intra = i; spot = s; credit = c; minimum = m; risk = r } in built ≡ commodity_figures t (positions t.contracts nets) g
 unfolding commodity_figures risk intra_charge spot_charge
 figures_are t nets rows g scan i s c m r are h read charged spotted creditted lowest risked =
     let portfolio : List Position = positions t.contracts nets in
     let starts = are.starts.each g h in
-    let scan_is : scan ≡ scanned (scenario_total g portfolio) = read ∙ scanned_same (total_of rows.sums.totals.items g) (scenario_total g portfolio) (λ s k. are.sums.totals.each g s h k) in
+    let scan_is : scan ≡ scanned (scenario_total g portfolio) = read ∙ scanned_same (total_of rows.sums.totals g) (scenario_total g portfolio) (λ s k. are.sums.totals.each g s h k) in
     let intra_is : i ≡ pos (intra_charge t portfolio g) = charged ∙ ap (λ (xs : List ℕ). pos (charges_of xs (stages_of t.spreads g))) starts in
     let spot_is : s ≡ pos (spot_charge t portfolio g) = spotted ∙ ap (λ (xs : List ℕ). pos (spot_charge_from xs (left_by xs (stages_of t.spreads g)) (spot_of t.spots g))) starts in
     let credit_is : c ≡ pos (credit t portfolio g) = creditted ∙ ap (λ (xs : List ℕ). pos (slice_index xs g)) are.credits.is in

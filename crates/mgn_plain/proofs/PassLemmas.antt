@@ -91,7 +91,7 @@ value_small t nets i sums limits are h =
     rw are.value small
 
 -- the totals of a commodity with one position of it more are totals still
-pub totals_room : (t : Tables) (nets : List ℤ) (i : ℕ) (sums : Sums) (s : ℕ) → IsWithinLimits t → AreSumsTo t nets i sums → i < length t.contracts → s < 16 → let c = contract_at t.contracts i in IsTotal (total_of sums.totals.items c.commodity s +ℤ value_at nets i *ℤ value_at c.array s)
+pub totals_room : (t : Tables) (nets : List ℤ) (i : ℕ) (sums : Sums) (s : ℕ) → IsWithinLimits t → AreSumsTo t nets i sums → i < length t.contracts → s < 16 → let c = contract_at t.contracts i in IsTotal (total_of sums.totals c.commodity s +ℤ value_at nets i *ℤ value_at c.array s)
 totals_room t nets i sums s limits are h k =
     let c : Contract = contract_at t.contracts i in
     let one_each = are.of_nets.one_each in

@@ -10,13 +10,13 @@ use Rattle.mgn_plain.specs.Parts.{AreNetDeltas, AreStarts}
 
 -- the first so many months, in file order
 pub record AreMonthSumsTo (set : Tables) (deltas : List ℤ) (count : ℕ) (sums : MonthSums) : Type 0 where
-  pub one_row_each : length sums.starts.items ≡ length set.commodities
+  pub one_row_each : length sums.starts ≡ length set.commodities
   pub one_net_each : length sums.nets.items ≡ length set.commodities
-  pub sixteen : (g : ℕ) → g < length set.commodities → length (legs_row sums.starts.items g) ≡ 16
-  pub starts : (g leg : ℕ) → g < length set.commodities → leg < 16 → leg_of sums.starts.items g leg ≡ sum_below (leg_share set.months deltas g leg) count
+  pub sixteen : (g : ℕ) → g < length set.commodities → length (legs_row sums.starts g) ≡ 16
+  pub starts : (g leg : ℕ) → g < length set.commodities → leg < 16 → leg_of sums.starts g leg ≡ sum_below (leg_share set.months deltas g leg) count
   pub nets : (g : ℕ) → g < length set.commodities → value_at sums.nets.items g ≡ signed_sum_below (net_share_by set.months deltas g) count
 
 -- all months, by a list of nets
 pub record AreMonthSums (set : Tables) (nets : List ℤ) (sums : MonthSums) : Type 0 where
-  pub starts : AreStarts set nets sums.starts.items
+  pub starts : AreStarts set nets sums.starts
   pub net_deltas : AreNetDeltas set nets sums.nets.items

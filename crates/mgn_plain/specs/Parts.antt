@@ -43,7 +43,7 @@ pub record AreMarks (set : Tables) (nets : List ℤ) (marks : List Bool) : Type 
 
 -- all that is summed over the positions
 pub record AreSums (set : Tables) (nets : List ℤ) (sums : Sums) : Type 0 where
-  pub totals : AreTotals set nets sums.totals.items
+  pub totals : AreTotals set nets sums.totals
   pub deltas : AreDeltas set nets sums.deltas.items
   pub minimums : AreMinimums set nets sums.minimums.items
   pub marks : AreMarks set nets sums.marks.items
@@ -82,5 +82,5 @@ pub record AreCredits (set : Tables) (nets : List ℤ) (row : List ℕ) : Type 0
 -- all that the figures of the commodities are worked out from
 pub record AreFigureRows (set : Tables) (nets : List ℤ) (rows : FigureRows) : Type 0 where
   pub sums : AreSums set nets rows.sums
-  pub starts : AreStarts set nets rows.starts.items
+  pub starts : AreStarts set nets rows.starts
   pub credits : AreCredits set nets rows.credits.items

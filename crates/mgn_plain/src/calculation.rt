@@ -20,6 +20,7 @@ use crate::whole::Figures;
 use mgn_nets::Nets;
 use mgn_num::Cents;
 use mgn_params::{ParamSet, Work};
+use mgn_rows::SparseRows;
 use std::alloc::{AllocError, Global};
 
 // One pass over the contracts, then those over the months, the spreads and the commodities.
@@ -43,11 +44,11 @@ pub(crate) fn work_out(
 }
 
 // What the legs of a commodity start with.
-fn starts_row(starts: &[[u64; 16]], commodity: usize) -> &[u64; 16]
+fn starts_row(starts: &SparseRows<[u64; 16]>, commodity: usize) -> &[u64; 16]
     requires { commodity < length starts.now }
     ensures { result.now ≡ legs_row starts.now commodity }
 {
-    &starts[commodity]
+    starts.row(commodity)
 }
 
 // A number of a row of cents.

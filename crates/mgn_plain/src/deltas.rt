@@ -10,6 +10,7 @@ ghost use Rattle.mgn_span.specs.MonthDeltas.{month_net, start_share};
 use mgn_num::{Quantity, TenThousandths};
 use mgn_params::rows::filled;
 use mgn_params::{Contract, Month, ParamSet};
+use mgn_rows::SparseRows;
 use mgn_span::{Delta, delta_at};
 use std::alloc::{AllocError, Global};
 
@@ -34,7 +35,7 @@ pub(crate) fn add_position(deltas: &mut [Delta], contract: &Contract, net: Quant
 }
 
 // Adds a month's delta to the leg of its tier that has the delta's direction.
-fn add_start(starts: &mut [[u64; 16]], month: &Month, delta: TenThousandths)
+fn add_start(starts: &mut SparseRows<[u64; 16]>, month: &Month, delta: TenThousandths)
     requires commodity { month.now.commodity < length starts.old }
     requires tier { month.now.tier < 8 }
     requires delta { unsigned_abs delta ≤ 10 ^ 16 }
@@ -49,7 +50,7 @@ fn add_start(starts: &mut [[u64; 16]], month: &Month, delta: TenThousandths)
     } else {
         month.tier
     };
-    let row = &mut starts[month.commodity];
+    let row = starts.row_mut(month.commodity);
     row[leg] += delta.size() as u64;
 }
 
@@ -68,8 +69,8 @@ fn add_net(nets: &mut [Delta], month: &Month, delta: TenThousandths)
 // What the months come to.
 #[derive(Drop)]
 pub(crate) struct MonthSums {
-    // What the legs of the commodities start with.
-    pub starts: Vec<[u64; 16]>,
+    // What the legs of the commodities start with; kept are the rows of commodities with a month's delta.
+    pub starts: SparseRows<[u64; 16]>,
     // The net deltas of the commodities.
     pub nets: Vec<Delta>,
 }
@@ -78,8 +79,9 @@ pub(crate) struct MonthSums {
 fn nothing(alloc: Global, set: &ParamSet) -> Result<MonthSums, AllocError>
     ensures { IfOk result (λ sums. (deltas : List ℤ) → AreMonthSumsTo set.now deltas 0 sums) }
 {
+    set.limits();
     Ok(MonthSums {
-        starts: filled(alloc, set.commodity_count(), [0; 16])?,
+        starts: SparseRows::new(alloc, set.commodity_count(), [0; 16])?,
         nets: filled(alloc, set.commodity_count(), Delta::ZERO)?,
     })
 }

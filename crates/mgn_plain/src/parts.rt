@@ -7,13 +7,14 @@ use crate::sums::Sums;
 use crate::{credits, scan};
 use mgn_params::ParamSet;
 use mgn_params::rows::filled;
+use mgn_rows::SparseRows;
 use mgn_span::{Delta, Total};
 use std::alloc::{AllocError, Global};
 
 // The doubled price risks of the commodities. Nothing is read of one of which each net is 0, as of most.
 fn price_risks(
     alloc: Global,
-    totals: &[[Total; 16]],
+    totals: &SparseRows<[Total; 16]>,
     marks: &[bool],
 ) -> Result<Vec<u64>, AllocError>
     requires one_each { length marks.now ≡ length totals.now }

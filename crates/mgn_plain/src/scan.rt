@@ -11,12 +11,13 @@ use crate::rows::mark_at;
 use crate::scanned::ScanFigures;
 use mgn_num::Quantity;
 use mgn_params::{ParamSet, Work};
+use mgn_rows::SparseRows;
 use mgn_span::Total;
 use mgn_span::scan::{active_scenario, add_scaled, doubled_risk, doubled_risk_at, risk_at};
 
 // Adds what a position in the contract at `i` counts for.
 pub(crate) fn add_position(
-    totals: &mut [[Total; 16]],
+    totals: &mut SparseRows<[Total; 16]>,
     set: &ParamSet,
     i: usize,
     net: Quantity,
@@ -32,7 +33,7 @@ pub(crate) fn add_position(
         total_of totals.new g s ≡ total_of totals.old g s +ℤ scenario_share g s (contract_at set.now.contracts i, net) }
 {
     set.limits();
-    let row = &mut totals[set.contract_at(i).commodity];
+    let row = totals.row_mut(set.contract_at(i).commodity);
     add_scaled(row, set.array(i, work), net);
 }
 
@@ -50,15 +51,15 @@ pub(crate) fn scan_figures(totals: &[Total; 16]) -> ScanFigures
 }
 
 // The totals of a commodity.
-pub(crate) fn totals_row(totals: &[[Total; 16]], commodity: usize) -> &[Total; 16]
+pub(crate) fn totals_row(totals: &SparseRows<[Total; 16]>, commodity: usize) -> &[Total; 16]
     requires { commodity < length totals.now }
     ensures { result.now ≡ totals_of totals.now commodity }
 {
-    &totals[commodity]
+    totals.row(commodity)
 }
 
 // Twice the price risk of each commodity, of which those without a mark have totals of 0.
-pub(crate) fn fill_price_risks(risks: &mut [u64], totals: &[[Total; 16]], marks: &[bool])
+pub(crate) fn fill_price_risks(risks: &mut [u64], totals: &SparseRows<[Total; 16]>, marks: &[bool])
     requires zeros { risks.old ≡ replicate (length totals.now) 0 }
     requires one_each { length marks.now ≡ length totals.now }
     requires flat { (g s : ℕ) → mark_at marks.now g ≡ false → g < length totals.now → s < 16 → total_of totals.now g s ≡ pos 0 }

@@ -7,6 +7,7 @@ use mgn_nets::Nets;
 use mgn_num::Cents;
 use mgn_params::rows::filled;
 use mgn_params::{ParamSet, Work};
+use mgn_rows::SparseRows;
 use mgn_span::shares::share_of_value;
 use mgn_span::{Delta, Total};
 use std::alloc::{AllocError, Global};
@@ -14,8 +15,8 @@ use std::alloc::{AllocError, Global};
 // What positions come to.
 #[derive(Drop)]
 pub(crate) struct Sums {
-    // The totals of the 16 scenarios, a row for each commodity.
-    pub totals: Vec<[Total; 16]>,
+    // The totals of the 16 scenarios, a row for each commodity; kept are those of commodities with a position.
+    pub totals: SparseRows<[Total; 16]>,
     // The deltas of the months.
     pub deltas: Vec<Delta>,
     // The short option minimums of the commodities.
@@ -30,8 +31,9 @@ pub(crate) struct Sums {
 fn nothing(alloc: Global, set: &ParamSet) -> Result<Sums, AllocError>
     ensures { IfOk result (λ sums. (nets : List ℤ) → AreNets set.now nets → AreSumsTo set.now nets 0 sums) }
 {
+    set.limits();
     Ok(Sums {
-        totals: filled(alloc, set.commodity_count(), [Total::ZERO; 16])?,
+        totals: SparseRows::new(alloc, set.commodity_count(), [Total::ZERO; 16])?,
         deltas: filled(alloc, set.month_count(), Delta::ZERO)?,
         minimums: filled(alloc, set.commodity_count(), 0)?,
         marks: filled(alloc, set.commodity_count(), false)?,

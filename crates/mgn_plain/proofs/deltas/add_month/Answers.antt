@@ -8,11 +8,11 @@ use Rattle.mgn_plain.proofs.deltas.add_month.Goals as goal
 
 pub add_start-requires-clause-room : goal.add_start-requires-clause-room
 add_start-requires-clause-room c = λ g leg h k.
-    rw c.deref_mut.ensures.value (start_small_to c.args.set.now c.requires.deltas.0 c.args.deltas.now c.args.m c.args.sums.now g leg c.limits.ensures c.requires.deltas.1 c.requires.sums (omega arith) (omega (arith, c.requires.sums.one_row_each, c.deref_mut.ensures.len)) k)
+    (start_small_to c.args.set.now c.requires.deltas.0 c.args.deltas.now c.args.m c.args.sums.now g leg c.limits.ensures c.requires.deltas.1 c.requires.sums (omega arith) (omega (arith, c.requires.sums.one_row_each, h)) k)
 
 pub add_net-requires-clause-room : goal.add_net-requires-clause-room
 add_net-requires-clause-room c =
-    rw (c.deref_mut-2.ensures.value, c.ten_thousandths-delta.ensures.value, c.delta_at.ensures, c.month_at-month.ensures) (net_room c.args.set.now c.requires.deltas.0 c.args.deltas.now c.args.m c.args.sums.now c.limits.ensures c.requires.deltas.1 c.requires.sums c.requires.month)
+    rw (c.deref_mut.ensures.value, c.ten_thousandths-delta.ensures.value, c.delta_at.ensures, c.month_at-month.ensures) (net_room c.args.set.now c.requires.deltas.0 c.args.deltas.now c.args.m c.args.sums.now c.limits.ensures c.requires.deltas.1 c.requires.sums c.requires.month)
 
 pub returns : goal.returns
 returns c =
@@ -21,21 +21,19 @@ returns c =
     let m = c.args.m in
     let are = c.requires.sums in
     let sums = c.args.sums.now in
-    let rows = with_items_is sums.starts c.add_start.new.starts (c.add_start.ensures.one_each ∙ c.deref_mut.ensures.len) in
-    let row = with_items_is sums.nets c.add_net.new.nets (c.add_net.ensures.one_each ∙ c.deref_mut-2.ensures.len) in
+    let row = with_items_is sums.nets c.add_net.new.nets (c.add_net.ensures.one_each ∙ c.deref_mut.ensures.len) in
     record {
-      one_row_each = rw (rows, c.add_start.ensures.one_each, c.deref_mut.ensures.value) are.one_row_each;
-      one_net_each = rw (row, c.add_net.ensures.one_each, c.deref_mut-2.ensures.value) are.one_net_each;
+      one_row_each = c.add_start.ensures.one_each ∙ are.one_row_each;
+      one_net_each = rw (row, c.add_net.ensures.one_each, c.deref_mut.ensures.value) are.one_net_each;
       sixteen = λ g h.
-          let here : g < length c.deref_mut.result.now = omega (arith, c.deref_mut.ensures.len, are.one_row_each) in
-          let long = rw c.deref_mut.ensures.value at (c.add_start.ensures.as_long g here) in
-          rw rows (long ∙ are.sixteen g h);
+          let here : g < length sums.starts = omega (arith, h, are.one_row_each) in
+          c.add_start.ensures.as_long g here ∙ are.sixteen g h;
       starts = λ g leg h k.
-          let here : g < length c.deref_mut.result.now = omega (arith, c.deref_mut.ensures.len, are.one_row_each) in
-          let added = rw (c.deref_mut.ensures.value, c.ten_thousandths-delta.ensures.value, c.delta_at.ensures, c.month_at-month.ensures) at (c.add_start.ensures.starts g leg here k) in
-          rw rows (omega (arith, added, are.starts g leg h k, sum_below_more (leg_share set.months deltas g leg) m));
+          let here : g < length sums.starts = omega (arith, h, are.one_row_each) in
+          let added = rw (c.ten_thousandths-delta.ensures.value, c.delta_at.ensures, c.month_at-month.ensures) at (c.add_start.ensures.starts g leg here k) in
+          (omega (arith, added, are.starts g leg h k, sum_below_more (leg_share set.months deltas g leg) m));
       nets = λ g h.
-          let here : g < length c.deref_mut-2.result.now = omega (arith, c.deref_mut-2.ensures.len, are.one_net_each) in
-          let added = rw (c.deref_mut-2.ensures.value, c.ten_thousandths-delta.ensures.value, c.delta_at.ensures, c.month_at-month.ensures) at (c.add_net.ensures.nets g here) in
+          let here : g < length c.deref_mut.result.now = omega (arith, c.deref_mut.ensures.len, are.one_net_each) in
+          let added = rw (c.deref_mut.ensures.value, c.ten_thousandths-delta.ensures.value, c.delta_at.ensures, c.month_at-month.ensures) at (c.add_net.ensures.nets g here) in
           rw row (omega (arith, ints, added, are.nets g h, signed_sum_below_more (net_share_by set.months deltas g) m));
     }

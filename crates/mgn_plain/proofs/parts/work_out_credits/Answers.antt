@@ -6,22 +6,22 @@ use Rattle.mgn_plain.proofs.parts.work_out_credits.Goals as goal
 
 pub price_risks-requires-clause-one_each : goal.price_risks-requires-clause-one_each
 price_risks-requires-clause-one_each c =
-    rw (c.deref.ensures.value, c.deref-2.ensures.value) (c.requires.2.marks.one_each ∙ sym c.requires.2.totals.one_row_each)
+    rw c.deref.ensures.value (c.requires.2.marks.one_each ∙ sym c.requires.2.totals.one_row_each)
 
 pub price_risks-requires-clause-flat : goal.price_risks-requires-clause-flat
 price_risks-requires-clause-flat c =
-    rw (c.deref.ensures.value, c.deref-2.ensures.value) (totals_none c.args.set.now c.requires.0 c.args.sums.now.totals.items c.args.sums.now.marks.items c.requires.2.totals c.requires.2.marks)
+    rw c.deref.ensures.value (totals_none c.args.set.now c.requires.0 c.args.sums.now.totals c.args.sums.now.marks.items c.requires.2.totals c.requires.2.marks)
 
 pub credit_row-requires-clause-numbers : goal.credit_row-requires-clause-numbers
 credit_row-requires-clause-numbers c =
-    let risks = rw c.deref.ensures.value at c.in_ok-risks.ensures in
-    rw c.deref-3.ensures.value (credit_numbers c.args.set.now c.requires.0 c.args.deltas.now c.args.sums.now.totals.items c.in_ok-risks.risks.items c.limits.ensures c.requires.1 c.requires.2.totals risks)
+    let risks = c.in_ok-risks.ensures in
+    rw c.deref-2.ensures.value (credit_numbers c.args.set.now c.requires.0 c.args.deltas.now c.args.sums.now.totals c.in_ok-risks.risks.items c.limits.ensures c.requires.1 c.requires.2.totals risks)
 
 pub returns : goal.returns
 returns c =
-    let risks = rw c.deref.ensures.value at c.in_ok-risks.ensures in
+    let risks = c.in_ok-risks.ensures in
     if_ok_along c.credit_row.result _ _
-    (λ row from nets are summed. credits_are c.args.set.now nets c.args.deltas.now c.args.sums.now.totals.items c.deref-3.result.now row.items are summed.totals (rw c.deref-3.ensures.value risks) from)
+    (λ row from nets are summed. credits_are c.args.set.now nets c.args.deltas.now c.args.sums.now.totals c.deref-2.result.now row.items are summed.totals (rw c.deref-2.ensures.value risks) from)
     c.credit_row.ensures
 
 pub returns-then-is_empty : goal.returns-then-is_empty
