@@ -241,14 +241,12 @@ impl Book {
             Err(StepFault::Memory) => return Outcome::Memory,
             Err(StepFault::Refused(_)) => unreachable!(),
         };
-        if self
-            .history
-            .push(session, number, command, &likely_places(plan), &reply)
-            .is_err()
-        {
+        let Ok(kept) = reply.copy() else {
             return Outcome::Memory;
-        }
+        };
         self.counts[count_place(session)] = number;
+        self.history
+            .push(session, number, command, &likely_places(plan), kept);
         Outcome::Done(self.history.len() as u64, reply)
     }
 

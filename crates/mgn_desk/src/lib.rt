@@ -2,11 +2,10 @@
 #![tactic(auto)]
 
 mod branch;
-mod commodity_row;
-mod commodity_rows;
 mod desk;
 mod moves;
 mod portfolio;
+mod risk_sum;
 mod unit_portfolios;
 
 pub use desk::Desk;

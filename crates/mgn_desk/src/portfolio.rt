@@ -10,11 +10,15 @@ ghost use Rattle.mgn_desk.specs.WorkedPortfolios.{AreParts, ArePortfolioRows, ch
 ghost use Rattle.mgn_desk.specs.Moved.{arrays_of_quantity, counted, more_of};
 ghost use Rattle.mgn_desk.specs.Risks.{IsRisk};
 
-use crate::commodity_rows::CommodityRows;
+use crate::risk_sum::RiskSum;
 use mgn_inter::{InterCredits, Reworked, spread_at};
 use mgn_nets::Nets;
-use mgn_num::{Cents, Quantity};
+use mgn_num::{Cents, Quantity, TenThousandths};
+use mgn_option::OptionSums;
+use mgn_params::rows::{fill, filled};
 use mgn_params::{Leg, ParamSet, Work};
+use mgn_scan::ScanTotals;
+use mgn_tiers::TierStages;
 use std::alloc::{AllocError, Global};
 use std::marker::Model;
 
@@ -26,8 +30,13 @@ use std::marker::Model;
 #[derive(Drop)]
 pub struct Portfolio {
     nets: Nets,
-    kept: CommodityRows,
+    totals: ScanTotals,
+    sums: OptionSums,
+    tiers: TierStages,
     credits: InterCredits,
+    // For each commodity its scan risk with its spreading and spot charges.
+    charges: Vec<Cents>,
+    risks: RiskSum,
 }
 
 impl Model for Portfolio {
@@ -40,16 +49,29 @@ impl Model for Portfolio {
     ghost view = { worked_of };
 }
 
+// Contracts at a scaled delta for each.
+fn scaled(quantity: Quantity, delta: &i64) -> TenThousandths
+    ensures { result ≡ quantity *ℤ delta.now }
+{
+    TenThousandths::product(quantity, *delta)
+}
+
 impl Portfolio {
     /// Nets of 0. The only error is that memory was refused.
     pub fn new(alloc: Global, set: &ParamSet) -> Result<Portfolio, AllocError>
         ensures portfolio { IfOk result (IsPortfolio set.now) }
         ensures flat { IfOk result (λ p. p.nets ≡ replicate (length set.now.contracts) (pos 0)) }
     {
+        set.limits();
+        let count = set.commodity_count();
         Ok(Portfolio {
             nets: Nets::flat(alloc, set.contract_count())?,
-            kept: CommodityRows::new(alloc, set)?,
+            totals: ScanTotals::new(alloc, set)?,
+            sums: OptionSums::new(alloc, set)?,
+            tiers: TierStages::new(alloc, set)?,
             credits: InterCredits::new(alloc, set)?,
+            charges: filled(alloc, count, Cents::ZERO)?,
+            risks: RiskSum::new(alloc, count)?,
         })
     }
 
@@ -70,7 +92,14 @@ impl Portfolio {
     pub(crate) fn fits(&self, set: &ParamSet) -> bool
         ensures { IsTrue result ↔ ArePortfolioRows set.now self.now }
     {
-        self.nets.len() == set.contract_count() && self.kept.fits(set) && self.credits.fits(set)
+        let count = set.commodity_count();
+        self.nets.len() == set.contract_count()
+            && self.totals.fits(set)
+            && self.sums.fits(set)
+            && self.tiers.fits(set)
+            && self.credits.fits(set)
+            && self.charges.len() == count
+            && self.risks.count() == count
     }
 
     // Nets of 0 in place of its own, under a set that it fits. Takes no memory.
@@ -80,8 +109,12 @@ impl Portfolio {
         ensures flat { self.new.nets ≡ replicate (length set.now.contracts) (pos 0) }
     {
         self.nets.clear();
-        self.kept.flatten();
+        self.totals.flatten();
+        self.sums.flatten();
+        self.tiers.flatten();
         self.credits.flatten(set);
+        fill(&mut self.charges, Cents::ZERO);
+        self.risks.flatten();
     }
 
     // These nets in place of its own, under a set that it fits. Takes no memory.
@@ -170,7 +203,11 @@ impl Portfolio {
         ensures counted { work.new ≡ min (work.old + 1) (2 ^ 64 - 1) }
     {
         set.limits();
-        self.kept.add(set, &self.nets, i, quantity, work);
+        let contract = set.contract_at(i);
+        self.totals.add(set, &self.nets, i, quantity, work);
+        self.sums.add(set, &self.nets, i, quantity);
+        self.tiers
+            .add(set, contract.month, scaled(quantity, &contract.delta));
         self.nets.add(i, quantity);
     }
 
@@ -183,8 +220,7 @@ impl Portfolio {
             result ≡ charge_of set (positions set.contracts self.now.nets) g }
         ensures small { IsRisk result }
     {
-        let tier = &self.kept.row(g).tier;
-        scan.plus(tier.charge()).plus(tier.spot())
+        scan.plus(self.tiers.charge(g)).plus(self.tiers.spot(g))
     }
 
     // Writes what the commodity at a place risks before credits.
@@ -199,7 +235,7 @@ impl Portfolio {
         ensures small { IsRisk (charge_of set.now (positions set.now.contracts self.old.nets) g) }
     {
         let charge = self.charge(g, scan);
-        self.kept.write_charge(g, charge);
+        self.charges[g] = charge;
     }
 
     // Brings the credits after the parts.
@@ -220,7 +256,7 @@ impl Portfolio {
         ensures others { (k : ℕ) → named k set.now.credits result ≡ false →
             slice_index self.new.credits.credits k ≡ slice_index self.old.credits.credits k }
     {
-        let net_delta = self.kept.row(g).tier.net_delta();
+        let net_delta = self.tiers.net_delta(g);
         self.credits.refresh(set, g, net_delta, doubled_risk)
     }
 
@@ -243,7 +279,7 @@ impl Portfolio {
         ensures others { (k : ℕ) → named k set.now.credits result ≡ false →
             slice_index self.new.credits.credits k ≡ slice_index self.old.credits.credits k }
     {
-        let scanned = self.kept.risks(g);
+        let scanned = self.totals.risks(g);
         self.write_charge(set, g, scanned.scan);
         self.refresh_credits(set, g, scanned.price_risk2)
     }
@@ -254,9 +290,8 @@ impl Portfolio {
         ensures risk { result ≡ worked_risk self.now g }
         ensures small { IsRisk result }
     {
-        let row = self.kept.row(g);
-        let least = row.minimum.cents();
-        row.charge.minus(self.credits.credit(g)).larger(least)
+        let least = self.sums.minimum(g);
+        self.charges[g].minus(self.credits.credit(g)).larger(least)
     }
 
     // Writes the risk of the commodity at a place.
@@ -266,7 +301,7 @@ impl Portfolio {
         ensures { self.new ≡ with_risks self.old (slice_set self.old.risks g (worked_risk self.old g)) }
     {
         let risk = self.risk(g);
-        self.kept.write_risk(g, risk);
+        self.risks.write(g, risk);
     }
 
     // Writes the risks of the commodities of legs.
@@ -368,8 +403,12 @@ impl Portfolio {
         ensures { self.new ≡ other.now }
     {
         self.nets.copy_from(&other.nets);
-        self.kept.copy_from(&other.kept);
+        self.totals.copy_from(&other.totals);
+        self.sums.copy_from(&other.sums);
+        self.tiers.copy_from(&other.tiers);
         self.credits.copy_from(&other.credits);
+        self.charges.copy_from_slice(&other.charges);
+        self.risks.copy_from(&other.risks);
     }
 
     /// The net of a contract, above 0 bought and below 0 sold.
@@ -393,9 +432,6 @@ impl Portfolio {
         ensures requirement { (set : Tables) → IsPortfolio set self.now → result ≡ requirement set self.now.nets }
         ensures small { unsigned_abs result ≤ 10 ^ 30 }
     {
-        self.kept
-            .risk_sum()
-            .minus(self.kept.option_value())
-            .or_zero()
+        self.risks.sum().minus(self.sums.value()).or_zero()
     }
 }

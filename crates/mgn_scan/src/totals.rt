@@ -6,12 +6,14 @@ ghost use Rattle.mgn_params.specs.Tables.{Tables};
 ghost use Rattle.mgn_scan.specs.Totals.{AreTotals};
 ghost use Rattle.mgn_span.specs.Words.{totals_of};
 
-use crate::row::ScanRow;
 use mgn_nets::Nets;
 use mgn_num::{Cents, Quantity};
+use mgn_params::rows::{fill_marked, filled};
 use mgn_params::{ParamSet, Work};
-use mgn_rows::SparseRows;
-use mgn_span::scan::ScanRisks;
+use mgn_span::Total;
+use mgn_span::scan::{
+    ScanRisks, active_scenario, add_scaled, both_risks, doubled_risk, largest_total,
+};
 use std::alloc::{AllocError, Global};
 use std::marker::Model;
 
@@ -21,7 +23,9 @@ use std::marker::Model;
 /// `AreTotals set nets totals` says that they are the totals of these nets under this set.
 #[derive(Drop)]
 pub struct ScanTotals {
-    rows: SparseRows<ScanRow>,
+    rows: Vec<[Total; 16]>,
+    // The commodities whose totals were written to: those of the others are 0.
+    written: Vec<bool>,
 }
 
 impl Model for ScanTotals {
@@ -29,7 +33,12 @@ impl Model for ScanTotals {
 
     ghost Value = { List (List ℤ) };
 
-    ghost view = { λ t. t.rows };
+    ghost view = { λ t. t.rows.items };
+
+    ghost use Rattle.mgn_params.specs.Marked.{IsElse};
+    ghost use Rattle.mgn_scan.specs.Totals.{no_totals};
+
+    ghost invariant = { λ t. IsElse no_totals t.rows.items t.written.items };
 }
 
 impl ScanTotals {
@@ -37,9 +46,9 @@ impl ScanTotals {
     pub fn new(alloc: Global, set: &ParamSet) -> Result<Self, AllocError>
         ensures { IfOk result (AreTotals set.now (replicate (length set.now.contracts) (pos 0))) }
     {
-        set.limits();
-        let rows = SparseRows::new(alloc, set.commodity_count(), ScanRow::NOTHING)?;
-        Ok(ScanTotals { rows })
+        let rows = filled(alloc, set.commodity_count(), [Total::ZERO; 16])?;
+        let written = filled(alloc, set.commodity_count(), false)?;
+        Ok(ScanTotals { rows, written })
     }
 
     /// Whether there is one row for each commodity of a set.
@@ -54,7 +63,7 @@ impl ScanTotals {
         ensures { (set : Tables) → length self.old ≡ length set.commodities →
             AreTotals set (replicate (length set.contracts) (pos 0)) self.new }
     {
-        self.rows.flatten(ScanRow::NOTHING);
+        fill_marked(&mut self.rows, &mut self.written, [Total::ZERO; 16]);
     }
 
     /// Follows a change of one net: a quantity more of the contract at `i`, bought above 0 and sold below.
@@ -77,7 +86,9 @@ impl ScanTotals {
     {
         set.limits();
         let commodity = set.contract_at(i).commodity;
-        self.rows.row_mut(commodity).add(set, i, quantity, work);
+        self.written[commodity] = true;
+        let row = &mut self.rows[commodity];
+        add_scaled(row, set.array(i, work), quantity);
     }
 
     /// Takes over the totals of others for as many commodities. Takes no memory.
@@ -85,15 +96,16 @@ impl ScanTotals {
         requires { length self.old ≡ length others.now }
         ensures { self.new ≡ others.now }
     {
-        self.rows.copy_from(&others.rows);
+        self.rows.copy_from_slice(&others.rows);
+        self.written.copy_from_slice(&others.written);
     }
 
     // The totals of a commodity.
-    fn row(&self, commodity: usize) -> &ScanRow
+    fn row(&self, commodity: usize) -> &[Total; 16]
         requires { commodity < length self.now }
         ensures { result.now ≡ totals_of self.now commodity }
     {
-        self.rows.row(commodity)
+        &self.rows[commodity]
     }
 
     /// The scan risk of a commodity in cents, 0 to 256 * 10^15: the largest total, or 0 where none is above it (CME
@@ -105,7 +117,7 @@ impl ScanTotals {
         ensures not_negative { pos 0 ≤ℤ result }
         ensures small { unsigned_abs result ≤ 256 * 10 ^ 15 }
     {
-        self.row(commodity).scan()
+        largest_total(self.row(commodity))
     }
 
     /// The place of the active scenario of a commodity, 0 to 15: its number less 1. It is the lowest-numbered of those
@@ -116,7 +128,7 @@ impl ScanTotals {
             result ≡ active (scenario_total commodity (positions set.contracts nets)) }
         ensures scenario { result < 16 }
     {
-        self.row(commodity).active()
+        active_scenario(self.row(commodity))
     }
 
     /// Twice the price risk of a commodity in cents, 0 to 1.1 * 10^18 (own profile, after SPAN).
@@ -127,7 +139,7 @@ impl ScanTotals {
         ensures not_negative { pos 0 ≤ℤ result }
         ensures small { unsigned_abs result ≤ 11 * 10 ^ 17 }
     {
-        self.row(commodity).price_risk2()
+        doubled_risk(self.row(commodity))
     }
 
     /// The scan risk of a commodity and twice its price risk, as `scan` and `price_risk2` tell them. The totals are
@@ -142,6 +154,6 @@ impl ScanTotals {
         ensures not_negative { pos 0 ≤ℤ result.price_risk2 }
         ensures small { unsigned_abs result.price_risk2 ≤ 11 * 10 ^ 17 }
     {
-        self.row(commodity).risks()
+        both_risks(self.row(commodity))
     }
 }
