@@ -2,7 +2,9 @@
 pub mod SumLemmas
 pub mod RowLemmas
 pub mod RiskLemmas
+pub mod KeptLemmas
 pub mod FrameLemmas
+pub mod AddLemmas
 pub mod MoveLemmas
 pub mod CreditLemmas
 pub mod WorkedLemmas

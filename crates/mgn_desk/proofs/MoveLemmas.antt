@@ -15,8 +15,8 @@ use Rattle.mgn_span.specs.Sizes.{IsDelta}
 use Rattle.mgn_span.specs.Words.{net_delta}
 use Rattle.mgn_span.proofs.MonthDeltaLemmas.{intra_charge_by-month_deltas, net_delta_by-month_deltas, spot_charge_by-month_deltas, value_at-month_deltas}
 use Rattle.mgn_scan.specs.Totals.{AreTotals}
-use Rattle.mgn_option.specs.Sums.{AreSums, Sums}
-use Rattle.mgn_tiers.specs.Tiers.{AreTiersOf, Tiers}
+use Rattle.mgn_option.specs.Sums.{AreSums}
+use Rattle.mgn_tiers.specs.Tiers.{AreTiersOf}
 use Rattle.mgn_tiers.proofs.StartLemmas.{net_moved}
 use Rattle.mgn_desk.specs.WorkedPortfolios.{AreParts, charge_of, WorkedPortfolio}
 use Rattle.mgn_desk.proofs.FrameLemmas.{changed, deltas_changed}
@@ -60,8 +60,8 @@ net_delta_after t p i q limits are h net =
     rw are.deltas (omega (arith, ints, small, is, moved, own))
 
 -- all of them are those of the changed nets
-pub parts_after : (t : Tables) (p : WorkedPortfolio) (i : ℕ) (q : ℤ) (nets : List ℤ) (totals : List (List ℤ)) (sums : Sums) (tiers : Tiers) → IsWithinLimits t → AreParts t p → i < length t.contracts → nets ≡ changed p.nets i q → AreTotals t (changed p.nets i q) totals → AreSums t (changed p.nets i q) sums → AreTiersOf t tiers → (let c = contract_at t.contracts i in tiers.deltas ≡ slice_set p.tiers.deltas c.month (value_at p.tiers.deltas c.month +ℤ q *ℤ c.delta)) → AreParts t (record p { nets = nets; totals = totals; sums = sums; tiers = tiers })
-parts_after t p i q nets totals sums tiers limits are h is total_are sums_are tiers_are deltas =
+pub parts_after : (t : Tables) (p new : WorkedPortfolio) (i : ℕ) (q : ℤ) → IsWithinLimits t → AreParts t p → i < length t.contracts → new.nets ≡ changed p.nets i q → AreTotals t (changed p.nets i q) new.totals → AreSums t (changed p.nets i q) new.sums → AreTiersOf t new.tiers → (let c = contract_at t.contracts i in new.tiers.deltas ≡ slice_set p.tiers.deltas c.month (value_at p.tiers.deltas c.month +ℤ q *ℤ c.delta)) → AreParts t new
+parts_after t p new i q limits are h is total_are sums_are tiers_are deltas =
     let c = contract_at t.contracts i in
     record {
       totals = rw is total_are;

@@ -16,9 +16,14 @@ use Rattle.mgn_span.proofs.ScanLemmas.{price_risk2_same}
 use Rattle.mgn_scan.specs.Totals.{AreTotals}
 use Rattle.mgn_option.specs.Sums.{AreSums}
 use Rattle.mgn_tiers.specs.Tiers.{AreTiersOf}
+use Rattle.mgn_scan.proofs.TotalsLemmas.{AreTotals-flat}
+use Rattle.mgn_option.proofs.SumsLemmas.{AreSums-flat}
 use Rattle.mgn_tiers.proofs.StartLemmas.{net_none}
+use Rattle.mgn_tiers.proofs.TierLemmas.{tiers_none}
+use Rattle.mgn_inter.specs.Rows.{Credited}
 use Rattle.mgn_inter.specs.Credited.{AreCreditsOf}
 use Rattle.mgn_desk.specs.WorkedPortfolios.{charge_of, IsPortfolio, WorkedPortfolio}
+use Rattle.mgn_desk.specs.KeptRows.{KeptRows, nothing_kept}
 use Rattle.mgn_desk.specs.Risks.{IsRisk}
 
 abbrev flat_nets : Tables → List ℤ
@@ -51,7 +56,7 @@ flat_row : {X : Type 0} (f : ℕ → X) (zero : X) (n : ℕ) → ((k : ℕ) → 
 flat_row {X} f zero n all =
     fill_by_all f (replicate n zero) n zero (length-replicate {A = X} n zero) (λ k h. get_or-replicate n k zero zero h ∙ sym (all k))
 
-pub flat_portfolio : (t : Tables) (p : WorkedPortfolio) → p.nets ≡ flat_nets t → AreTotals t (flat_nets t) p.totals → AreSums t (flat_nets t) p.sums → AreTiersOf t p.tiers → p.tiers.deltas ≡ replicate (length t.months) (pos 0) → AreCreditsOf t p.credits → p.credits.deltas ≡ replicate (length t.commodities) (pos 0) → p.credits.risks ≡ replicate (length t.commodities) 0 → p.charges ≡ replicate (length t.commodities) (pos 0) → p.risks ≡ replicate (length t.commodities) (pos 0) → IsPortfolio t p
+flat_portfolio : (t : Tables) (p : WorkedPortfolio) → p.nets ≡ flat_nets t → AreTotals t (flat_nets t) p.totals → AreSums t (flat_nets t) p.sums → AreTiersOf t p.tiers → p.tiers.deltas ≡ replicate (length t.months) (pos 0) → AreCreditsOf t p.credits → p.credits.deltas ≡ replicate (length t.commodities) (pos 0) → p.credits.risks ≡ replicate (length t.commodities) 0 → p.charges ≡ replicate (length t.commodities) (pos 0) → p.risks ≡ replicate (length t.commodities) (pos 0) → IsPortfolio t p
 flat_portfolio t p nets totals sums tiers deltas credits net_deltas price_risks charges risks =
     let n = length t.commodities in
     let portfolio = none_held t in
@@ -79,3 +84,11 @@ flat_portfolio t p nets totals sums tiers deltas credits net_deltas price_risks 
         each = λ g h. rw (nets, risks) (get_or-replicate n g (pos 0) (pos 0) h ∙ sym (risk_of_flat t (flat_nets t) g (are_flat t)));
       };
     }
+
+-- and with the rows of nothing
+pub flat_kept : (t : Tables) (nets : List ℤ) (k : KeptRows) (credits : Credited) → nets ≡ flat_nets t → k ≡ nothing_kept t → AreCreditsOf t credits → credits.deltas ≡ replicate (length t.commodities) (pos 0) → credits.risks ≡ replicate (length t.commodities) 0 → IsPortfolio t (record { nets = nets; totals = k.totals; sums = k.sums; tiers = k.tiers; credits = credits; charges = k.charges; risks = k.risks })
+flat_kept t nets k credits flat none of_set net_deltas price_risks =
+    let deltas = ap (λ (x : KeptRows). x.tiers.deltas) none in
+    let tiers = tiers_none t k.tiers deltas (ap (λ (x : KeptRows). x.tiers.net_deltas) none) (ap (λ (x : KeptRows). x.tiers.runs) none) in
+    let sums = AreSums-flat t k.sums (ap (λ (x : KeptRows). x.sums.minimums) none) (ap (λ (x : KeptRows). x.sums.value) none) in
+    flat_portfolio t (record { nets = nets; totals = k.totals; sums = k.sums; tiers = k.tiers; credits = credits; charges = k.charges; risks = k.risks }) flat (AreTotals-flat t k.totals (ap (λ (x : KeptRows). x.totals) none)) sums tiers deltas of_set net_deltas price_risks (ap (λ (x : KeptRows). x.charges) none) (ap (λ (x : KeptRows). x.risks) none)

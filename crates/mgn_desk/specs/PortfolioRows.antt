@@ -5,10 +5,10 @@ use Rattle.mgn_desk.specs.WorkedPortfolios.{WorkedPortfolio}
 abbrev pub worked_of : Inside → WorkedPortfolio
 worked_of p = record {
   nets = p.nets;
-  totals = p.totals;
-  sums = p.sums;
-  tiers = p.tiers;
+  totals = p.kept.totals;
+  sums = p.kept.sums;
+  tiers = p.kept.tiers;
   credits = p.credits;
-  charges = p.charges.items;
-  risks = p.risks;
+  charges = p.kept.charges;
+  risks = p.kept.risks;
 }

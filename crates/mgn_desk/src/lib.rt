@@ -2,10 +2,11 @@
 #![tactic(auto)]
 
 mod branch;
+mod commodity_row;
+mod commodity_rows;
 mod desk;
 mod moves;
 mod portfolio;
-mod risk_sum;
 mod unit_portfolios;
 
 pub use desk::Desk;

@@ -10,15 +10,11 @@ ghost use Rattle.mgn_desk.specs.WorkedPortfolios.{AreParts, ArePortfolioRows, ch
 ghost use Rattle.mgn_desk.specs.Moved.{arrays_of_quantity, counted, more_of};
 ghost use Rattle.mgn_desk.specs.Risks.{IsRisk};
 
-use crate::risk_sum::RiskSum;
+use crate::commodity_rows::CommodityRows;
 use mgn_inter::{InterCredits, Reworked, spread_at};
 use mgn_nets::Nets;
-use mgn_num::{Cents, Quantity, TenThousandths};
-use mgn_option::OptionSums;
-use mgn_params::rows::{fill, filled};
+use mgn_num::{Cents, Quantity};
 use mgn_params::{Leg, ParamSet, Work};
-use mgn_scan::ScanTotals;
-use mgn_tiers::TierStages;
 use std::alloc::{AllocError, Global};
 use std::marker::Model;
 
@@ -30,13 +26,8 @@ use std::marker::Model;
 #[derive(Drop)]
 pub struct Portfolio {
     nets: Nets,
-    totals: ScanTotals,
-    sums: OptionSums,
-    tiers: TierStages,
+    kept: CommodityRows,
     credits: InterCredits,
-    // For each commodity its scan risk with its spreading and spot charges.
-    charges: Vec<Cents>,
-    risks: RiskSum,
 }
 
 impl Model for Portfolio {
@@ -49,29 +40,16 @@ impl Model for Portfolio {
     ghost view = { worked_of };
 }
 
-// Contracts at a scaled delta for each.
-fn scaled(quantity: Quantity, delta: &i64) -> TenThousandths
-    ensures { result ≡ quantity *ℤ delta.now }
-{
-    TenThousandths::product(quantity, *delta)
-}
-
 impl Portfolio {
     /// Nets of 0. The only error is that memory was refused.
     pub fn new(alloc: Global, set: &ParamSet) -> Result<Portfolio, AllocError>
         ensures portfolio { IfOk result (IsPortfolio set.now) }
         ensures flat { IfOk result (λ p. p.nets ≡ replicate (length set.now.contracts) (pos 0)) }
     {
-        set.limits();
-        let count = set.commodity_count();
         Ok(Portfolio {
             nets: Nets::flat(alloc, set.contract_count())?,
-            totals: ScanTotals::new(alloc, set)?,
-            sums: OptionSums::new(alloc, set)?,
-            tiers: TierStages::new(alloc, set)?,
+            kept: CommodityRows::new(alloc, set)?,
             credits: InterCredits::new(alloc, set)?,
-            charges: filled(alloc, count, Cents::ZERO)?,
-            risks: RiskSum::new(alloc, count)?,
         })
     }
 
@@ -92,14 +70,7 @@ impl Portfolio {
     pub(crate) fn fits(&self, set: &ParamSet) -> bool
         ensures { IsTrue result ↔ ArePortfolioRows set.now self.now }
     {
-        let count = set.commodity_count();
-        self.nets.len() == set.contract_count()
-            && self.totals.fits(set)
-            && self.sums.fits(set)
-            && self.tiers.fits(set)
-            && self.credits.fits(set)
-            && self.charges.len() == count
-            && self.risks.count() == count
+        self.nets.len() == set.contract_count() && self.kept.fits(set) && self.credits.fits(set)
     }
 
     // Nets of 0 in place of its own, under a set that it fits. Takes no memory.
@@ -109,12 +80,8 @@ impl Portfolio {
         ensures flat { self.new.nets ≡ replicate (length set.now.contracts) (pos 0) }
     {
         self.nets.clear();
-        self.totals.flatten();
-        self.sums.flatten();
-        self.tiers.flatten();
+        self.kept.flatten();
         self.credits.flatten(set);
-        fill(&mut self.charges, Cents::ZERO);
-        self.risks.flatten();
     }
 
     // These nets in place of its own, under a set that it fits. Takes no memory.
@@ -203,11 +170,7 @@ impl Portfolio {
         ensures counted { work.new ≡ min (work.old + 1) (2 ^ 64 - 1) }
     {
         set.limits();
-        let contract = set.contract_at(i);
-        self.totals.add(set, &self.nets, i, quantity, work);
-        self.sums.add(set, &self.nets, i, quantity);
-        self.tiers
-            .add(set, contract.month, scaled(quantity, &contract.delta));
+        self.kept.add(set, &self.nets, i, quantity, work);
         self.nets.add(i, quantity);
     }
 
@@ -220,7 +183,8 @@ impl Portfolio {
             result ≡ charge_of set (positions set.contracts self.now.nets) g }
         ensures small { IsRisk result }
     {
-        scan.plus(self.tiers.charge(g)).plus(self.tiers.spot(g))
+        let tier = &self.kept.row(g).tier;
+        scan.plus(tier.charge()).plus(tier.spot())
     }
 
     // Writes what the commodity at a place risks before credits.
@@ -235,7 +199,7 @@ impl Portfolio {
         ensures small { IsRisk (charge_of set.now (positions set.now.contracts self.old.nets) g) }
     {
         let charge = self.charge(g, scan);
-        self.charges[g] = charge;
+        self.kept.write_charge(g, charge);
     }
 
     // Brings the credits after the parts.
@@ -256,7 +220,7 @@ impl Portfolio {
         ensures others { (k : ℕ) → named k set.now.credits result ≡ false →
             slice_index self.new.credits.credits k ≡ slice_index self.old.credits.credits k }
     {
-        let net_delta = self.tiers.net_delta(g);
+        let net_delta = self.kept.row(g).tier.net_delta();
         self.credits.refresh(set, g, net_delta, doubled_risk)
     }
 
@@ -279,7 +243,7 @@ impl Portfolio {
         ensures others { (k : ℕ) → named k set.now.credits result ≡ false →
             slice_index self.new.credits.credits k ≡ slice_index self.old.credits.credits k }
     {
-        let scanned = self.totals.risks(g);
+        let scanned = self.kept.risks(g);
         self.write_charge(set, g, scanned.scan);
         self.refresh_credits(set, g, scanned.price_risk2)
     }
@@ -290,8 +254,9 @@ impl Portfolio {
         ensures risk { result ≡ worked_risk self.now g }
         ensures small { IsRisk result }
     {
-        let least = self.sums.minimum(g);
-        self.charges[g].minus(self.credits.credit(g)).larger(least)
+        let row = self.kept.row(g);
+        let least = row.minimum.cents();
+        row.charge.minus(self.credits.credit(g)).larger(least)
     }
 
     // Writes the risk of the commodity at a place.
@@ -301,7 +266,7 @@ impl Portfolio {
         ensures { self.new ≡ with_risks self.old (slice_set self.old.risks g (worked_risk self.old g)) }
     {
         let risk = self.risk(g);
-        self.risks.write(g, risk);
+        self.kept.write_risk(g, risk);
     }
 
     // Writes the risks of the commodities of legs.
@@ -403,12 +368,8 @@ impl Portfolio {
         ensures { self.new ≡ other.now }
     {
         self.nets.copy_from(&other.nets);
-        self.totals.copy_from(&other.totals);
-        self.sums.copy_from(&other.sums);
-        self.tiers.copy_from(&other.tiers);
+        self.kept.copy_from(&other.kept);
         self.credits.copy_from(&other.credits);
-        self.charges.copy_from_slice(&other.charges);
-        self.risks.copy_from(&other.risks);
     }
 
     /// The net of a contract, above 0 bought and below 0 sold.
@@ -432,6 +393,9 @@ impl Portfolio {
         ensures requirement { (set : Tables) → IsPortfolio set self.now → result ≡ requirement set self.now.nets }
         ensures small { unsigned_abs result ≤ 10 ^ 30 }
     {
-        self.risks.sum().minus(self.sums.value()).or_zero()
+        self.kept
+            .risk_sum()
+            .minus(self.kept.option_value())
+            .or_zero()
     }
 }

@@ -1,13 +1,12 @@
 -- The legs of one spread, one after the other, for the loops of `rows` and for `rework`.
 use Rattle.std.proofs.Common.{◌≡◌, ◌≢◌, ℕ, zero, suc, ◌+◌, ◌-◌, ◌<◌, ◌≤◌, Bool, true, false, List, [], ◌∷◌, length, map, take, get_or, slice_index, slice_set, min, pos, ℤ, ap, ◌∙◌, sym, subst, arith, refl, replicate, eq-eqb, ne_eqb, All, ⊎_elim, length-set, get_or-set_same, get_or-set_other}
-use Rattle.std.specs.Prelude.{◌==◌, if◌then◌else◌, not}
+use Rattle.std.specs.Prelude.{◌==◌, if◌then◌else◌}
 use Rattle.std.specs.List.{IsDistinct, fold, list_all, sum_by, zip}
-use Rattle.std.specs.Ordering.{int_eq}
 use Rattle.std.proofs.lemmas.Bool.{cases_eq, cases_lt, false≢true, true≢false}
-use Rattle.std.proofs.lemmas.Bool.Decides.{Decides-int_eq}
+use Rattle.std.proofs.lemmas.List.Folds.{list_any_at}
 use Rattle.std.proofs.lemmas.List.{get_or-map, length-map, set_past}
 use Rattle.std.proofs.lemmas.Map.Keys.{apart_from_distinct}
-use Rattle.std.proofs.lemmas.List.Sums.{fold_more, sum_by-cons, sum_by-take-le, sum_by_more}
+use Rattle.std.proofs.lemmas.List.Sums.{sum_by-cons, sum_by-take-le, sum_by_more}
 use Rattle.std.proofs.lemmas.Slice.Zip.{get_or-zip, length-zip}
 use Rattle.std.proofs.lemmas.List.Elements.{All-head, All-tail}
 use Rattle.mgn_num.specs.Amount.{nearer_zero}
@@ -16,17 +15,13 @@ use Rattle.mgn_span.specs.Credits.{credits_after, fits, forms, leg_amount, leg_c
 use Rattle.mgn_span.specs.Scan.{value_at}
 use Rattle.mgn_span.specs.Stages.{used}
 use Rattle.mgn_params.specs.Tables.{no_leg}
-use Rattle.mgn_inter.specs.Rows.{brought, leg_share, marked, moved_at, names, share_of}
+use Rattle.mgn_inter.specs.Rows.{leg_share, names, share_of}
 use Rattle.mgn_span.specs.Words.{leg_at}
 
 -- a choice of which both sides are right
 pub either_is : {X : Type 0} (b : Bool) (x y right : X) → (b ≡ true → x ≡ right) → (b ≡ false → y ≡ right) → (if b then x else y) ≡ right
 either_is true x y right first second = first refl
 either_is false x y right first second = second refl
-
-not_not : (b : Bool) → not b ≡ false → b ≡ true
-not_not true h = refl
-not_not false h = absurd (true≢false h)
 
 -- a leg that is named, and one that is not
 names_other : (g : ℕ) (leg : Leg) (legs : List Leg) → names g (leg ∷ legs) ≡ false → leg.commodity ≢ g
@@ -174,80 +169,7 @@ named_all P g (leg ∷ legs) all h =
     named_all P g legs (λ j low. all (suc j) (omega arith)) (rw (ne_eqb leg.commodity g other) at h))
     (cases_eq leg.commodity g)
 
--- The rests that are brought are those of the turn: where a rest has moved the row has it, and else the leg's place.
-pub brought_is : (moved : List Bool) (rests : List ℤ) (legs : List Leg) (kept : List ℤ) (turn : ℕ → ℤ) (k : ℕ) → length legs ≤ length kept → All (λ leg. leg.commodity < length rests) legs → ((c : ℕ) → moved_at moved c ≡ true → value_at rests c ≡ turn c) → ((j : ℕ) → j < length legs → moved_at moved (leg_at legs j).commodity ≡ false → value_at kept j ≡ turn (leg_at legs j).commodity) → (names k legs ≡ false → value_at rests k ≡ turn k) → value_at (brought moved rests legs kept) k ≡ turn k
-brought_is moved rests [] kept turn k few there stands own out = out refl
-brought_is moved rests (leg ∷ legs) [] turn k few there stands own out = absurd (omega arith)
-brought_is moved rests (leg ∷ legs) (x ∷ kept) turn k few there stands own out =
-    let c = leg.commodity in
-    let v = if moved_at moved c then value_at rests c else x in
-    let low : c < length rests = All-head (λ (l : Leg). l.commodity < length rests) leg legs there in
-    let tail = All-tail (λ (l : Leg). l.commodity < length rests) leg legs there in
-    let row = slice_set rests c v in
-    let long : length row ≡ length rests = length-set rests c v in
-    let here : v ≡ turn c = either_is (moved_at moved c) (value_at rests c) x (turn c) (stands c) (own 0 (omega arith)) in
-    let at_own : (n : ℕ) → n ≡ c → value_at row n ≡ turn n = λ n e. rw e (get_or-set_same rests c v (pos 0) low ∙ here) in
-    brought_is moved row legs kept turn k (omega arith) (λ j d h. omega (arith, tail j d h, long)) (λ n yes.
-    ⊎_elim
-    (at_own n)
-    (λ (other : n ≢ c). get_or-set_other rests c n v (pos 0) other ∙ stands n yes)
-    (cases_eq n c)) (λ j h. own (suc j) (omega arith)) (λ none.
-    ⊎_elim
-    (at_own k)
-    (λ (other : k ≢ c).
-    get_or-set_other rests c k v (pos 0) other ∙ out (rw (ne_eqb c k (λ e. other (sym e))) none))
-    (cases_eq k c))
-
--- A commodity that is not marked any more has the rest at the leg's place.
-pub marked_is : (rests : List ℤ) (moved : List Bool) (legs : List Leg) (after : List ℤ) (turn was : ℕ → ℤ) (k : ℕ) → length legs ≤ length after → All (λ leg. leg.commodity < length moved) legs → ((j : ℕ) → j < length legs → value_at rests (leg_at legs j).commodity ≡ turn (leg_at legs j).commodity) → ((j : ℕ) → j < length legs → value_at after j ≡ was (leg_at legs j).commodity) → (moved_at moved k ≡ false → names k legs ≡ false → turn k ≡ was k) → moved_at (marked rests moved legs after) k ≡ false → turn k ≡ was k
-marked_is rests moved [] after turn was k few there own old out h = out h refl
-marked_is rests moved (leg ∷ legs) [] turn was k few there own old out h = absurd (omega arith)
-marked_is rests moved (leg ∷ legs) (x ∷ after) turn was k few there own old out h =
-    let c = leg.commodity in
-    let m = not (int_eq (value_at rests c) x) in
-    let low : c < length moved = All-head (λ (l : Leg). l.commodity < length moved) leg legs there in
-    let tail = All-tail (λ (l : Leg). l.commodity < length moved) leg legs there in
-    let row = slice_set moved c m in
-    let long : length row ≡ length moved = length-set moved c m in
-    marked_is rests row legs after turn was k (omega arith) (λ j d inside. omega (arith, tail j d inside, long)) (λ j inside. own (suc j) (omega arith)) (λ j inside. old (suc j) (omega arith)) (λ no none.
-    ⊎_elim
-    (λ (here : k ≡ c).
-    let same : m ≡ false = sym (get_or-set_same moved c m false low) ∙ ap (λ (n : ℕ). moved_at row n) (sym here) ∙ no in
-    let equal = (Decides-int_eq (value_at rests c) x).0 (not_not (int_eq (value_at rests c) x) same) in
-    rw here (sym (own 0 (omega arith)) ∙ equal ∙ old 0 (omega arith)))
-    (λ (other : k ≢ c).
-    out (sym (get_or-set_other moved c k m false other) ∙ no) (rw (ne_eqb c k (λ e. other (sym e))) none))
-    (cases_eq k c)) h
-
-pub length-marked : (rests : List ℤ) (moved : List Bool) (legs : List Leg) (after : List ℤ) → length (marked rests moved legs after) ≡ length moved
-length-marked rests moved [] after = refl
-length-marked rests moved (leg ∷ legs) [] = refl
-length-marked rests moved (leg ∷ legs) (x ∷ after) =
-    let m = not (int_eq (value_at rests leg.commodity) x) in
-    length-marked rests (slice_set moved leg.commodity m) legs after ∙ length-set moved leg.commodity m
-
-pub length-brought : (moved : List Bool) (rests : List ℤ) (legs : List Leg) (kept : List ℤ) → length (brought moved rests legs kept) ≡ length rests
-length-brought moved rests [] kept = refl
-length-brought moved rests (leg ∷ legs) [] = refl
-length-brought moved rests (leg ∷ legs) (x ∷ kept) =
-    let v = if moved_at moved leg.commodity then value_at rests leg.commodity else x in
-    length-brought moved (slice_set rests leg.commodity v) legs kept ∙ length-set rests leg.commodity v
-
--- and the marks of others stay
-pub marked_out : (rests : List ℤ) (moved : List Bool) (legs : List Leg) (after : List ℤ) (k : ℕ) → names k legs ≡ false → moved_at (marked rests moved legs after) k ≡ moved_at moved k
-marked_out rests moved [] after k h = refl
-marked_out rests moved (leg ∷ legs) [] k h = refl
-marked_out rests moved (leg ∷ legs) (x ∷ after) k h =
-    let m = not (int_eq (value_at rests leg.commodity) x) in
-    marked_out rests (slice_set moved leg.commodity m) legs after k (names_tail k leg legs h)
-    ∙ get_or-set_other moved leg.commodity k m false (λ e. names_other k leg legs h (sym e))
-
 -- One leg more.
-pub legs_more : {X Y : Type 0} (f : Y → Leg × X → Y) (a : Y) (legs : List Leg) (values : List X) (k : ℕ) (d : X) → k < length legs → k < length values → fold f a (take (k + 1) (zip legs values)) ≡ f (fold f a (take k (zip legs values))) (leg_at legs k, get_or values k d)
-legs_more f a legs values k d low there =
-    let inside : k < length (zip legs values) = omega (arith, length-zip legs values, low, there) in
-    fold_more f a (zip legs values) k (no_leg, d) inside
-    ∙ ap (f (fold f a (take k (zip legs values)))) (get_or-zip legs values k (no_leg, d) low there)
 
 share_more : (g : ℕ) (legs : List Leg) (each : List ℕ) (k : ℕ) → k < length legs → k < length each → sum_by (leg_share g) (take (k + 1) (zip legs each)) ≡ sum_by (leg_share g) (take k (zip legs each)) + (if (leg_at legs k).commodity == g then slice_index each k else 0)
 share_more g legs each k low there =
@@ -286,7 +208,7 @@ credit_moved was now legs old new k g low old_there new_there here covered so_fa
     (cases_eq c g)
 
 -- legs of different commodities
-legs_apart : (legs : List Leg) (j k : ℕ) → IsDistinct (λ g h. g == h) (map (λ leg. leg.commodity) legs) → j < k → k < length legs → (leg_at legs j).commodity ≢ (leg_at legs k).commodity
+pub legs_apart : (legs : List Leg) (j k : ℕ) → IsDistinct (λ g h. g == h) (map (λ leg. leg.commodity) legs) → j < k → k < length legs → (leg_at legs j).commodity ≢ (leg_at legs k).commodity
 legs_apart legs j k apart before low same =
     let f = λ (leg : Leg). leg.commodity in
     let there : k < length (map f legs) = omega (arith, length-map legs f, low) in
@@ -296,16 +218,24 @@ legs_apart legs j k apart before low same =
     let differ : ((leg_at legs j).commodity == (leg_at legs k).commodity) ≡ false = rw (first, second) at no in
     true≢false (sym (eq-eqb (leg_at legs j).commodity (leg_at legs k).commodity same) ∙ differ)
 
--- a row keeps the rests of the legs so far, and then that of one more, which is of another commodity
-pub kept_so_far : (legs : List Leg) (kept rests : List ℤ) (k : ℕ) (rest : ℤ) → IsDistinct (λ g h. g == h) (map (λ leg. leg.commodity) legs) → k < length legs → k < length kept → (leg_at legs k).commodity < length rests → ((j : ℕ) → j < k → value_at kept j ≡ value_at rests (leg_at legs j).commodity) → (j : ℕ) → j < k + 1 → value_at (slice_set kept k rest) j ≡ value_at (slice_set rests (leg_at legs k).commodity rest) (leg_at legs j).commodity
-kept_so_far legs kept rests k rest apart low here there before j below =
+-- a commodity that no leg names is none of them
+pub unnamed : (legs : List Leg) (j k : ℕ) → j < length legs → names k legs ≡ false → (leg_at legs j).commodity ≢ k
+unnamed legs j k low out =
+    λ e. true≢false (sym (list_any_at (λ (leg : Leg). leg.commodity == k) legs j no_leg low (eq-eqb (leg_at legs j).commodity k e)) ∙ out)
+
+-- one leg's commodity is written to, and no other
+pub out_so_far : {X : Type 0} (row : List X) (legs : List Leg) (k c : ℕ) (x d : X) → k < length legs → names c legs ≡ false → get_or (slice_set row (leg_at legs k).commodity x) c d ≡ get_or row c d
+out_so_far row legs k c x d low out =
+    get_or-set_other row (leg_at legs k).commodity c x d (λ e. unnamed legs k c low out (sym e))
+
+-- what holds of the legs so far, and of one more, which is of another commodity
+pub each_so_far : {X : Type 0} (P : ℕ → X → Type 0) (row : List X) (legs : List Leg) (k : ℕ) (x d : X) → IsDistinct (λ g h. g == h) (map (λ leg. leg.commodity) legs) → k < length legs → (leg_at legs k).commodity < length row → ((j : ℕ) → j < k → P j (get_or row (leg_at legs j).commodity d)) → P k x → (j : ℕ) → j < k + 1 → P j (get_or (slice_set row (leg_at legs k).commodity x) (leg_at legs j).commodity d)
+each_so_far P row legs k x d apart low there before own j below =
     let g = (leg_at legs k).commodity in
     ⊎_elim
     (λ (earlier : j < k).
-    get_or-set_other kept k j rest (pos 0) (λ e. omega (arith, e, earlier))
-    ∙ before j earlier
-    ∙ sym (get_or-set_other rests g (leg_at legs j).commodity rest (pos 0) (legs_apart legs j k apart earlier low)))
-    (λ (own : k ≤ j).
-    let same : j ≡ k = omega (arith, own, below) in
-    rw same (get_or-set_same kept k rest (pos 0) here ∙ sym (get_or-set_same rests g rest (pos 0) there)))
+    subst (P j) (sym (get_or-set_other row g (leg_at legs j).commodity x d (legs_apart legs j k apart earlier low))) (before j earlier))
+    (λ (last : k ≤ j).
+    let same : k ≡ j = omega (arith, last, below) in
+    subst (λ (n : ℕ). P n (get_or (slice_set row g x) (leg_at legs n).commodity d)) same (subst (P k) (sym (get_or-set_same row g x d there)) own))
     (cases_lt j k)

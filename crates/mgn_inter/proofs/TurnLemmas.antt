@@ -1,8 +1,10 @@
 -- One spread after the other while the numbers of one commodity change: those that are passed over, and those that are
 -- formed again.
-use Rattle.std.proofs.Common.{◌≡◌, ◌≢◌, ℕ, zero, suc, ◌+◌, ◌*◌, ◌<◌, ◌≤◌, ◌^◌, Bool, true, false, List, length, take, get_or, slice_index, slice_set, replicate, pos, ℤ, ap, ◌∙◌, sym, arith, refl, add-one, ⊎_elim, All, length-set, length-take, get_or-set_same, get_or-set_other, eq-eqb, ne_eqb, take_all, subst}
-use Rattle.std.specs.Prelude.{◌==◌, ◌||◌, if◌then◌else◌}
+use Rattle.std.proofs.Common.{◌≡◌, ◌≢◌, ℕ, zero, suc, ◌+◌, ◌*◌, ◌<◌, ◌≤◌, ◌^◌, Bool, true, false, List, length, take, get_or, slice_index, slice_set, replicate, pos, ℤ, ap, ◌∙◌, sym, arith, refl, add-one, ⊎_elim, length-set, get_or-set_same, get_or-set_other, eq-eqb, ne_eqb, take_all, subst}
+use Rattle.std.specs.Prelude.{◌==◌, ◌||◌, if◌then◌else◌, not}
+use Rattle.std.specs.Ordering.{int_eq}
 use Rattle.std.specs.Int.{bit_at}
+use Rattle.std.proofs.lemmas.Bool.Decides.{Decides-int_eq}
 use Rattle.std.proofs.lemmas.Bool.{cases_Bool, cases_eq, cases_lt, or_parts, true≢false}
 use Rattle.std.proofs.lemmas.List.{ext_get_or, get_or-replicate, get_or_past, length-replicate}
 use Rattle.std.proofs.lemmas.List.Elements.{All-replicate, All-set}
@@ -19,11 +21,11 @@ use Rattle.mgn_span.specs.Sizes.{IsDelta}
 use Rattle.mgn_inter.specs.declared.spread_state.SpreadState.{SpreadState}
 use Rattle.mgn_inter.specs.Sizes.{IsRisk}
 use Rattle.mgn_inter.specs.Credited.{AreCreditsOf, IsAtTurn}
-use Rattle.mgn_inter.specs.Rows.{brought, Credited, AreWaiting, IsKept, kept_at, marked, Misses, moved_at, names, nothing_kept, reached, rests_at, share_at, share_of, state_of}
+use Rattle.mgn_inter.specs.Rows.{AreBrought, AreMarked, AreRestsOf, AreWritten, Credited, AreWaiting, IsKept, kept_at, Misses, moved_at, names, nothing_kept, reached, rests_at, share_at, share_of, state_of}
 use Rattle.mgn_span.specs.Words.{AreNear, leg_at}
 use Rattle.mgn_inter.specs.Shares.{shares}
-use Rattle.mgn_inter.proofs.LegLemmas.{Agree, AgreeOn, brought_is, length-brought, length-marked, marked_is, marked_out, named_all, share_out}
-use Rattle.mgn_inter.proofs.SpreadLemmas.{formed_long, formed_out, formed_same, kept_same, kept_small}
+use Rattle.mgn_inter.proofs.LegLemmas.{Agree, AgreeOn, named_all, share_out}
+use Rattle.mgn_inter.proofs.SpreadLemmas.{formed_out, formed_same, kept_same, kept_small}
 use Rattle.mgn_inter.proofs.StateLemmas.{kept_none, kept_other, kept_own, none_at, shares_are, shares_one, shares_set, shares_small, state_long, state_near, state_none, state_suc}
 
 -- A choice by a Bool of which the cases are known.
@@ -106,40 +108,26 @@ turn_passed set g was moved i c at h none =
       left = λ j low inside. at.left j (omega arith) inside;
     }
 
--- the rests that are brought are those of the turn, for the legs and for what has moved
-turn_brought : (set : Tables) (g : ℕ) (was : Credited) (moved : List Bool) (i : ℕ) (c : Credited) (k : ℕ) → IsWithinLimits set → IsAtTurn set g was moved i c → i < length set.credits → (names k (legs_of (credit_spread_at set.credits i)) ≡ false → moved_at moved k ≡ true) → value_at (brought moved c.rests (legs_of (credit_spread_at set.credits i)) (kept_at c.kept i).rests) k ≡ value_at (rests_at c.deltas c.risks set.credits i) k
-turn_brought set g was moved i c k limits at h out =
-    let spreads = set.credits in
-    let s = credit_spread_at spreads i in
-    let legs = legs_of s in
-    let limit = limits.credits i no_credit_spread h in
-    let now = rests_at c.deltas c.risks spreads i in
-    let before = rests_at was.deltas was.risks spreads i in
-    let own = at.left i (omega arith) h in
-    let few : length legs ≤ 4 = omega (arith, length-take s.count s.legs, limit.few) in
-    let stands = λ (n : ℕ) (yes : moved_at moved n ≡ true). sym (chosen (moved_at moved n) (value_at now n) (value_at c.rests n) (value_at before n) (at.rests n) yes) in
-    brought_is moved c.rests legs (kept_at c.kept i).rests (λ n. value_at now n) k (omega (arith, few, own.rests_long)) (λ j d low. omega (arith, (limit.legs j d low).commodity, at.one_each, at.one_rest_each)) stands (λ j low no.
-    let n = (leg_at legs j).commodity in
-    own.rests_are j low ∙ sym (unchosen (moved_at moved n) (value_at now n) (value_at c.rests n) (value_at before n) (at.rests n) no)) (λ none. stands k (out none))
+-- the rests that are brought for the legs are those of the turn
+pub turn_rests : (set : Tables) (g : ℕ) (was : Credited) (moved : List Bool) (i : ℕ) (c : Credited) (row : List ℤ) → IsAtTurn set g was moved i c → i < length set.credits → length row ≡ 4 → AreBrought moved c.rests (legs_of (credit_spread_at set.credits i)) (kept_at c.kept i).rests row → AreRestsOf (legs_of (credit_spread_at set.credits i)) (rests_at c.deltas c.risks set.credits i) row
+turn_rests set g was moved i c row at h long brought = record {
+  long = long;
+  are = λ j low.
+      let n = (leg_at (legs_of (credit_spread_at set.credits i)) j).commodity in
+      brought j low
+      ∙ ap (λ (z : ℤ). if moved_at moved n then value_at c.rests n else z) ((at.left i (omega arith) h).rests_are j low)
+      ∙ sym (at.rests n);
+}
 
--- a commodity that a leg names is named
-names_not : (k : ℕ) (legs : List Leg) (j : ℕ) → j < length legs → (leg_at legs j).commodity ≡ k → names k legs ≡ false → ⊥
-names_not k legs j low e out =
-    true≢false (sym (list_any_at (λ (leg : Leg). leg.commodity == k) legs j no_leg low (eq-eqb (leg_at legs j).commodity k e)) ∙ out)
+pub turn_long : (set : Tables) (g : ℕ) (was : Credited) (moved : List Bool) (i : ℕ) (c : Credited) → IsAtTurn set g was moved i c → length (rests_at c.deltas c.risks set.credits i) ≡ length c.deltas
+turn_long set g was moved i c at = (state_long c.deltas c.risks set.credits i at.fewer).0
 
-turn_agrees : (set : Tables) (g : ℕ) (was : Credited) (moved : List Bool) (i : ℕ) (c : Credited) → IsWithinLimits set → IsAtTurn set g was moved i c → i < length set.credits → Agree (brought moved c.rests (legs_of (credit_spread_at set.credits i)) (kept_at c.kept i).rests) (rests_at c.deltas c.risks set.credits i) (legs_of (credit_spread_at set.credits i))
-turn_agrees set g was moved i c limits at h j low =
-    let legs = legs_of (credit_spread_at set.credits i) in
-    let k = (leg_at legs j).commodity in
-    turn_brought set g was moved i c k limits at h (λ out. absurd (names_not k legs j low refl out))
-
--- no rest that is brought for a leg is farther from 0 than its net delta
-pub turn_near : (set : Tables) (g : ℕ) (was : Credited) (moved : List Bool) (i : ℕ) (c : Credited) → IsWithinLimits set → IsAtTurn set g was moved i c → i < length set.credits → AreNear c.deltas (brought moved c.rests (legs_of (credit_spread_at set.credits i)) (kept_at c.kept i).rests) (legs_of (credit_spread_at set.credits i))
-turn_near set g was moved i c limits at h j d low =
+-- none of a leg's commodity is farther from 0 than its net delta
+pub turn_near : (set : Tables) (g : ℕ) (was : Credited) (moved : List Bool) (i : ℕ) (c : Credited) → IsAtTurn set g was moved i c → AreNear c.deltas (rests_at c.deltas c.risks set.credits i) (legs_of (credit_spread_at set.credits i))
+turn_near set g was moved i c at j d low =
     let legs = legs_of (credit_spread_at set.credits i) in
     let leg : Leg = get_or legs j d in
-    let same = turn_brought set g was moved i c leg.commodity limits at h (λ out. absurd (true≢false (sym (list_any_at (λ (l : Leg). l.commodity == leg.commodity) legs j d low (eq-eqb leg.commodity leg.commodity refl)) ∙ out))) in
-    rw same ((state_near c.deltas c.risks set.credits i at.fewer).near leg.commodity)
+    (state_near c.deltas c.risks set.credits i at.fewer).near leg.commodity
 
 -- what is kept of each spread credits a commodity at most as much
 pub turn_small : (set : Tables) (g : ℕ) (was : Credited) (moved : List Bool) (i : ℕ) (c : Credited) (k j : ℕ) → IsWithinLimits set → IsAtTurn set g was moved i c → j < length set.credits → share_at set.credits c.kept k j ≤ 4 * 10 ^ 33
@@ -162,42 +150,33 @@ pub turn_covers : (set : Tables) (g : ℕ) (was : Credited) (moved : List Bool) 
 turn_covers set g was moved i c k at h =
     omega (arith, at.credits k, shares_one set.credits c.kept k (length set.credits) i h)
 
--- what is kept of the spread once it is formed of the rests that are brought
-pub turn_kept : (set : Tables) (g : ℕ) (was : Credited) (moved : List Bool) (i : ℕ) (c : Credited) (own : SpreadState) → IsWithinLimits set → IsAtTurn set g was moved i c → i < length set.credits → IsKept c.deltas c.risks (brought moved c.rests (legs_of (credit_spread_at set.credits i)) (kept_at c.kept i).rests) (credit_spread_at set.credits i) own → IsKept c.deltas c.risks (rests_at c.deltas c.risks set.credits i) (credit_spread_at set.credits i) own
-turn_kept set g was moved i c own limits at h is =
-    let spreads = set.credits in
-    let s = credit_spread_at spreads i in
-    let legs = legs_of s in
-    let row = brought moved c.rests legs (kept_at c.kept i).rests in
-    let now = rests_at c.deltas c.risks spreads i in
-    let agrees = turn_agrees set g was moved i c limits at h in
-    let long : length now ≡ length row = rests_long c.deltas c.risks spreads i (length set.commodities) at.fewer at.one_each ∙ sym (length-brought moved c.rests legs (kept_at c.kept i).rests ∙ at.one_rest_each ∙ at.one_each) in
-    kept_same c.deltas c.deltas c.risks c.risks now row s own refl long (λ j low. sym (agrees j low)) (λ j low. refl) (λ j low. refl) is
-
-pub turn_own_small : (set : Tables) (g : ℕ) (was : Credited) (moved : List Bool) (i : ℕ) (c : Credited) (own : SpreadState) (k : ℕ) → IsWithinLimits set → IsAtTurn set g was moved i c → i < length set.credits → IsKept c.deltas c.risks (brought moved c.rests (legs_of (credit_spread_at set.credits i)) (kept_at c.kept i).rests) (credit_spread_at set.credits i) own → share_of k (legs_of (credit_spread_at set.credits i)) own.credits ≤ 4 * 10 ^ 33
+-- and so does what is kept of the spread once it is formed again
+pub turn_own_small : (set : Tables) (g : ℕ) (was : Credited) (moved : List Bool) (i : ℕ) (c : Credited) (own : SpreadState) (k : ℕ) → IsWithinLimits set → IsAtTurn set g was moved i c → i < length set.credits → IsKept c.deltas c.risks (rests_at c.deltas c.risks set.credits i) (credit_spread_at set.credits i) own → share_of k (legs_of (credit_spread_at set.credits i)) own.credits ≤ 4 * 10 ^ 33
 turn_own_small set g was moved i c own k limits at h is =
-    kept_small c.deltas c.risks (rests_at c.deltas c.risks set.credits i) (credit_spread_at set.credits i) own (length set.commodities) k at.numbers (state_near c.deltas c.risks set.credits i at.fewer) (sym at.one_each) (limits.credits i no_credit_spread h) (turn_kept set g was moved i c own limits at h is)
+    kept_small c.deltas c.risks (rests_at c.deltas c.risks set.credits i) (credit_spread_at set.credits i) own (length set.commodities) k at.numbers (state_near c.deltas c.risks set.credits i at.fewer) (sym at.one_each) (limits.credits i no_credit_spread h) is
+
+not_not : (b : Bool) → not b ≡ false → b ≡ true
+not_not true h = refl
+not_not false h = absurd (true≢false h)
+
+-- two rests are one where a mark is missing that says that they differ
+unmarked : (a b : ℤ) (m : Bool) → m ≡ not (int_eq a b) → m ≡ false → a ≡ b
+unmarked a b m is unset = (Decides-int_eq a b).0 (not_not (int_eq a b) (sym is ∙ unset))
 
 -- a spread that is reached is formed again
-pub turn_reworked : (set : Tables) (g : ℕ) (was : Credited) (moved marks : List Bool) (i : ℕ) (c : Credited) (rests : List ℤ) (credits : List ℕ) (own : SpreadState) → IsWithinLimits set → IsAtTurn set g was moved i c → i < length set.credits → let s = credit_spread_at set.credits i in let legs = legs_of s in let old = kept_at c.kept i in let row = brought moved c.rests legs old.rests in ((x : List ℕ) → rests ≡ (formed c.deltas c.risks (row, x) s).0) → IsKept c.deltas c.risks row s own → length credits ≡ length c.credits → ((k : ℕ) → slice_index credits k + share_of k legs old.credits ≡ slice_index c.credits k + share_of k legs own.credits) → marks ≡ marked rests moved legs old.after → IsAtTurn set g was marks (i + 1) (record c { rests = rests; credits = credits; kept = slice_set c.kept i own })
-turn_reworked set g was moved marks i c rests credits own limits at h rests_are is long credits_are marks_are =
+pub turn_reworked : (set : Tables) (g : ℕ) (was : Credited) (moved marks : List Bool) (i : ℕ) (c : Credited) (rests : List ℤ) (credits : List ℕ) (own : SpreadState) → IsAtTurn set g was moved i c → i < length set.credits → let s = credit_spread_at set.credits i in let legs = legs_of s in let old = kept_at c.kept i in IsKept c.deltas c.risks (rests_at c.deltas c.risks set.credits i) s own → AreMarked moved legs old.after own.after marks → length rests ≡ length c.rests → AreWritten marks c.rests legs own.after rests → length credits ≡ length c.credits → ((k : ℕ) → slice_index credits k + share_of k legs old.credits ≡ slice_index c.credits k + share_of k legs own.credits) → IsAtTurn set g was marks (i + 1) (record c { rests = rests; credits = credits; kept = slice_set c.kept i own })
+turn_reworked set g was moved marks i c rests credits own at h is marked rests_long written long credits_are =
     let spreads = set.credits in
     let s = credit_spread_at spreads i in
     let legs = legs_of s in
-    let limit = limits.credits i no_credit_spread h in
     let old = kept_at c.kept i in
-    let row = brought moved c.rests legs old.rests in
     let now = state_of c.deltas c.risks (take i spreads) in
     let before = state_of was.deltas was.risks (take i spreads) in
     let left = at.left i (omega arith) h in
-    let row_long : length row ≡ length c.deltas = length-brought moved c.rests legs old.rests ∙ at.one_rest_each in
-    let same_long : length row ≡ length now.0 = row_long ∙ sym (state_long c.deltas c.risks spreads i at.fewer).0 in
-    let agrees = turn_agrees set g was moved i c limits at h in
     let next = rests_suc c.deltas c.risks spreads i h in
     let was_next = rests_suc was.deltas was.risks spreads i h in
-    let few : length legs ≤ 4 = omega (arith, length-take s.count s.legs, limit.few) in
-    let low_marks : All (λ leg. leg.commodity < length moved) legs = λ j d low. (let there = (limit.legs j d low).commodity in omega (arith, there, at.one_mark_each)) in
-    let here = λ (k : ℕ) (e : value_at row k ≡ value_at now.0 k). (ap (λ (r : List ℤ). value_at r k) (rests_are now.1) ∙ formed_same c.deltas c.deltas c.risks c.risks row now.0 now.1 now.1 s k same_long agrees e) in
+    let after = (formed c.deltas c.risks now s).0 in
+    let was_after = (formed was.deltas was.risks before s).0 in
     let low_kept : i < length c.kept = omega (arith, h, at.one_kept_each) in
     record {
       fewer = omega arith;
@@ -207,16 +186,19 @@ turn_reworked set g was moved marks i c rests credits own limits at h rests_are 
       were = at.were;
       deltas = at.deltas;
       risks = at.risks;
-      one_rest_each = ap (λ (r : List ℤ). length r) (rests_are now.1) ∙ (formed_long c.deltas c.risks (row, now.1) s).0 ∙ row_long;
-      one_mark_each = rw marks_are (omega (arith, at.one_mark_each, length-marked rests moved legs old.after));
+      one_rest_each = rests_long ∙ at.one_rest_each;
+      one_mark_each = omega (arith, at.one_mark_each, marked.long);
       rests = λ k.
-          rw (next, was_next, marks_are) (
+          rw (next, was_next) (
           ⊎_elim
           (λ (named : names k legs ≡ true).
-          let own_row = named_all (λ (n : ℕ). value_at row n ≡ value_at now.0 n) k legs agrees named in
-          choose (moved_at (marked rests moved legs old.after) k) (value_at (formed c.deltas c.risks now s).0 k) (value_at rests k) (value_at (formed was.deltas was.risks before s).0 k) (λ yes. sym (here k own_row)) (λ no. marked_is rests moved legs old.after (λ n. value_at (formed c.deltas c.risks now s).0 n) (λ n. value_at (formed was.deltas was.risks before s).0 n) k (omega (arith, few, left.after_long)) low_marks (λ j low. here (leg_at legs j).commodity (agrees j low)) (λ j low. left.after_are before.1 j low) (λ unmoved out. absurd (true≢false (sym named ∙ out))) no))
+          named_all (λ (n : ℕ). value_at after n ≡ (if moved_at marks n then value_at rests n else value_at was_after n)) k legs (λ j low.
+          let n = (leg_at legs j).commodity in
+          let own_is : value_at own.after j ≡ value_at after n = is.after_are now.1 j low in
+          let old_is : value_at old.after j ≡ value_at was_after n = left.after_are before.1 j low in
+          choose (moved_at marks n) (value_at after n) (value_at rests n) (value_at was_after n) (λ yes. sym own_is ∙ sym (written.are j low yes)) (λ unset. sym own_is ∙ unmarked (value_at own.after j) (value_at old.after j) (moved_at marks n) (marked.are j low) unset ∙ old_is)) named)
           (λ (out : names k legs ≡ false).
-          rw (marked_out rests moved legs old.after k out, (formed_out was.deltas was.risks before s k out).0) (choose (moved_at moved k) (value_at (formed c.deltas c.risks now s).0 k) (value_at rests k) (value_at before.0 k) (λ yes. sym (here k (turn_brought set g was moved i c k limits at h (λ e. yes)))) (λ no. (formed_out c.deltas c.risks now s k out).0 ∙ unchosen (moved_at moved k) (value_at now.0 k) (value_at c.rests k) (value_at before.0 k) (at.rests k) no)))
+          rw ((formed_out c.deltas c.risks now s k out).0, (formed_out was.deltas was.risks before s k out).0, marked.out k out, written.out k out) (at.rests k))
           (cases_Bool (names k legs)));
       one_credit_each = long ∙ at.one_credit_each;
       credits = λ k.
@@ -224,8 +206,7 @@ turn_reworked set g was moved marks i c rests credits own limits at h rests_are 
       one_kept_each = omega (arith, at.one_kept_each, length-set c.kept i own);
       done = λ j low.
           ⊎_elim
-          (λ (mine : j ≡ i).
-          rw (mine, kept_own c.kept i own low_kept) (turn_kept set g was moved i c own limits at h is))
+          (λ (mine : j ≡ i). rw (mine, kept_own c.kept i own low_kept) is)
           (λ (other : j ≢ i). rw (kept_other c.kept i j own other) (at.done j (omega arith)))
           (cases_eq j i);
       left = λ j low inside.

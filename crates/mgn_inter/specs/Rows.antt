@@ -1,5 +1,5 @@
 -- The rows from which the spreads that a change reaches are formed again, one after the other.
-use Rattle.std.specs.Prelude.{ℕ, ◌≡◌, ◌+◌, ◌<◌, ◌≤◌, ◌==◌, ◌||◌, not, if◌then◌else◌, Bool, false, ℤ, pos, List, [], ◌∷◌, ◌++◌, ◌⊎◌, length, replicate, take, slice_index, slice_index_or, slice_set}
+use Rattle.std.specs.Prelude.{ℕ, ◌≡◌, ◌+◌, ◌<◌, ◌≤◌, ◌==◌, ◌||◌, not, if◌then◌else◌, Bool, false, true, ℤ, pos, List, [], ◌∷◌, ◌++◌, ◌⊎◌, length, replicate, take, slice_index, slice_index_or}
 use Rattle.std.specs.Int.{bit_at}
 use Rattle.std.specs.List.{fold, list_any, sum_by, zip}
 use Rattle.std.specs.Ordering.{int_eq}
@@ -24,20 +24,22 @@ moved_at moved c = slice_index_or moved c false
 abbrev pub reached : List Bool → ℕ → List Leg → Bool
 reached moved g legs = list_any (λ leg. (leg.commodity == g) || moved_at moved leg.commodity) legs
 
--- the rests once a leg's commodity has the one of its turn: its own if it has moved, else the one that is given
-abbrev pub bring : List Bool → List ℤ → Leg × ℤ → List ℤ
-bring moved rests p =
-    slice_set rests p.0.commodity (if moved_at moved p.0.commodity then value_at rests p.0.commodity else p.1)
+-- a row of four has the rests of the legs' commodities at a spread's turn: one's own if it has moved, else the one that was
+-- kept
+abbrev pub AreBrought : List Bool → List ℤ → List Leg → List ℤ → List ℤ → Type 0
+AreBrought moved rests legs kept row =
+    (j : ℕ) → j < length legs → let c = (leg_at legs j).commodity in value_at row j ≡ (if moved_at moved c then value_at rests c else value_at kept j)
 
-abbrev pub brought : List Bool → List ℤ → List Leg → List ℤ → List ℤ
-brought moved rests legs kept = fold (bring moved) rests (zip legs kept)
+-- a leg's commodity is marked where its rest is not the one that was, and other marks stay
+pub record AreMarked (moved : List Bool) (legs : List Leg) (old new : List ℤ) (marks : List Bool) : Type 0 where
+  pub long : length marks ≡ length moved
+  pub out : (k : ℕ) → names k legs ≡ false → moved_at marks k ≡ moved_at moved k
+  pub are : (j : ℕ) → j < length legs → moved_at marks (leg_at legs j).commodity ≡ not (int_eq (value_at new j) (value_at old j))
 
--- the marks once a leg's commodity has one if its rest is not the one that is given
-abbrev pub mark : List ℤ → List Bool → Leg × ℤ → List Bool
-mark rests moved p = slice_set moved p.0.commodity (not (int_eq (value_at rests p.0.commodity) p.1))
-
-abbrev pub marked : List ℤ → List Bool → List Leg → List ℤ → List Bool
-marked rests moved legs after = fold (mark rests) moved (zip legs after)
+-- a leg's commodity that is marked has the rest at the leg's place, and one that no leg names has the rest that it had
+pub record AreWritten (moved : List Bool) (old : List ℤ) (legs : List Leg) (row new : List ℤ) : Type 0 where
+  pub out : (k : ℕ) → names k legs ≡ false → value_at new k ≡ value_at old k
+  pub are : (j : ℕ) → j < length legs → let c = (leg_at legs j).commodity in moved_at moved c ≡ true → value_at new c ≡ value_at row j
 
 -- what the credits at the legs' places come to for a commodity
 abbrev pub leg_share : ℕ → Leg × ℕ → ℕ

@@ -12,16 +12,20 @@ ghost use Rattle.mgn_params.specs.Tables.{Tables, credit_spread_at, legs_of};
 ghost use Rattle.mgn_span.specs.Scan.{value_at};
 ghost use Rattle.mgn_span.specs.Sizes.{IsDelta};
 
+use crate::commodity_numbers::CommodityNumbers;
 use crate::naming::{await_moved, first_place, next_place, spread_at};
+use crate::numbers::{numbers_at, write_numbers};
 use crate::reworked::Reworked;
 use crate::rows::{
     bring_rests, change_credits, form_spread, have_same_sign, kept_forms, mark_moved, move_rest,
+    write_rests,
 };
 use crate::spread_state::SpreadState;
 use mgn_num::{Cents, TenThousandths};
 use mgn_params::ParamSet;
 use mgn_params::rows::{fill, filled};
-use mgn_span::{Delta, delta_at};
+use mgn_rows::SparseRows;
+use mgn_span::Delta;
 use std::alloc::{AllocError, Global};
 use std::marker::Model;
 
@@ -34,10 +38,8 @@ use std::marker::Model;
 /// Nothing but `new` takes memory.
 #[derive(Drop)]
 pub struct InterCredits {
-    deltas: Vec<Delta>,
-    risks: Vec<u64>,
-    rests: Vec<Delta>,
-    credits: Vec<u128>,
+    // Kept are the rows of commodities that were refreshed: no other has a net delta or a credit.
+    numbers: SparseRows<CommodityNumbers>,
     kept: Vec<SpreadState>,
 }
 
@@ -61,10 +63,7 @@ impl InterCredits {
         set.limits();
         let count = set.commodity_count();
         Ok(InterCredits {
-            deltas: filled(alloc, count, Delta::ZERO)?,
-            risks: filled(alloc, count, 0)?,
-            rests: filled(alloc, count, Delta::ZERO)?,
-            credits: filled(alloc, count, 0)?,
+            numbers: SparseRows::new(alloc, count, CommodityNumbers::NOTHING)?,
             kept: filled(alloc, set.credits().len(), SpreadState::NOTHING)?,
         })
     }
@@ -73,12 +72,7 @@ impl InterCredits {
     pub fn fits(&self, set: &ParamSet) -> bool
         ensures { IsTrue result ↔ AreCreditRows set.now self.now }
     {
-        let count = set.commodity_count();
-        self.deltas.len() == count
-            && self.risks.len() == count
-            && self.rests.len() == count
-            && self.credits.len() == count
-            && self.kept.len() == set.credits().len()
+        self.numbers.len() == set.commodity_count() && self.kept.len() == set.credits().len()
     }
 
     /// Nothing held in place of what was kept, under a set that the rows fit. Takes no memory.
@@ -89,23 +83,16 @@ impl InterCredits {
         ensures price_risks { self.new.risks ≡ replicate (length set.now.commodities) 0 }
     {
         set.limits();
-        fill(&mut self.deltas, Delta::ZERO);
-        fill(&mut self.risks, 0);
-        fill(&mut self.rests, Delta::ZERO);
-        fill(&mut self.credits, 0);
+        self.numbers.flatten(CommodityNumbers::NOTHING);
         fill(&mut self.kept, SpreadState::NOTHING);
     }
 
     // Writes the numbers of a commodity, and its net delta as its rest.
     fn write_numbers(&mut self, g: usize, delta: Delta, risk: u64)
-        requires delta { g < length self.old.deltas }
-        requires risk { g < length self.old.risks }
-        requires rest { g < length self.old.rests }
+        requires { g < length self.old.deltas }
         ensures { self.new ≡ record self.old { deltas = slice_set self.old.deltas g delta; risks = slice_set self.old.risks g risk; rests = slice_set self.old.rests g delta } }
     {
-        self.deltas[g] = delta;
-        self.risks[g] = risk;
-        self.rests[g] = delta;
+        write_numbers(&mut self.numbers, g, delta, risk);
     }
 
     // Forms the spread at a place again, of the rests at its turn, and tells whether it now credits something else.
@@ -127,10 +114,13 @@ impl InterCredits {
         let spread = spread_at(set.credits(), i);
         let legs = &spread.legs[..spread.count];
         let kept = &mut self.kept[i];
-        bring_rests(moved, &mut self.rests, legs, &mut kept.rests);
-        let credits = form_spread(&self.deltas, &self.risks, &mut self.rests, spread);
-        mark_moved(moved, &self.rests, legs, &mut kept.after);
-        change_credits(&mut self.credits, legs, &mut kept.credits, &credits)
+        bring_rests(moved, &self.numbers, legs, &mut kept.rests);
+        let mut after = kept.rests;
+        let credits = form_spread(&self.numbers, &mut after, spread);
+        mark_moved(moved, legs, &kept.after, &after);
+        write_rests(&mut self.numbers, moved, legs, &after);
+        kept.after = after;
+        change_credits(&mut self.numbers, legs, &mut kept.credits, &credits)
     }
 
     // Forms the spread at a place again. Those that the change then reaches wait too.
@@ -219,7 +209,7 @@ impl InterCredits {
         ensures alike { IsTrue result → AreAlike delta (value_at self.now.deltas g) }
         ensures none { IsTrue result → NoneForms set.now.credits self.now.deltas self.now.risks naming }
     {
-        have_same_sign(delta, delta_at(&self.deltas, g)) && self.none_forms(set, naming)
+        have_same_sign(delta, numbers_at(&self.numbers, g).delta) && self.none_forms(set, naming)
     }
 
     // Gives the legs of a commodity another rest in what is kept of the spread at a place.
@@ -300,10 +290,7 @@ impl InterCredits {
         requires { (set : Tables) × AreCreditRows set self.old × AreCreditRows set others.now }
         ensures { self.new ≡ others.now }
     {
-        self.deltas.copy_from_slice(&others.deltas);
-        self.risks.copy_from_slice(&others.risks);
-        self.rests.copy_from_slice(&others.rests);
-        self.credits.copy_from_slice(&others.credits);
+        self.numbers.copy_from(&others.numbers);
         self.kept.copy_from_slice(&others.kept);
     }
 
@@ -322,6 +309,6 @@ impl InterCredits {
         ensures value { result ≡ slice_index self.now.credits g }
         ensures small { result ≤ 256 * 10 ^ 33 }
     {
-        self.credits[g]
+        numbers_at(&self.numbers, g).credit
     }
 }

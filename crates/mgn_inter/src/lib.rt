@@ -1,8 +1,11 @@
 //! Credits of spreads between commodities, kept under changes of the commodities' net deltas and price risks.
 #![tactic(auto)]
 
+mod commodity_numbers;
+mod gathered;
 mod inter;
 mod naming;
+mod numbers;
 mod reworked;
 mod rows;
 mod spread_state;

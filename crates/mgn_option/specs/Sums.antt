@@ -3,7 +3,8 @@ use Rattle.std.specs.Prelude.{ℕ, ◌*◌, ◌≡◌, ◌<◌, ◌≤◌, ◌^�
 use Rattle.mgn_span.specs.Options.{net_option_value}
 use Rattle.mgn_span.specs.Positions.{IsNet, positions}
 use Rattle.mgn_span.specs.Requirement.{minimum}
-use Rattle.mgn_params.specs.Tables.{Tables}
+use Rattle.mgn_span.specs.Words.{short_share_of}
+use Rattle.mgn_params.specs.Tables.{Tables, commodity_at, contract_at}
 
 -- at most 256 * 10^16: 256 contracts sold 10^7 times each, at a charge of at most 10^9 (own profile)
 abbrev pub IsMinimum : ℕ → Type 0
@@ -12,6 +13,12 @@ IsMinimum cents = cents ≤ 256 * 10 ^ 16
 -- at most 4,096 * 10^15 in size: 4,096 contracts at 10^7 each, with values of at most 10^8 (own profile)
 abbrev pub IsOptionValue : ℤ → Type 0
 IsOptionValue value = unsigned_abs value ≤ 4096 * 10 ^ 15
+
+-- what a net of the contract at a place counts for in the minimum of its commodity, in cents (CME SPAN)
+abbrev pub minimum_share : Tables → ℕ → ℤ → ℕ
+minimum_share set i net =
+    let contract = contract_at set.contracts i in
+    short_share_of contract.commodity (commodity_at set.commodities contract.commodity).short_option_charge (contract, net)
 
 pub record Sums : Type 0 where
   pub minimums : List ℕ

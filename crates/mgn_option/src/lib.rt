@@ -3,5 +3,8 @@
 
 mod minimum;
 mod sums;
+mod value;
 
+pub use minimum::Minimum;
 pub use sums::OptionSums;
+pub use value::OptionValue;

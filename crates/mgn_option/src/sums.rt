@@ -7,11 +7,11 @@ ghost use Rattle.mgn_params.specs.Tables.{Tables};
 ghost use Rattle.mgn_option.specs.Sums.{AreSums};
 
 use crate::minimum::Minimum;
+use crate::value::OptionValue;
 use mgn_nets::Nets;
 use mgn_num::{Cents, Quantity};
 use mgn_params::ParamSet;
 use mgn_params::rows::{fill, filled};
-use mgn_span::shares::{share_of_minimum, share_of_value};
 use std::alloc::{AllocError, Global};
 use std::marker::Model;
 
@@ -23,17 +23,15 @@ use std::marker::Model;
 #[derive(Drop)]
 pub struct OptionSums {
     minimums: Vec<Minimum>,
-    value: Cents,
+    value: OptionValue,
 }
 
 impl Model for OptionSums {
-    ghost use Rattle.mgn_option.specs.Sums.{IsOptionValue, Sums};
+    ghost use Rattle.mgn_option.specs.Sums.{Sums};
 
     ghost Value = { Sums };
 
     ghost view = { λ s. record { minimums = s.minimums.items; value = s.value } };
-
-    ghost invariant = { λ s. IsOptionValue s.value };
 }
 
 fn minimum_at(minimums: &[Minimum], commodity: usize) -> Minimum
@@ -51,7 +49,7 @@ impl OptionSums {
         let minimums = filled(alloc, set.commodity_count(), Minimum::ZERO)?;
         Ok(OptionSums {
             minimums,
-            value: Cents::ZERO,
+            value: OptionValue::ZERO,
         })
     }
 
@@ -68,7 +66,7 @@ impl OptionSums {
             AreSums set (replicate (length set.contracts) (pos 0)) self.new }
     {
         fill(&mut self.minimums, Minimum::ZERO);
-        self.value = Cents::ZERO;
+        self.value = OptionValue::ZERO;
     }
 
     /// Follows a change of one net: a quantity more of the contract at `i`, bought above 0 and sold below.
@@ -83,16 +81,9 @@ impl OptionSums {
         ensures { AreSums set.now (slice_set nets.now i (value_at nets.now i +ℤ quantity)) self.new }
     {
         set.limits();
-        let contract = set.contract_at(i);
-        let commodity = contract.commodity;
-        let charge = &set.commodity_at(commodity).short_option_charge;
-        let before = nets.at(i);
-        let after = before.plus(quantity);
-        self.minimums[commodity] = minimum_at(&self.minimums, commodity).moved(
-            share_of_minimum(contract, before, charge),
-            share_of_minimum(contract, after, charge),
-        );
-        self.value = self.value.plus(share_of_value(contract, quantity));
+        let commodity = set.contract_at(i).commodity;
+        self.minimums[commodity].follow(set, i, nets.at(i), quantity);
+        self.value.follow(set, i, quantity);
     }
 
     /// Takes over other sums for as many commodities. Takes no memory.
@@ -124,6 +115,6 @@ impl OptionSums {
             result ≡ net_option_value (positions set.contracts nets) }
         ensures small { unsigned_abs result ≤ 4096 * 10 ^ 15 }
     {
-        self.value
+        self.value.cents()
     }
 }

@@ -6,14 +6,12 @@ ghost use Rattle.mgn_params.specs.Tables.{Tables};
 ghost use Rattle.mgn_scan.specs.Totals.{AreTotals};
 ghost use Rattle.mgn_span.specs.Words.{totals_of};
 
+use crate::row::ScanRow;
 use mgn_nets::Nets;
 use mgn_num::{Cents, Quantity};
-use mgn_params::rows::{fill_marked, filled};
 use mgn_params::{ParamSet, Work};
-use mgn_span::Total;
-use mgn_span::scan::{
-    ScanRisks, active_scenario, add_scaled, both_risks, doubled_risk, largest_total,
-};
+use mgn_rows::SparseRows;
+use mgn_span::scan::ScanRisks;
 use std::alloc::{AllocError, Global};
 use std::marker::Model;
 
@@ -23,9 +21,7 @@ use std::marker::Model;
 /// `AreTotals set nets totals` says that they are the totals of these nets under this set.
 #[derive(Drop)]
 pub struct ScanTotals {
-    rows: Vec<[Total; 16]>,
-    // The commodities whose totals were written to: those of the others are 0.
-    written: Vec<bool>,
+    rows: SparseRows<ScanRow>,
 }
 
 impl Model for ScanTotals {
@@ -33,12 +29,7 @@ impl Model for ScanTotals {
 
     ghost Value = { List (List ℤ) };
 
-    ghost view = { λ t. t.rows.items };
-
-    ghost use Rattle.mgn_params.specs.Marked.{IsElse};
-    ghost use Rattle.mgn_scan.specs.Totals.{no_totals};
-
-    ghost invariant = { λ t. IsElse no_totals t.rows.items t.written.items };
+    ghost view = { λ t. t.rows };
 }
 
 impl ScanTotals {
@@ -46,9 +37,9 @@ impl ScanTotals {
     pub fn new(alloc: Global, set: &ParamSet) -> Result<Self, AllocError>
         ensures { IfOk result (AreTotals set.now (replicate (length set.now.contracts) (pos 0))) }
     {
-        let rows = filled(alloc, set.commodity_count(), [Total::ZERO; 16])?;
-        let written = filled(alloc, set.commodity_count(), false)?;
-        Ok(ScanTotals { rows, written })
+        set.limits();
+        let rows = SparseRows::new(alloc, set.commodity_count(), ScanRow::NOTHING)?;
+        Ok(ScanTotals { rows })
     }
 
     /// Whether there is one row for each commodity of a set.
@@ -63,7 +54,7 @@ impl ScanTotals {
         ensures { (set : Tables) → length self.old ≡ length set.commodities →
             AreTotals set (replicate (length set.contracts) (pos 0)) self.new }
     {
-        fill_marked(&mut self.rows, &mut self.written, [Total::ZERO; 16]);
+        self.rows.flatten(ScanRow::NOTHING);
     }
 
     /// Follows a change of one net: a quantity more of the contract at `i`, bought above 0 and sold below.
@@ -86,9 +77,7 @@ impl ScanTotals {
     {
         set.limits();
         let commodity = set.contract_at(i).commodity;
-        self.written[commodity] = true;
-        let row = &mut self.rows[commodity];
-        add_scaled(row, set.array(i, work), quantity);
+        self.rows.row_mut(commodity).add(set, i, quantity, work);
     }
 
     /// Takes over the totals of others for as many commodities. Takes no memory.
@@ -96,16 +85,15 @@ impl ScanTotals {
         requires { length self.old ≡ length others.now }
         ensures { self.new ≡ others.now }
     {
-        self.rows.copy_from_slice(&others.rows);
-        self.written.copy_from_slice(&others.written);
+        self.rows.copy_from(&others.rows);
     }
 
     // The totals of a commodity.
-    fn row(&self, commodity: usize) -> &[Total; 16]
+    fn row(&self, commodity: usize) -> &ScanRow
         requires { commodity < length self.now }
         ensures { result.now ≡ totals_of self.now commodity }
     {
-        &self.rows[commodity]
+        self.rows.row(commodity)
     }
 
     /// The scan risk of a commodity in cents, 0 to 256 * 10^15: the largest total, or 0 where none is above it (CME
@@ -117,7 +105,7 @@ impl ScanTotals {
         ensures not_negative { pos 0 ≤ℤ result }
         ensures small { unsigned_abs result ≤ 256 * 10 ^ 15 }
     {
-        largest_total(self.row(commodity))
+        self.row(commodity).scan()
     }
 
     /// The place of the active scenario of a commodity, 0 to 15: its number less 1. It is the lowest-numbered of those
@@ -128,7 +116,7 @@ impl ScanTotals {
             result ≡ active (scenario_total commodity (positions set.contracts nets)) }
         ensures scenario { result < 16 }
     {
-        active_scenario(self.row(commodity))
+        self.row(commodity).active()
     }
 
     /// Twice the price risk of a commodity in cents, 0 to 1.1 * 10^18 (own profile, after SPAN).
@@ -139,7 +127,7 @@ impl ScanTotals {
         ensures not_negative { pos 0 ≤ℤ result }
         ensures small { unsigned_abs result ≤ 11 * 10 ^ 17 }
     {
-        doubled_risk(self.row(commodity))
+        self.row(commodity).price_risk2()
     }
 
     /// The scan risk of a commodity and twice its price risk, as `scan` and `price_risk2` tell them. The totals are
@@ -154,6 +142,6 @@ impl ScanTotals {
         ensures not_negative { pos 0 ≤ℤ result.price_risk2 }
         ensures small { unsigned_abs result.price_risk2 ≤ 11 * 10 ^ 17 }
     {
-        both_risks(self.row(commodity))
+        self.row(commodity).risks()
     }
 }

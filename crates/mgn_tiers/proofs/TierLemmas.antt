@@ -1,5 +1,5 @@
 -- All rows after the delta of one month changes, as `TierStages::add` promises, and those of nets of 0.
-use Rattle.std.proofs.Common.{◌≡◌, ◌≢◌, ℕ, ◌+◌, ◌<◌, List, length, slice_set, pos, ℤ, ⊎_elim, ap, ◌∙◌, sym, arith, refl, length-set, get_or-set_same, get_or-set_other, eq-eqb, ne_eqb, replicate}
+use Rattle.std.proofs.Common.{◌≡◌, ◌≢◌, ℕ, ◌+◌, ◌<◌, List, length, slice_set, pos, ℤ, ⊎_elim, ap, ◌∙◌, sym, arith, refl, length-set, get_or-set_same, get_or-set_other, eq-eqb, map, ne_eqb, replicate}
 use Rattle.std.specs.Prelude.{◌+ℤ◌}
 use Rattle.std.proofs.lemmas.Bool.{cases_eq}
 use Rattle.std.proofs.lemmas.Int.{ints}
@@ -7,12 +7,14 @@ use Rattle.std.proofs.lemmas.List.Elements.{All-replicate, All-set}
 use Rattle.std.proofs.lemmas.List.{get_or-replicate, length-replicate}
 use Rattle.mgn_params.specs.declared.tables.Month.{Month}
 use Rattle.mgn_params.specs.Limits.{IsWithinLimits}
+use Rattle.mgn_span.specs.MonthDeltas.{intra_charge_by, spot_charge_by}
 use Rattle.mgn_span.specs.Spot.{spot_of}
 use Rattle.mgn_span.specs.Stages.{stages_of}
 use Rattle.mgn_span.specs.Scan.{value_at}
 use Rattle.mgn_params.specs.Tables.{Tables, month_at, no_month}
-use Rattle.mgn_tiers.specs.Runs.{Run}
-use Rattle.mgn_tiers.specs.Tiers.{AreTiersOf, HasRoom, Tiers, moved, no_run, run_at, run_by, run_of}
+use Rattle.mgn_tiers.specs.Runs.{Run, Tier}
+use Rattle.mgn_tiers.specs.Tiers.{AreTiersOf, HasRoom, Tiers, moved, no_run, no_tier, run_at, run_by, run_of}
+use Rattle.mgn_tiers.proofs.PartLemmas.{part-replicate}
 use Rattle.mgn_tiers.proofs.StartLemmas.{long_moved, long_there, net_moved, net_none, short_moved, short_there, start_small, starts_kept, starts_moved, starts_none}
 use Rattle.mgn_span.proofs.StageSteps.{charges_of_nothing, left_by_nothing, spot_charge_of_nothing}
 use Rattle.mgn_span.specs.Sizes.{IsDelta}
@@ -86,3 +88,18 @@ tiers_none set' t deltas nets runs = record {
   one_run_each = ap (λ (rs : List Run). length rs) runs ∙ length-replicate {A = Run} (length set'.commodities) no_run;
   runs_are = λ g low. rw (runs, deltas) (get_or-replicate {A = Run} (length set'.commodities) g no_run no_run low ∙ run_none set' g);
 }
+
+pub tiers_none_of : (set' : Tables) (deltas : List ℤ) (rows : List Tier) → deltas ≡ replicate (length set'.months) (pos 0) → rows ≡ replicate (length set'.commodities) no_tier → AreTiersOf set' (record { deltas = deltas; net_deltas = map (λ (r : Tier). r.net_delta) rows; runs = map (λ (r : Tier). r.run) rows })
+tiers_none_of set' deltas rows none flat =
+    let nets = ap (λ (xs : List Tier). map (λ (r : Tier). r.net_delta) xs) flat ∙ part-replicate (λ (r : Tier). r.net_delta) (length set'.commodities) no_tier in
+    let runs = ap (λ (xs : List Tier). map (λ (r : Tier). r.run) xs) flat ∙ part-replicate (λ (r : Tier). r.run) (length set'.commodities) no_tier in
+    tiers_none set' (record { deltas = deltas; net_deltas = map (λ (r : Tier). r.net_delta) rows; runs = map (λ (r : Tier). r.run) rows }) none nets runs
+
+-- what the run of a commodity charges
+pub charge_of_run : (set' : Tables) (t : Tiers) (g : ℕ) → AreTiersOf set' t → g < length set'.commodities → (run_at t.runs g).charged ≡ intra_charge_by set' t.deltas g
+unfolding intra_charge_by
+charge_of_run set' t g are low = ap (λ (r : Run). r.charged) (are.runs_are g low)
+
+pub spot_of_run : (set' : Tables) (t : Tiers) (g : ℕ) → AreTiersOf set' t → g < length set'.commodities → (run_at t.runs g).spot_charged ≡ spot_charge_by set' t.deltas g
+unfolding spot_charge_by
+spot_of_run set' t g are low = ap (λ (r : Run). r.spot_charged) (are.runs_are g low)

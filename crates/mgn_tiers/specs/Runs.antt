@@ -1,5 +1,5 @@
 -- What the legs of one commodity start with, and what its stages, formed one after another, and its spot month then charge.
-use Rattle.std.specs.Prelude.{ℕ, ◌≡◌, ◌*◌, ◌≤◌, ◌^◌, List, length, slice_index, Option}
+use Rattle.std.specs.Prelude.{ℕ, ℤ, ◌≡◌, ◌*◌, ◌≤◌, ◌^◌, List, length, slice_index, Option}
 use Rattle.mgn_params.specs.declared.tables.SpotCharge.{SpotCharge}
 use Rattle.mgn_span.specs.declared.stage.Stage.{Stage}
 use Rattle.mgn_span.specs.Spot.{spot_charge_from}
@@ -11,6 +11,11 @@ pub record Run : Type 0 where
   pub starts : List ℕ
   pub charged : ℕ
   pub spot_charged : ℕ
+
+-- the net delta of a commodity beside its run
+pub record Tier : Type 0 where
+  pub net_delta : ℤ
+  pub run : Run
 
 -- the charges of stages and of a spot month, by what the legs start with
 abbrev pub run_from : List ℕ → List Stage → Option SpotCharge → Run

@@ -1,5 +1,5 @@
 -- The month deltas that changes add up to, and what is kept by them for each commodity of a set.
-use Rattle.std.specs.Prelude.{ℕ, ◌≡◌, ◌+◌, ◌-◌, ◌<◌, ◌≤◌, ℤ, slice_index, slice_set, List, length, replicate, slice_index_or, All}
+use Rattle.std.specs.Prelude.{ℕ, ◌≡◌, ◌+◌, ◌-◌, ◌<◌, ◌≤◌, ℤ, pos, slice_index, slice_set, List, length, replicate, slice_index_or, All}
 use Rattle.mgn_span.specs.Deltas.{negative_part, positive_part}
 use Rattle.mgn_span.specs.MonthDeltas.{net_delta_by, starts_by}
 use Rattle.mgn_span.specs.Scan.{value_at}
@@ -7,7 +7,7 @@ use Rattle.mgn_span.specs.Spot.{spot_of}
 use Rattle.mgn_span.specs.Stages.{stages_of}
 use Rattle.mgn_params.specs.declared.tables.Month.{Month}
 use Rattle.mgn_params.specs.Tables.{Tables}
-use Rattle.mgn_tiers.specs.Runs.{Run, run_from}
+use Rattle.mgn_tiers.specs.Runs.{Run, Tier, run_from}
 use Rattle.mgn_span.specs.Sizes.{IsDelta, IsStart}
 
 -- the deltas of the months, and for each commodity the net delta and the charges
@@ -19,6 +19,10 @@ pub record Tiers : Type 0 where
 -- legs that start with nothing, and charges of 0
 abbrev pub no_run : Run
 no_run = record { starts = replicate 16 0; charged = 0; spot_charged = 0 }
+
+-- a commodity of which no month has a delta
+abbrev pub no_tier : Tier
+no_tier = record { net_delta = pos 0; run = no_run }
 
 abbrev pub run_at : List Run → ℕ → Run
 run_at runs g = slice_index_or runs g no_run

@@ -2,8 +2,10 @@
 //! charge, and the net deltas.
 #![tactic(auto)]
 
+mod row;
 mod rows;
 mod run;
 mod tiers;
 
+pub use row::TierRow;
 pub use tiers::TierStages;

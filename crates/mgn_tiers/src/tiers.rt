@@ -5,11 +5,11 @@ ghost use Rattle.mgn_params.specs.Tables.{month_at, Tables};
 ghost use Rattle.mgn_tiers.specs.Tiers.{AreTiersOf, AreTierRows};
 ghost use Rattle.mgn_span.specs.Sizes.{IsDelta};
 
-use crate::rows::move_delta;
-use crate::run::StageRun;
+use crate::row::TierRow;
 use mgn_num::{Cents, TenThousandths};
 use mgn_params::ParamSet;
-use mgn_params::rows::{fill, fill_marked, filled};
+use mgn_params::rows::{fill, filled};
+use mgn_rows::SparseRows;
 use mgn_span::{Delta, delta_at};
 use std::alloc::{AllocError, Global};
 use std::marker::Model;
@@ -23,10 +23,7 @@ use std::marker::Model;
 #[derive(Drop)]
 pub struct TierStages {
     deltas: Vec<Delta>,
-    net_deltas: Vec<Delta>,
-    runs: Vec<StageRun>,
-    // The commodities whose runs were written to: those of the others start with nothing.
-    written: Vec<bool>,
+    rows: SparseRows<TierRow>,
 }
 
 impl Model for TierStages {
@@ -37,11 +34,6 @@ impl Model for TierStages {
     ghost use Rattle.mgn_tiers.specs.TierRows.{tiers_of};
 
     ghost view = { tiers_of };
-
-    ghost use Rattle.mgn_params.specs.Marked.{IsElse};
-    ghost use Rattle.mgn_tiers.specs.Tiers.{no_run};
-
-    ghost invariant = { λ t. IsElse no_run t.runs.items t.written.items };
 }
 
 impl TierStages {
@@ -50,11 +42,10 @@ impl TierStages {
         ensures of_set { IfOk result (AreTiersOf set.now) }
         ensures none { IfOk result (λ t. t.deltas ≡ replicate (length set.now.months) (pos 0)) }
     {
+        set.limits();
         Ok(TierStages {
             deltas: filled(alloc, set.month_count(), Delta::ZERO)?,
-            net_deltas: filled(alloc, set.commodity_count(), Delta::ZERO)?,
-            runs: filled(alloc, set.commodity_count(), StageRun::NOTHING)?,
-            written: filled(alloc, set.commodity_count(), false)?,
+            rows: SparseRows::new(alloc, set.commodity_count(), TierRow::NOTHING)?,
         })
     }
 
@@ -62,10 +53,7 @@ impl TierStages {
     pub fn fits(&self, set: &ParamSet) -> bool
         ensures { IsTrue result ↔ AreTierRows set.now self.now }
     {
-        let count = set.commodity_count();
-        self.deltas.len() == set.month_count()
-            && self.net_deltas.len() == count
-            && self.runs.len() == count
+        self.deltas.len() == set.month_count() && self.rows.len() == set.commodity_count()
     }
 
     /// Nothing held in place of what was kept, under each set that the rows fit. Takes no memory.
@@ -74,8 +62,7 @@ impl TierStages {
         ensures none { self.new.deltas ≡ replicate (length self.old.deltas) (pos 0) }
     {
         fill(&mut self.deltas, Delta::ZERO);
-        fill(&mut self.net_deltas, Delta::ZERO);
-        fill_marked(&mut self.runs, &mut self.written, StageRun::NOTHING);
+        self.rows.flatten(TierRow::NOTHING);
     }
 
     /// Adds to the delta of the month at a place, in ten-thousandths. The stages of its commodity are formed again
@@ -89,14 +76,8 @@ impl TierStages {
         ensures of_set { AreTiersOf set.now self.new }
     {
         set.limits();
-        let place = set.month_at(month);
-        let old = delta_at(&self.deltas, month);
-        let new = old.plus(delta);
-        let net = delta_at(&self.net_deltas, place.commodity).plus(delta);
-        self.deltas[month] = new;
-        self.net_deltas[place.commodity] = net;
-        self.written[place.commodity] = true;
-        move_delta(&mut self.runs[place.commodity], set, place, old, new);
+        let row = self.rows.row_mut(set.month_at(month).commodity);
+        row.add(set, month, &mut self.deltas[month], delta);
     }
 
     /// Takes over what is kept for a set that the rows fit. Takes no memory.
@@ -105,9 +86,7 @@ impl TierStages {
         ensures { self.new ≡ others.now }
     {
         self.deltas.copy_from_slice(&others.deltas);
-        self.net_deltas.copy_from_slice(&others.net_deltas);
-        self.runs.copy_from_slice(&others.runs);
-        self.written.copy_from_slice(&others.written);
+        self.rows.copy_from(&others.rows);
     }
 
     /// The delta of the month at a place, in ten-thousandths: what the changes so far add up to.
@@ -125,7 +104,7 @@ impl TierStages {
         ensures value { (set : Tables) → AreTiersOf set self.now → result ≡ pos (intra_charge_by set self.now.deltas g) }
         ensures small { unsigned_abs result ≤ 2 * 10 ^ 27 }
     {
-        Cents::new(self.runs[g].charge() as i128)
+        self.rows.row(g).charge()
     }
 
     /// The spot month charge of the commodity at a place, in cents, 0 where it has none.
@@ -134,7 +113,7 @@ impl TierStages {
         ensures value { (set : Tables) → AreTiersOf set self.now → result ≡ pos (spot_charge_by set self.now.deltas g) }
         ensures small { unsigned_abs result ≤ 10 ^ 26 }
     {
-        Cents::new(self.runs[g].spot_charge() as i128)
+        self.rows.row(g).spot()
     }
 
     /// The net delta of the commodity at a place: the sum of its month deltas, in ten-thousandths (CME SPAN).
@@ -143,6 +122,6 @@ impl TierStages {
         ensures value { (set : Tables) → AreTiersOf set self.now → result ≡ net_delta_by set.months self.now.deltas g }
         ensures small { IsDelta result }
     {
-        delta_at(&self.net_deltas, g).ten_thousandths()
+        self.rows.row(g).net_delta()
     }
 }

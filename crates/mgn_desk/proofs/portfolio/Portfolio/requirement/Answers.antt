@@ -11,6 +11,6 @@ returns-clause-requirement c =
     λ set now.
     let p : WorkedPortfolio = worked_of c.self.inside in
     let is = subst (λ (x : WorkedPortfolio). IsPortfolio set x) (sym c.self.view_is) now in
-    let value = c.value.ensures.value set p.nets is.ready.parts.sums in
-    let answer = c.or_zero.ensures ∙ ap (λ (x : ℤ). int_max (pos 0) x) c.minus.ensures ∙ requirement_is set p c.sum.result c.value.result is c.sum.ensures.sum value in
+    let value = c.option_value.ensures.value ∙ is.ready.parts.sums.value_is in
+    let answer = c.or_zero.ensures ∙ ap (λ (x : ℤ). int_max (pos 0) x) c.minus.ensures ∙ requirement_is set p c.risk_sum.result c.option_value.result is c.risk_sum.ensures.sum value in
     subst (λ (x : WorkedPortfolio). c.or_zero.result ≡ requirement set x.nets) c.self.view_is answer

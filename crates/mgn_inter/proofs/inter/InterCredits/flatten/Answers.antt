@@ -1,12 +1,29 @@
-use Rattle.std.proofs.Common.{◌∙◌, ℕ, ap, pos, replicate}
+use Rattle.std.proofs.Common.{◌∙◌, ℕ, ap, length, replicate, sym}
+use Rattle.std.proofs.lemmas.List.{length-map}
+use Rattle.mgn_inter.specs.declared.commodity_numbers.CommodityNumbers.{CommodityNumbers}
+use Rattle.mgn_inter.specs.Columns.{no_numbers}
 use Rattle.mgn_inter.specs.CreditRows.{credited_of}
 use Rattle.mgn_inter.specs.Credited.{AreCreditRows}
 use Rattle.mgn_inter.specs.Rows.{nothing_kept}
+use Rattle.mgn_inter.proofs.ColumnLemmas.{AreFlat, rows_flat}
 use Rattle.mgn_inter.proofs.TurnLemmas.{credits_none}
 use Rattle.mgn_inter.proofs.inter.InterCredits.flatten.Goals as goal
+use Rattle.mgn_inter.proofs.inter.InterCredits.flatten.Goals.{After-fill}
+
+fits : (c : After-fill) → AreCreditRows c.args.set.now (credited_of c.self.inside)
+fits c = rw c.self.view_is c.requires
+
+flat : (c : After-fill) → AreFlat (length c.args.set.now.commodities) c.flatten.new.self
+flat c =
+    let long = sym (length-map c.self.inside.numbers (λ (n : CommodityNumbers). n.delta)) ∙ (fits c).deltas in
+    rows_flat c.flatten.new.self (length c.args.set.now.commodities) (c.flatten.ensures ∙ ap (λ (n : ℕ). replicate n no_numbers) long)
 
 pub returns-clause-of_set : goal.returns-clause-of_set
 returns-clause-of_set c =
-    let old = credited_of c.self.inside in
-    let fits : AreCreditRows c.args.set.now old = rw c.self.view_is c.requires in
-    credits_none c.args.set.now _ c.limits.ensures (c.fill.ensures ∙ ap (λ (n : ℕ). replicate n (pos 0)) fits.deltas) (c.fill-2.ensures ∙ ap (λ (n : ℕ). replicate n 0) fits.risks) (c.fill-3.ensures ∙ ap (λ (n : ℕ). replicate n (pos 0)) fits.rests) (c.fill-4.ensures ∙ ap (λ (n : ℕ). replicate n 0) fits.credits) (c.fill-5.ensures ∙ ap (λ (n : ℕ). replicate n nothing_kept) fits.kept)
+    credits_none c.args.set.now _ c.limits.ensures (flat c).deltas (flat c).risks (flat c).rests (flat c).credits (c.fill.ensures ∙ ap (λ (n : ℕ). replicate n nothing_kept) (fits c).kept)
+
+pub returns-clause-net_deltas : goal.returns-clause-net_deltas
+returns-clause-net_deltas c = (flat c).deltas
+
+pub returns-clause-price_risks : goal.returns-clause-price_risks
+returns-clause-price_risks c = (flat c).risks

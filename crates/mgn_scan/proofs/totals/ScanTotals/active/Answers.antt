@@ -5,4 +5,4 @@ use Rattle.mgn_scan.proofs.totals.ScanTotals.active.Goals as goal
 pub returns-clause-active : goal.returns-clause-active
 returns-clause-active c =
     λ set nets are.
-    c.active_scenario.ensures.active ∙ active_is set nets c.args.self.now c.row.result.now c.args.commodity are c.requires.commodity c.row.ensures
+    c.active.ensures.active ∙ active_is set nets c.args.self.now c.row.result.now c.args.commodity are c.requires.commodity c.row.ensures

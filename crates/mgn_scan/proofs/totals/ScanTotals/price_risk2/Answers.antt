@@ -5,4 +5,4 @@ use Rattle.mgn_scan.proofs.totals.ScanTotals.price_risk2.Goals as goal
 pub returns-clause-price_risk2 : goal.returns-clause-price_risk2
 returns-clause-price_risk2 c =
     λ set nets are.
-    c.doubled_risk.ensures.value ∙ price_risk2_is set nets c.args.self.now c.row.result.now c.args.commodity are c.requires.commodity c.row.ensures
+    c.price_risk2.ensures.price_risk2 ∙ price_risk2_is set nets c.args.self.now c.row.result.now c.args.commodity are c.requires.commodity c.row.ensures

@@ -1,0 +1,14 @@
+use Rattle.std.proofs.Common.{◌∙◌, ap}
+use Rattle.mgn_scan.proofs.TotalsLemmas.{price_risk2_is, scan_is}
+use Rattle.mgn_desk.specs.declared.commodity_row.CommodityRow.{CommodityRow}
+use Rattle.mgn_desk.proofs.commodity_rows.CommodityRows.risks.Goals as goal
+
+pub returns-clause-scan : goal.returns-clause-scan
+returns-clause-scan c =
+    λ set nets are.
+    c.risks.ensures.scan ∙ scan_is set nets c.args.self.now.totals c.row.result.now.scan c.args.g are c.requires (ap (λ (r : CommodityRow). r.scan) c.row.ensures)
+
+pub returns-clause-price_risk2 : goal.returns-clause-price_risk2
+returns-clause-price_risk2 c =
+    λ set nets are.
+    c.risks.ensures.price_risk2 ∙ price_risk2_is set nets c.args.self.now.totals c.row.result.now.scan c.args.g are c.requires (ap (λ (r : CommodityRow). r.scan) c.row.ensures)
