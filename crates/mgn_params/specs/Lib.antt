@@ -5,4 +5,3 @@ pub mod CommodityRows
 pub mod Naming
 pub mod Inside
 pub mod Shelves
-pub mod Marked
