@@ -241,12 +241,14 @@ impl Book {
             Err(StepFault::Memory) => return Outcome::Memory,
             Err(StepFault::Refused(_)) => unreachable!(),
         };
-        let Ok(kept) = reply.copy() else {
+        if self
+            .history
+            .push(session, number, command, &likely_places(plan), &reply)
+            .is_err()
+        {
             return Outcome::Memory;
-        };
+        }
         self.counts[count_place(session)] = number;
-        self.history
-            .push(session, number, command, &likely_places(plan), kept);
         Outcome::Done(self.history.len() as u64, reply)
     }
 

@@ -105,28 +105,33 @@ impl History {
     }
 
     /// Writes the entry of a command for which memory is reserved. Where its names are likely to stand among those that
-    /// the history has is looked at first.
+    /// the history has is looked at first. A statement is shared with the reply; the only error is that of `Reply::copy`,
+    /// and then the entries stay.
     pub fn push(
         &mut self,
         session: SessionNo,
         number: u64,
         command: &Command,
         likely: &Likely,
-        reply: Reply,
-    )
+        reply: &Reply,
+    ) -> Result<(), AllocError>
         requires reserved { self.old.reserved ≡ true }
         requires few { length self.old.entries < 1000000 }
         requires number { number ≤ 1000000 }
-        ensures { self.new.entries ≡ self.old.entries ++ entry session number (Asked command.now) reply ∷ [] }
+        ensures ok { OnOk result (self.new.entries
+            ≡ self.old.entries ++ entry session number (Asked command.now) reply.now ∷ []) }
+        ensures err { OnErr result (self.new.entries ≡ self.old.entries) }
+        ensures brief { is_brief reply.now ≡ true → IsOk result }
     {
+        let reply = self.replies.store(reply)?;
         let request = store_command(&mut self.names, command, likely);
-        let reply = self.replies.store(reply);
         self.entries.push_reserved(StoredEntry {
             session,
             number: ThreeBytes::new(number as u32),
             request,
             reply,
         });
+        Ok(())
     }
 
     /// Writes the entry of a switch whose set came into force, for which memory is reserved.
@@ -137,7 +142,7 @@ impl History {
         ensures { self.new.entries ≡
             self.old.entries ++ entry session number (InForce version) (Reply.NewSet told) ∷ [] }
     {
-        let reply = self.replies.store(Reply::NewSet(told));
+        let reply = self.replies.store_whole(Reply::NewSet(told));
         self.entries.push_reserved(StoredEntry {
             session,
             number: ThreeBytes::new(number as u32),

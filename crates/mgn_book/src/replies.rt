@@ -1,6 +1,6 @@
 //! What replies of the history are stored as.
 
-ghost use Rattle.std.specs.Prelude.{◌≡◌, ◌≤◌, [], length, FitsSigned, IfOk, IfSome, IsOk, IsSome, OnOk, true};
+ghost use Rattle.std.specs.Prelude.{◌≡◌, ◌≤◌, [], length, FitsSigned, IfOk, IfSome, IsOk, IsSome, OnErr, OnOk, true};
 ghost use Rattle.std.specs.Int.{w64};
 ghost use Rattle.mgn_machine.specs.Brief.{is_brief};
 ghost use Rattle.mgn_book.specs.Replies.{AddsFewReplies, AreNarrow, IsKept, KeepsReplies, TakesLittle, reply_of};
@@ -131,22 +131,25 @@ impl Replies {
     }
 
     /// Stores a reply, in the memory that is reserved: figures that fit in 64 bits in half the room, an `OK` alone and
-    /// a refusal in none.
-    pub fn store(&mut self, reply: Reply) -> StoredReply
+    /// a refusal in none. A statement is shared with the reply. The only error is that of `Reply::copy`; then nothing has
+    /// changed.
+    pub fn store(&mut self, reply: &Reply) -> Result<StoredReply, AllocError>
         requires room { self.old.has_room ≡ true }
         requires few_figures { length self.old.figures ≤ 1000000 }
         requires few_others { length self.old.others ≤ 1000000 }
         ensures kept { KeepsReplies self.old self.new }
-        ensures stored { IsKept self.new result }
-        ensures reply { reply_of self.new result ≡ reply }
+        ensures stored { IfOk result (IsKept self.new) }
+        ensures reply { IfOk result (λ stored. reply_of self.new stored ≡ reply.now) }
         ensures few { AddsFewReplies self.old self.new }
-        ensures little { TakesLittle reply self.old self.new }
+        ensures little { TakesLittle reply.now self.old self.new }
+        ensures brief { is_brief reply.now ≡ true → IsOk result }
+        ensures refused { OnErr result (self.new ≡ self.old) }
     {
         match reply {
-            Reply::Done => StoredReply::Done,
-            Reply::Refused(why) => StoredReply::Refused(why),
-            Reply::Figures(figures) => self.store_figures(&figures),
-            other => self.store_other(other),
+            Reply::Done => Ok(StoredReply::Done),
+            Reply::Refused(why) => Ok(StoredReply::Refused(*why)),
+            Reply::Figures(figures) => Ok(self.store_figures(figures)),
+            other => Ok(self.store_whole(other.copy()?)),
         }
     }
 
@@ -161,14 +164,15 @@ impl Replies {
         ensures little { AreNarrow figures.now → self.new.others ≡ self.old.others }
     {
         let Some(narrow) = NarrowFigures::of(figures) else {
-            return self.store_other(Reply::Figures(*figures));
+            return self.store_whole(Reply::Figures(*figures));
         };
         let place = ThreeBytes::new(self.figures.len() as u32);
         self.figures.push_reserved(narrow);
         StoredReply::Figures(place)
     }
 
-    fn store_other(&mut self, reply: Reply) -> StoredReply
+    /// Stores a reply as it is, in the memory that is reserved.
+    pub fn store_whole(&mut self, reply: Reply) -> StoredReply
         requires room { self.old.has_room ≡ true }
         requires few { length self.old.others ≤ 1000000 }
         ensures kept { KeepsReplies self.old self.new }

@@ -75,7 +75,7 @@ fn answer_of(outcome: Outcome) -> Answer
 }
 
 impl Plain {
-    ghost use Rattle.mgn_machine.specs.declared.request.Request.TheVariants.{Do, Switch};
+    ghost use Rattle.mgn_machine.specs.declared.request.Request.TheVariants.{Switch};
 
     // The number of the next call, which comes from session 1 as all others did.
     fn next_number(&self) -> u64
@@ -83,23 +83,6 @@ impl Plain {
         ensures place { result ≡ length self.now.day.history + 1 }
     {
         self.book.calls(SessionNo::new(1)) + 1
-    }
-
-    // One command in session 1.
-    fn commit(&mut self, number: u64, command: &Command) -> Outcome
-        requires { number ≡ calls 1 self.old.day.history + 1 }
-        ensures committed { Committed self.new.sets self.old.day 1 number (Do command.now) result self.new.day }
-        ensures sets { self.new.sets ≡ self.old.sets }
-    {
-        commit_command(
-            self.alloc,
-            &mut self.book,
-            &mut self.desks,
-            &self.shelf,
-            number,
-            command,
-            &mut Work::new(),
-        )
     }
 
     // One switch in session 1. The desks stay as they are: one of an older version is marked anew when it is next asked
@@ -136,7 +119,15 @@ impl Exec for Plain {
 
     fn exec(&mut self, command: &Command) -> Answer {
         let number = self.next_number();
-        answer_of(self.commit(number, command))
+        answer_of(commit_command(
+            self.alloc,
+            &mut self.book,
+            &mut self.desks,
+            &self.shelf,
+            number,
+            command,
+            &mut Work::new(),
+        ))
     }
 
     fn switch(&mut self, set: ParamSet) -> Answer {
