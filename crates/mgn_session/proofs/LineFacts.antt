@@ -14,7 +14,7 @@ use Rattle.mgn_wire.specs.Line.{line_of}
 use Rattle.mgn_wire.specs.Text.{text_of}
 use Rattle.mgn_session.specs.Conversation.{line_ends}
 use Rattle.mgn_session.specs.Session.{Step, AnswersAll, ended, has_end}
-use Rattle.mgn_session.specs.SessionInside.{IsAt}
+use Rattle.mgn_session.specs.SessionInside.{IsAt, whole_line}
 
 -- the fronts of lists that are put together
 
@@ -66,6 +66,16 @@ line_front line = line_front_by (nat_lt 256 (length line)) line refl
 
 pub same_line : (xs ys : List ℕ) → take 257 xs ≡ take 257 ys → line_of xs ≡ line_of ys
 same_line xs ys e = sym (line_front xs) ∙ ap line_of e ∙ line_front ys
+
+-- a line whose front is kept is known by it, and one that is at hand whole by that
+whole_by : (b : Bool) (line new last : List ℕ) → (length new == 0) ≡ b → 0 < length line → take 257 new ≡ take 257 (line ++ last) → line_of (whole_line new last) ≡ line_of (line ++ last)
+whole_by true line new last e some front =
+    let none : length new ≡ 0 = grind (arith, nat_tests) in
+    absurd (omega (arith, none, some, ap length front, length-take 257 new, length-take 257 (line ++ last), length-append line last))
+whole_by false line new last e some front = rw e (same_line new (line ++ last) front)
+
+pub whole_is : (line new last : List ℕ) → 0 < length line → take 257 new ≡ take 257 (line ++ last) → line_of (whole_line new last) ≡ line_of (line ++ last)
+whole_is line new last some front = whole_by (length new == 0) line new last refl some front
 
 -- where a line ends
 

@@ -1,5 +1,5 @@
 -- A session under way, for the inside of this crate alone.
-use Rattle.std.specs.Prelude.{◌≡◌, ◌⊎◌, ℕ, List, [], ◌++◌, length, take, Result}
+use Rattle.std.specs.Prelude.{◌≡◌, ◌⊎◌, ◌==◌, if◌then◌else◌, ℕ, List, [], ◌++◌, length, take, Result}
 use Rattle.std.specs.Io.KnownBytes.{Appends, Consumes}
 use Rattle.mgn_wire.specs.Text.{lines_after}
 use Rattle.mgn_wire.specs.declared.fault.LineFault.{LineFault}
@@ -7,6 +7,10 @@ use Rattle.mgn_wire.specs.declared.line.Line.{Line}
 use Rattle.mgn_wire.specs.declared.reply.LineReply.{LineReply}
 use Rattle.mgn_session.specs.Conversation.{ConversationView}
 use Rattle.mgn_session.specs.Session.{IsLost, IsSession, Step}
+
+-- the line that ends with `last`, of which `line` has the front: all of it, unless it is empty
+abbrev pub whole_line : List ℕ → List ℕ → List ℕ
+whole_line line last = if length line == 0 then last else line
 
 -- a session of which `line` tells as much of the line at hand as a line can need
 pub record IsAt {X : Type 0} (step : Step X) (old new : X) (input text : List ℕ) (count : ℕ) (line : List ℕ) : Type 0 where

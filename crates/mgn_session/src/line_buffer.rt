@@ -2,7 +2,7 @@ ghost use Rattle.std.specs.Prelude.{◌≡◌, ◌⊎◌, ◌+◌, ◌<◌, ◌�
 ghost use Rattle.mgn_wire.specs.Line.{line_of};
 ghost use Rattle.mgn_session.specs.Conversation.{ConversationView, KeepsDevices, line_ends};
 ghost use Rattle.mgn_session.specs.Session.{Answers, Calls, Switches, has_end};
-ghost use Rattle.mgn_session.specs.SessionInside.{GoesWithout, IsCutOff, IsUnderWay};
+ghost use Rattle.mgn_session.specs.SessionInside.{GoesWithout, IsCutOff, IsUnderWay, whole_line};
 
 use crate::conversation::Conversation;
 use crate::ends::find_end;
@@ -81,27 +81,21 @@ fn keep(line: &mut Vec<u8>, piece: &[u8]) -> Result<(), Memory>
     }
 }
 
-// Answers the line that ends with `last`, of which `line` has what came before.
-fn answer_ended<E: Exec, S: SetSource>(
-    line: &mut Vec<u8>,
-    exec: &mut E,
-    source: &mut S,
-    last: &[u8],
-) -> Result<LineReply, Memory>
-    ensures ok { IfOk result (λ reply. Answers (Calls E.entries E.is_full E.is_broken E.does) S.gives (exec.old, source.old)
-        (line_of (line.old.items ++ last.now)) reply (exec.new, source.new)) }
-    ensures exec { OnErr result (exec.new ≡ exec.old) }
-    ensures source { OnErr result (source.new ≡ source.old) }
-    ensures line { OnOk result (line.new.items ≡ []) }
+// Adds the end of a line to its front, unless all of it is at hand.
+fn complete(line: &mut Vec<u8>, last: &[u8]) -> Result<(), Memory>
+    ensures { OnOk result (line_of (whole_line line.new.items last.now) ≡ line_of (line.old.items ++ last.now)) }
 {
-    let alloc = *line.allocator();
     if line.is_empty() {
-        return Ok(answer_line(alloc, exec, source, &read_line(last)));
+        return Ok(());
     }
-    keep(line, last)?;
-    let reply = answer_line(alloc, exec, source, &read_line(line.as_slice()));
-    line.clear();
-    Ok(reply)
+    keep(line, last)
+}
+
+// The line that ends with `last`, of which `line` has the front.
+fn whole_line<'a>(line: &'a [u8], last: &'a [u8]) -> &'a [u8]
+    ensures { result.now ≡ whole_line line.now last.now }
+{
+    if line.is_empty() { last } else { line }
 }
 
 /// The front of the line at hand, and the number of lines answered.
@@ -151,7 +145,10 @@ impl LineBuffer {
         ensures devices { KeepsDevices talk.old talk.new }
     {
         talk.reserve()?;
-        let reply = answer_ended(&mut self.line, exec, source, last)?;
+        complete(&mut self.line, last)?;
+        let whole = whole_line(&self.line, last);
+        let reply = answer_line(*self.line.allocator(), exec, source, &read_line(whole));
+        self.line.clear();
         talk.reply(&reply)?;
         self.lines += 1;
         Ok(())
