@@ -1,13 +1,27 @@
--- How much room the texts of replies need.
-use Rattle.std.proofs.Common.{ℕ, ◌≡◌, ◌<◌, ◌≤◌, [], length, arith}
+-- How much room the texts of replies and statements need.
+use Rattle.std.proofs.Common.{ℕ, ℤ, pos, negsuc, ◌≡◌, ◌<◌, ◌≤◌, [], ◌∷◌, length, arith, refl, true, false, true≢false, int_lt, unsigned_abs}
 use Rattle.std.specs.Prelude.{◌^◌}
-use Rattle.std.specs.Fmt.{decimal}
+use Rattle.std.specs.Fmt.{decimal, signed_decimal}
+use Rattle.std.proofs.lemmas.Bool.Decides.{nat_tests}
 use Rattle.std.proofs.lemmas.Fmt.{length-decimal-le}
 use Rattle.mgn_machine.specs.Statements.{Told}
 use Rattle.mgn_wire.specs.StatementText.{statement_text}
 
 pub decimal_short : (n : ℕ) → n < 2 ^ 64 → length (decimal n) ≤ 20
 decimal_short n small = length-decimal-le 20 n (omega arith) (omega arith) small
+
+-- the size of a quantity
+pub size_short : (n : ℕ) → n ≤ 10 ^ 9 → length (decimal n) ≤ 10
+size_short n small = length-decimal-le 10 n (omega arith) (omega arith) (omega arith)
+
+-- the text of a number with a sign, by its size
+pub text_from_0 : (z : ℤ) → int_lt z (pos 0) ≡ false → signed_decimal z ≡ decimal (unsigned_abs z)
+text_from_0 (pos n) e = refl
+text_from_0 (negsuc n) e = absurd (true≢false e)
+
+pub text_below_0 : (z : ℤ) → int_lt z (pos 0) ≡ true → signed_decimal z ≡ 45 ∷ decimal (unsigned_abs z)
+text_below_0 (pos n) e = absurd (grind (arith, nat_tests))
+text_below_0 (negsuc n) e = refl
 
 -- a statement has a line
 pub statement_filled : (told : Told) → statement_text told ≡ [] → ⊥

@@ -4,6 +4,7 @@
 pub mod fault;
 pub mod line;
 pub mod reply;
+mod row;
 pub mod statement;
 mod words;
 

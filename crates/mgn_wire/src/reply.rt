@@ -4,8 +4,8 @@ ghost use Rattle.mgn_wire.specs.Room.{FitsIn};
 ghost use Rattle.mgn_wire.specs.Text.{fault_text, line_reply_of, lines_after, place_text, refusal_text, reply_of, set_text, text_of, totals_text};
 
 use crate::fault::{LineFault, Memory};
+use crate::row::{ROW, write_number};
 use crate::statement::{line_count, print_statement};
-use itoa::Buffer;
 use mgn_machine::{Answer, NewSet, Refusal, Reply, Totals, UnitFigures};
 use mgn_num::Cents;
 use std::alloc::AllocError;
@@ -93,8 +93,9 @@ pub(crate) fn print_number(number: u64, out: &mut Vec<u8>) -> Result<(), AllocEr
     ensures kept { take (length out.old.items) out.new.items ≡ out.old.items }
     ensures room { FitsIn 21 out.old out.new result }
 {
-    print_byte(b' ', out)?;
-    print(Buffer::new().format(number), out)
+    let mut row = [0; ROW];
+    let start = write_number(number, &mut row, ROW);
+    out.extend_from_slice(&row[start..])
 }
 
 fn print_place(place: Option<u64>, out: &mut Vec<u8>) -> Result<(), AllocError>

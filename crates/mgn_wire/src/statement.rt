@@ -1,11 +1,11 @@
-ghost use Rattle.std.specs.Prelude.{◌≡◌, ◌++◌, ◌∷◌, [], OnOk, OnErr, codes, length, take};
+ghost use Rattle.std.specs.Prelude.{◌≡◌, ◌≤◌, ◌+◌, ◌++◌, ◌∷◌, [], OnOk, OnErr, codes, drop, length, take};
 ghost use Rattle.std.specs.List.{flat_map};
 ghost use Rattle.mgn_wire.specs.Fields.{field, number_text};
 ghost use Rattle.mgn_wire.specs.StatementText.{account_line, cash_line, charges_text, class_text, commodity_text, figures_line, hold_text, line_count, lot_text, mark_text, mode_text, name_text, option_line, own_lines, statement_text, unit_lines};
 
 use crate::fault::Memory;
 use crate::reply::{print, print_byte, print_field, print_figures, print_number};
-use itoa::Buffer;
+use crate::row::{ROW, write_byte, write_number, write_quantity};
 use mgn_holds::Held;
 use mgn_lots::{Lot, Mark};
 use mgn_machine::{ClassLine, CommodityLine, CommodityLines, Heading, Mode, Statement};
@@ -20,14 +20,6 @@ fn print_name(name: &[u8], out: &mut Vec<u8>) -> Result<(), AllocError>
 {
     print_byte(b' ', out)?;
     out.extend_from_slice(name)
-}
-
-fn print_quantity(quantity: Quantity, out: &mut Vec<u8>) -> Result<(), AllocError>
-    ensures ok { OnOk result (out.new.items ≡ out.old.items ++ field quantity) }
-    ensures kept { take (length out.old.items) out.new.items ≡ out.old.items }
-{
-    print_byte(b' ', out)?;
-    print(Buffer::new().format(quantity.contracts()), out)
 }
 
 fn print_mode(mode: Mode, out: &mut Vec<u8>) -> Result<(), AllocError>
@@ -50,12 +42,14 @@ fn mark_letter(mark: Mark) -> u8
     }
 }
 
-fn print_mark(mark: Mark, out: &mut Vec<u8>) -> Result<(), AllocError>
-    ensures ok { OnOk result (out.new.items ≡ out.old.items ++ mark_text mark) }
-    ensures kept { take (length out.old.items) out.new.items ≡ out.old.items }
+#[inline]
+fn write_mark(mark: Mark, row: &mut [u8; ROW], end: usize) -> usize
+    requires { (2 ≤ end) × (end ≤ 64) }
+    ensures start { result + 2 ≡ end }
+    ensures written { drop result row.new ≡ mark_text mark ++ drop end row.old }
 {
-    print_byte(b' ', out)?;
-    print_byte(mark_letter(mark), out)
+    let start = write_byte(mark_letter(mark), row, end);
+    write_byte(b' ', row, start)
 }
 
 // The account, its origin and how that is margined.
@@ -122,51 +116,56 @@ fn print_option_value(heading: &Heading, out: &mut Vec<u8>) -> Result<(), AllocE
     print_byte(b'\n', out)
 }
 
-// The contract, the quantity and the price of a lot or an order.
-fn print_terms(
+// What a line of a lot or an order begins with: its letter, its number and its contract.
+fn print_start(
+    letter: u8,
+    number: u64,
     contract: &[u8],
-    quantity: Quantity,
-    price: u64,
     out: &mut Vec<u8>,
 ) -> Result<(), AllocError>
-    ensures ok { OnOk result (out.new.items ≡ out.old.items
-        ++ (name_text contract.now ++ field quantity ++ number_text price)) }
+    ensures ok { OnOk result (out.new.items ≡ out.old.items ++ (letter ∷ (number_text number ++ name_text contract.now))) }
     ensures kept { take (length out.old.items) out.new.items ≡ out.old.items }
 {
-    print_name(contract, out)?;
-    print_quantity(quantity, out)?;
-    print_number(price, out)
+    let mut row = [0; ROW];
+    let start = write_byte(b' ', &mut row, ROW);
+    let start = write_number(number, &mut row, start);
+    let start = write_byte(letter, &mut row, start);
+    out.extend_from_slice(&row[start..])?;
+    out.extend_from_slice(contract)
+}
+
+// The quantity and the price of a lot or an order.
+#[inline]
+fn write_terms(quantity: Quantity, price: u32, row: &mut [u8; ROW], end: usize) -> usize
+    requires { (33 ≤ end) × (end ≤ 64) }
+    ensures written { drop result row.new ≡ field quantity ++ number_text price ++ drop end row.old }
+    ensures within { result ≤ 64 }
+{
+    let start = write_number(u64::from(price), row, end);
+    write_quantity(quantity, row, start)
 }
 
 fn print_lot(lot: &Lot, out: &mut Vec<u8>) -> Result<(), AllocError>
     ensures ok { OnOk result (out.new.items ≡ out.old.items ++ lot_text lot.now) }
     ensures kept { take (length out.old.items) out.new.items ≡ out.old.items }
 {
-    print_byte(b'L', out)?;
-    print_number(lot.number.number(), out)?;
-    print_terms(
-        lot.contract.as_bytes(),
-        lot.quantity,
-        u64::from(lot.premium),
-        out,
-    )?;
-    print_mark(lot.mark, out)?;
-    print_byte(b'\n', out)
+    print_start(b'L', lot.number.number(), lot.contract.as_bytes(), out)?;
+    let mut row = [0; ROW];
+    let start = write_byte(b'\n', &mut row, ROW);
+    let start = write_mark(lot.mark, &mut row, start);
+    let start = write_terms(lot.quantity, lot.premium, &mut row, start);
+    out.extend_from_slice(&row[start..])
 }
 
 fn print_hold(held: &Held, out: &mut Vec<u8>) -> Result<(), AllocError>
     ensures ok { OnOk result (out.new.items ≡ out.old.items ++ hold_text held.now) }
     ensures kept { take (length out.old.items) out.new.items ≡ out.old.items }
 {
-    print_byte(b'O', out)?;
-    print_number(held.order.number(), out)?;
-    print_terms(
-        held.contract.as_bytes(),
-        held.quantity,
-        u64::from(held.limit),
-        out,
-    )?;
-    print_byte(b'\n', out)
+    print_start(b'O', held.order.number(), held.contract.as_bytes(), out)?;
+    let mut row = [0; ROW];
+    let start = write_byte(b'\n', &mut row, ROW);
+    let start = write_terms(held.quantity, held.limit, &mut row, start);
+    out.extend_from_slice(&row[start..])
 }
 
 fn print_cash(heading: &Heading, out: &mut Vec<u8>) -> Result<(), AllocError>
