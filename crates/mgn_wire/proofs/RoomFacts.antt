@@ -1,18 +1,19 @@
 -- How much room the texts of replies and statements need.
-use Rattle.std.proofs.Common.{ℕ, ℤ, pos, negsuc, ◌≡◌, ◌<◌, ◌≤◌, [], ◌∷◌, length, arith, refl, true, false, true≢false, int_lt, unsigned_abs}
+use Rattle.std.proofs.Common.{ℕ, suc, ℤ, pos, negsuc, ◌≡◌, ◌<◌, ◌≤◌, [], ◌∷◌, length, arith, refl, true, false, true≢false, int_lt, unsigned_abs}
 use Rattle.std.specs.Prelude.{◌^◌}
 use Rattle.std.specs.Fmt.{decimal, signed_decimal}
 use Rattle.std.proofs.lemmas.Bool.Decides.{nat_tests}
-use Rattle.std.proofs.lemmas.Fmt.{length-decimal-le}
+use Rattle.std.proofs.lemmas.Fmt.{length-decimal-le, length-decimal-le_wide}
 use Rattle.mgn_machine.specs.Statements.{Told}
 use Rattle.mgn_wire.specs.StatementText.{statement_text}
 
 pub decimal_short : (n : ℕ) → n < 2 ^ 64 → length (decimal n) ≤ 20
 decimal_short n small = length-decimal-le 20 n (omega arith) (omega arith) small
 
--- the size of a quantity
-pub size_short : (n : ℕ) → n ≤ 10 ^ 9 → length (decimal n) ≤ 10
-size_short n small = length-decimal-le 10 n (omega arith) (omega arith) (omega arith)
+-- at most 37 digits and a sign
+pub amount_short : (z : ℤ) → unsigned_abs z ≤ 10 ^ 36 → length (signed_decimal z) ≤ 38
+amount_short (pos n) small = omega (arith, length-decimal-le_wide 37 n (omega arith) (omega arith) (omega arith))
+amount_short (negsuc n) small = omega (arith, length-decimal-le_wide 37 (suc n) (omega arith) (omega arith) (omega arith))
 
 -- the text of a number with a sign, by its size
 pub text_from_0 : (z : ℤ) → int_lt z (pos 0) ≡ false → signed_decimal z ≡ decimal (unsigned_abs z)

@@ -4,7 +4,7 @@ ghost use Rattle.mgn_wire.specs.Room.{FitsIn};
 ghost use Rattle.mgn_wire.specs.Text.{fault_text, line_reply_of, lines_after, place_text, refusal_text, reply_of, set_text, text_of, totals_text};
 
 use crate::fault::{LineFault, Memory};
-use crate::row::{ROW, write_number};
+use crate::row::{LONG_ROW, ROW, write_figures, write_number};
 use crate::statement::{line_count, print_statement};
 use mgn_machine::{Answer, NewSet, Refusal, Reply, Totals, UnitFigures};
 use mgn_num::Cents;
@@ -109,7 +109,7 @@ fn print_place(place: Option<u64>, out: &mut Vec<u8>) -> Result<(), AllocError>
     }
 }
 
-pub(crate) fn print_field(cents: Cents, out: &mut Vec<u8>) -> Result<(), AllocError>
+fn print_field(cents: Cents, out: &mut Vec<u8>) -> Result<(), AllocError>
     ensures ok { OnOk result (out.new.items ≡ out.old.items ++ field cents) }
     ensures kept { take (length out.old.items) out.new.items ≡ out.old.items }
     ensures room { FitsIn 39 out.old out.new result }
@@ -118,16 +118,14 @@ pub(crate) fn print_field(cents: Cents, out: &mut Vec<u8>) -> Result<(), AllocEr
     cents.print(out)
 }
 
-pub(crate) fn print_figures(figures: &UnitFigures, out: &mut Vec<u8>) -> Result<(), AllocError>
+fn print_figures(figures: &UnitFigures, out: &mut Vec<u8>) -> Result<(), AllocError>
     ensures ok { OnOk result (out.new.items ≡ out.old.items ++ figures_text figures.now) }
     ensures kept { take (length out.old.items) out.new.items ≡ out.old.items }
     ensures room { FitsIn 195 out.old out.new result }
 {
-    print_field(figures.requirement, out)?;
-    print_field(figures.exposure_requirement, out)?;
-    print_field(figures.value, out)?;
-    print_field(figures.exposure_value, out)?;
-    print_field(figures.room, out)
+    let mut row = [0; LONG_ROW];
+    let start = write_figures(figures, &mut row, LONG_ROW);
+    out.extend_from_slice(&row[start..])
 }
 
 fn print_totals(totals: &Totals, out: &mut Vec<u8>) -> Result<(), AllocError>

@@ -1,20 +1,22 @@
-// The end of a line, written from its last byte to its first, so that the digits of a number are written where they stay.
+// The end of a line in a row of bytes, written from its last byte to its first, so that the digits of a number are written
+// where they stay. Each function writes its text so that it ends at `end`, and returns where it starts.
 ghost use Rattle.std.specs.Prelude.{◌≡◌, ◌+◌, ◌≤◌, ◌++◌, ◌∷◌, drop, length};
 ghost use Rattle.std.specs.Fmt.{signed_decimal};
-ghost use Rattle.mgn_num.specs.Amount.{IsQuantity};
-ghost use Rattle.mgn_wire.specs.Fields.{field, number_text};
+ghost use Rattle.mgn_wire.specs.Fields.{field, figures_text, number_text};
 
-use itoa::write_digits;
-use mgn_num::Quantity;
+use itoa::{Buffer, write_digits};
+use mgn_machine::UnitFigures;
+use mgn_num::{Cents, Quantity};
 
-/// Room for a byte, a number, two more after spaces, and three bytes.
+/// Room for a byte, two numbers after spaces and three bytes.
 pub(crate) const ROW: usize = 64;
 
-// Each function writes its text so that it ends at `end`, and returns where it starts.
+/// Room for six amounts and a number, each after a space, and a byte.
+pub(crate) const LONG_ROW: usize = 256;
 
 #[inline]
-pub(crate) fn write_byte(byte: u8, row: &mut [u8; ROW], end: usize) -> usize
-    requires { (1 ≤ end) × (end ≤ 64) }
+pub(crate) fn write_byte(byte: u8, row: &mut [u8], end: usize) -> usize
+    requires { (1 ≤ end) × (end ≤ length row.old) }
     ensures start { result + 1 ≡ end }
     ensures written { drop result row.new ≡ byte ∷ drop end row.old }
 {
@@ -23,11 +25,21 @@ pub(crate) fn write_byte(byte: u8, row: &mut [u8; ROW], end: usize) -> usize
     start
 }
 
+fn write_text(text: &[u8], row: &mut [u8], end: usize) -> usize
+    requires { (length text.now ≤ end) × (end ≤ length row.old) }
+    ensures start { result + length text.now ≡ end }
+    ensures written { drop result row.new ≡ text.now ++ drop end row.old }
+{
+    let start = end - text.len();
+    row[start..end].copy_from_slice(text);
+    start
+}
+
 // A number after a space: at most 21 bytes.
 #[inline]
 #[tactic(auto, using(crate::proofs::RoomFacts::decimal_short))]
-pub(crate) fn write_number(number: u64, row: &mut [u8; ROW], end: usize) -> usize
-    requires { (21 ≤ end) × (end ≤ 64) }
+pub(crate) fn write_number(number: u64, row: &mut [u8], end: usize) -> usize
+    requires { (21 ≤ end) × (end ≤ length row.old) }
     ensures start { result + length (number_text number) ≡ end }
     ensures short { end ≤ result + 21 }
     ensures written { drop result row.new ≡ number_text number ++ drop end row.old }
@@ -36,13 +48,13 @@ pub(crate) fn write_number(number: u64, row: &mut [u8; ROW], end: usize) -> usiz
     write_byte(b' ', row, start)
 }
 
-// A number of at most ten digits, its sign before them where it is below 0.
+// A number, its sign first where it is below 0: at most 21 bytes.
 #[inline]
-#[tactic(auto, using(crate::proofs::RoomFacts::text_from_0, crate::proofs::RoomFacts::text_below_0))]
-fn write_signed(number: i64, row: &mut [u8; ROW], end: usize) -> usize
-    requires { IsQuantity number × (11 ≤ end) × (end ≤ 64) }
+#[tactic(auto, using(crate::proofs::RoomFacts::decimal_short, crate::proofs::RoomFacts::text_from_0, crate::proofs::RoomFacts::text_below_0))]
+fn write_signed(number: i64, row: &mut [u8], end: usize) -> usize
+    requires { (21 ≤ end) × (end ≤ length row.old) }
     ensures start { result + length (signed_decimal number) ≡ end }
-    ensures short { end ≤ result + 11 }
+    ensures short { end ≤ result + 21 }
     ensures written { drop result row.new ≡ signed_decimal number ++ drop end row.old }
 {
     let start = write_digits(number.unsigned_abs(), row, end);
@@ -53,14 +65,55 @@ fn write_signed(number: i64, row: &mut [u8; ROW], end: usize) -> usize
     }
 }
 
-// A quantity after a space: at most 12 bytes.
+// A quantity after a space: at most 22 bytes.
 #[inline]
-pub(crate) fn write_quantity(quantity: Quantity, row: &mut [u8; ROW], end: usize) -> usize
-    requires { (12 ≤ end) × (end ≤ 64) }
+pub(crate) fn write_quantity(quantity: Quantity, row: &mut [u8], end: usize) -> usize
+    requires { (22 ≤ end) × (end ≤ length row.old) }
     ensures start { result + length (field quantity) ≡ end }
-    ensures short { end ≤ result + 12 }
+    ensures short { end ≤ result + 22 }
     ensures written { drop result row.new ≡ field quantity ++ drop end row.old }
 {
     let start = write_signed(quantity.contracts(), row, end);
     write_byte(b' ', row, start)
+}
+
+// Few amounts have more digits than a number of 64 bits.
+#[inline]
+#[tactic(auto, using(crate::proofs::RoomFacts::amount_short))]
+fn write_cents(cents: Cents, row: &mut [u8], end: usize) -> usize
+    requires { (38 ≤ end) × (end ≤ length row.old) }
+    ensures start { result + length (signed_decimal cents) ≡ end }
+    ensures short { end ≤ result + 38 }
+    ensures written { drop result row.new ≡ signed_decimal cents ++ drop end row.old }
+{
+    let amount = cents.amount();
+    match i64::try_from(amount) {
+        Ok(number) => write_signed(number, row, end),
+        Err(_) => write_text(Buffer::new().format(amount).as_bytes(), row, end),
+    }
+}
+
+// An amount after a space: at most 39 bytes.
+pub(crate) fn write_field(cents: Cents, row: &mut [u8], end: usize) -> usize
+    requires { (39 ≤ end) × (end ≤ length row.old) }
+    ensures start { result + length (field cents) ≡ end }
+    ensures short { end ≤ result + 39 }
+    ensures written { drop result row.new ≡ field cents ++ drop end row.old }
+{
+    let start = write_cents(cents, row, end);
+    write_byte(b' ', row, start)
+}
+
+// Five amounts, each after a space: at most 195 bytes.
+pub(crate) fn write_figures(figures: &UnitFigures, row: &mut [u8], end: usize) -> usize
+    requires { (195 ≤ end) × (end ≤ length row.old) }
+    ensures start { result + length (figures_text figures.now) ≡ end }
+    ensures short { end ≤ result + 195 }
+    ensures written { drop result row.new ≡ figures_text figures.now ++ drop end row.old }
+{
+    let start = write_field(figures.room, row, end);
+    let start = write_field(figures.exposure_value, row, start);
+    let start = write_field(figures.value, row, start);
+    let start = write_field(figures.exposure_requirement, row, start);
+    write_field(figures.requirement, row, start)
 }

@@ -4,8 +4,10 @@ ghost use Rattle.mgn_wire.specs.Fields.{field, number_text};
 ghost use Rattle.mgn_wire.specs.StatementText.{account_line, cash_line, charges_text, class_text, commodity_text, figures_line, hold_text, line_count, lot_text, mark_text, mode_text, name_text, option_line, own_lines, statement_text, unit_lines};
 
 use crate::fault::Memory;
-use crate::reply::{print, print_byte, print_field, print_figures, print_number};
-use crate::row::{ROW, write_byte, write_number, write_quantity};
+use crate::reply::{print, print_byte, print_number};
+use crate::row::{
+    LONG_ROW, ROW, write_byte, write_field, write_figures, write_number, write_quantity,
+};
 use mgn_holds::Held;
 use mgn_lots::{Lot, Mark};
 use mgn_machine::{ClassLine, CommodityLine, CommodityLines, Heading, Mode, Statement};
@@ -43,8 +45,8 @@ fn mark_letter(mark: Mark) -> u8
 }
 
 #[inline]
-fn write_mark(mark: Mark, row: &mut [u8; ROW], end: usize) -> usize
-    requires { (2 ≤ end) × (end ≤ 64) }
+fn write_mark(mark: Mark, row: &mut [u8], end: usize) -> usize
+    requires { (2 ≤ end) × (end ≤ length row.old) }
     ensures start { result + 2 ≡ end }
     ensures written { drop result row.new ≡ mark_text mark ++ drop end row.old }
 {
@@ -78,21 +80,26 @@ fn print_figures_line(heading: &Heading, out: &mut Vec<u8>) -> Result<(), AllocE
     ensures ok { OnOk result (out.new.items ≡ out.old.items ++ figures_line heading.now) }
     ensures kept { take (length out.old.items) out.new.items ≡ out.old.items }
 {
-    print_byte(b'F', out)?;
-    print_figures(&heading.figures, out)?;
-    print_field(heading.call, out)?;
-    print_byte(b'\n', out)
+    let mut row = [0; LONG_ROW];
+    let start = write_byte(b'\n', &mut row, LONG_ROW);
+    let start = write_field(heading.call, &mut row, start);
+    let start = write_figures(&heading.figures, &mut row, start);
+    let start = write_byte(b'F', &mut row, start);
+    out.extend_from_slice(&row[start..])
 }
 
-fn print_charges(line: &CommodityLine, out: &mut Vec<u8>) -> Result<(), AllocError>
-    ensures ok { OnOk result (out.new.items ≡ out.old.items ++ charges_text line.now) }
-    ensures kept { take (length out.old.items) out.new.items ≡ out.old.items }
+// Five amounts, each after a space: at most 195 bytes.
+fn write_charges(line: &CommodityLine, row: &mut [u8], end: usize) -> usize
+    requires { (195 ≤ end) × (end ≤ length row.old) }
+    ensures start { result + length (charges_text line.now) ≡ end }
+    ensures short { end ≤ result + 195 }
+    ensures written { drop result row.new ≡ charges_text line.now ++ drop end row.old }
 {
-    print_field(line.intra, out)?;
-    print_field(line.spot, out)?;
-    print_field(line.credit, out)?;
-    print_field(line.minimum, out)?;
-    print_field(line.risk, out)
+    let start = write_field(line.risk, row, end);
+    let start = write_field(line.minimum, row, start);
+    let start = write_field(line.credit, row, start);
+    let start = write_field(line.spot, row, start);
+    write_field(line.intra, row, start)
 }
 
 fn print_commodity(line: &CommodityLine, out: &mut Vec<u8>) -> Result<(), AllocError>
@@ -101,19 +108,23 @@ fn print_commodity(line: &CommodityLine, out: &mut Vec<u8>) -> Result<(), AllocE
 {
     print_byte(b'G', out)?;
     print_name(line.commodity.as_bytes(), out)?;
-    print_field(line.scan, out)?;
-    print_number(u64::from(line.active), out)?;
-    print_charges(line, out)?;
-    print_byte(b'\n', out)
+    let mut row = [0; LONG_ROW];
+    let start = write_byte(b'\n', &mut row, LONG_ROW);
+    let start = write_charges(line, &mut row, start);
+    let start = write_number(u64::from(line.active), &mut row, start);
+    let start = write_field(line.scan, &mut row, start);
+    out.extend_from_slice(&row[start..])
 }
 
 fn print_option_value(heading: &Heading, out: &mut Vec<u8>) -> Result<(), AllocError>
     ensures ok { OnOk result (out.new.items ≡ out.old.items ++ option_line heading.now) }
     ensures kept { take (length out.old.items) out.new.items ≡ out.old.items }
 {
-    print_byte(b'N', out)?;
-    print_field(heading.option_value, out)?;
-    print_byte(b'\n', out)
+    let mut row = [0; ROW];
+    let start = write_byte(b'\n', &mut row, ROW);
+    let start = write_field(heading.option_value, &mut row, start);
+    let start = write_byte(b'N', &mut row, start);
+    out.extend_from_slice(&row[start..])
 }
 
 // What a line of a lot or an order begins with: its letter, its number and its contract.
@@ -136,10 +147,10 @@ fn print_start(
 
 // The quantity and the price of a lot or an order.
 #[inline]
-fn write_terms(quantity: Quantity, price: u32, row: &mut [u8; ROW], end: usize) -> usize
-    requires { (33 ≤ end) × (end ≤ 64) }
+fn write_terms(quantity: Quantity, price: u32, row: &mut [u8], end: usize) -> usize
+    requires { (43 ≤ end) × (end ≤ length row.old) }
     ensures written { drop result row.new ≡ field quantity ++ number_text price ++ drop end row.old }
-    ensures within { result ≤ 64 }
+    ensures within { result ≤ length row.old }
 {
     let start = write_number(u64::from(price), row, end);
     write_quantity(quantity, row, start)
