@@ -1,10 +1,10 @@
-ghost use Rattle.std.specs.Prelude.{◌≡◌, ◌≤◌, ◌+◌, ◌++◌, [], ◌∷◌, OnOk, OnErr, IsOk, codes, length, take, vec_capacity};
+ghost use Rattle.std.specs.Prelude.{◌≡◌, ◌≤◌, ◌+◌, ◌++◌, [], ◌∷◌, OnOk, OnErr, IsOk, codes, drop, length, take, vec_capacity};
 ghost use Rattle.mgn_wire.specs.Fields.{field, figures_text, number_text};
 ghost use Rattle.mgn_wire.specs.Room.{FitsIn};
 ghost use Rattle.mgn_wire.specs.Text.{fault_text, line_reply_of, lines_after, place_text, refusal_text, reply_of, set_text, text_of, totals_text};
 
 use crate::fault::{LineFault, Memory};
-use crate::row::{LONG_ROW, ROW, write_figures, write_number};
+use crate::row::{LONG_ROW, ROW, write_byte, write_figures, write_number, write_text};
 use crate::statement::{line_count, print_statement};
 use mgn_machine::{Answer, NewSet, Refusal, Reply, Totals, UnitFigures};
 use mgn_num::Cents;
@@ -98,14 +98,17 @@ pub(crate) fn print_number(number: u64, out: &mut Vec<u8>) -> Result<(), AllocEr
     out.extend_from_slice(&row[start..])
 }
 
-fn print_place(place: Option<u64>, out: &mut Vec<u8>) -> Result<(), AllocError>
-    ensures ok { OnOk result (out.new.items ≡ out.old.items ++ place_text place) }
-    ensures kept { take (length out.old.items) out.new.items ≡ out.old.items }
-    ensures room { FitsIn 21 out.old out.new result }
+// The place of an answer after a space, where it has one: at most 21 bytes.
+#[inline]
+fn write_place(place: Option<u64>, row: &mut [u8], end: usize) -> usize
+    requires { (21 ≤ end) × (end ≤ length row.old) }
+    ensures start { result + length (place_text place) ≡ end }
+    ensures short { end ≤ result + 21 }
+    ensures written { drop result row.new ≡ place_text place ++ drop end row.old }
 {
     match place {
-        Some(place) => print_number(place, out),
-        None => Ok(()),
+        Some(place) => write_number(place, row, end),
+        None => end,
     }
 }
 
@@ -154,8 +157,10 @@ fn print_done(place: Option<u64>, out: &mut Vec<u8>) -> Result<(), AllocError>
     ensures kept { take (length out.old.items) out.new.items ≡ out.old.items }
     ensures room { FitsIn 23 out.old out.new result }
 {
-    print("OK", out)?;
-    print_place(place, out)
+    let mut row = [0; ROW];
+    let start = write_place(place, &mut row, ROW);
+    let start = write_text(b"OK", &mut row, start);
+    out.extend_from_slice(&row[start..])
 }
 
 fn print_refused(refusal: Refusal, place: Option<u64>, out: &mut Vec<u8>) -> Result<(), AllocError>
@@ -164,10 +169,12 @@ fn print_refused(refusal: Refusal, place: Option<u64>, out: &mut Vec<u8>) -> Res
     ensures kept { take (length out.old.items) out.new.items ≡ out.old.items }
     ensures room { FitsIn 38 out.old out.new result }
 {
-    print("ERR", out)?;
-    print_place(place, out)?;
-    print_byte(b' ', out)?;
-    print(refusal_text(refusal), out)
+    let mut row = [0; ROW];
+    let start = write_text(refusal_text(refusal).as_bytes(), &mut row, ROW);
+    let start = write_byte(b' ', &mut row, start);
+    let start = write_place(place, &mut row, start);
+    let start = write_text(b"ERR", &mut row, start);
+    out.extend_from_slice(&row[start..])
 }
 
 fn print_answer(answer: &Answer, out: &mut Vec<u8>) -> Result<(), AllocError>

@@ -25,7 +25,8 @@ pub(crate) fn write_byte(byte: u8, row: &mut [u8], end: usize) -> usize
     start
 }
 
-fn write_text(text: &[u8], row: &mut [u8], end: usize) -> usize
+#[inline]
+pub(crate) fn write_text(text: &[u8], row: &mut [u8], end: usize) -> usize
     requires { (length text.now ≤ end) × (end ≤ length row.old) }
     ensures start { result + length text.now ≡ end }
     ensures written { drop result row.new ≡ text.now ++ drop end row.old }
