@@ -179,10 +179,9 @@ fn read_transfer(
 fn read_none(verb: &[u8]) -> Result<Line, LineFault>
     ensures { result ≡ of_words (Ok Line.Do <*> with_none verb.now) }
 {
-    if verb == b"END".as_slice() {
-        Ok(Line::Do(Command::EndDay))
-    } else {
-        Err(LineFault::Syntax)
+    match verb {
+        b"END" => Ok(Line::Do(Command::EndDay)),
+        _ => Err(LineFault::Syntax),
     }
 }
 
@@ -228,12 +227,10 @@ fn read_two(verb: &[u8], a: &[u8], b: &[u8]) -> Result<Line, LineFault>
 fn read_three(verb: &[u8], a: &[u8], b: &[u8], c: &[u8]) -> Result<Line, LineFault>
     ensures { result ≡ of_words (Ok Line.Do <*> with_three verb.now a.now b.now c.now) }
 {
-    if verb == b"POST".as_slice() {
-        read_post(a, b, c)
-    } else if verb == b"DRAW".as_slice() {
-        read_draw(a, b, c)
-    } else {
-        Err(LineFault::Syntax)
+    match verb {
+        b"POST" => read_post(a, b, c),
+        b"DRAW" => read_draw(a, b, c),
+        _ => Err(LineFault::Syntax),
     }
 }
 
@@ -248,16 +245,12 @@ fn read_five(
 ) -> Result<Line, LineFault>
     ensures { result ≡ of_words (Ok Line.Do <*> with_five verb.now a.now b.now c.now d.now e.now) }
 {
-    if verb == b"TRADE".as_slice() {
-        read_trade(a, b, c, d, e)
-    } else if verb == b"HOLD".as_slice() {
-        read_hold(a, b, c, d, e)
-    } else if verb == b"FILL".as_slice() {
-        read_fill(a, b, c, d, e)
-    } else if verb == b"MOVE".as_slice() {
-        read_transfer(a, b, c, d, e)
-    } else {
-        Err(LineFault::Syntax)
+    match verb {
+        b"TRADE" => read_trade(a, b, c, d, e),
+        b"HOLD" => read_hold(a, b, c, d, e),
+        b"FILL" => read_fill(a, b, c, d, e),
+        b"MOVE" => read_transfer(a, b, c, d, e),
+        _ => Err(LineFault::Syntax),
     }
 }
 

@@ -90,11 +90,9 @@ pub(crate) fn split_words(line: &[u8]) -> Option<Words<'_>>
 pub(crate) fn read_mode(word: &[u8]) -> Result<Mode, IdFault>
     ensures { result ≡ mode_in word.now }
 {
-    if word == b"GROSS".as_slice() {
-        Ok(Mode::Gross)
-    } else if word == b"NET".as_slice() {
-        Ok(Mode::Net)
-    } else {
-        Err(IdFault::Syntax)
+    match word {
+        b"GROSS" => Ok(Mode::Gross),
+        b"NET" => Ok(Mode::Net),
+        _ => Err(IdFault::Syntax),
     }
 }
