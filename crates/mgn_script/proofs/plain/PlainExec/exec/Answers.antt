@@ -1,3 +1,5 @@
+use Rattle.std.proofs.Common.{ap, subst}
+use Rattle.mgn_book.specs.BookViews.{BookView, Committed}
 use Rattle.mgn_machine.specs.declared.request.Request.TheVariants.{Do}
 use Rattle.mgn_script.specs.Plain.{IsScriptView, ScriptView}
 use Rattle.mgn_script.proofs.PlainFacts.{called, no_set_put, still}
@@ -13,8 +15,10 @@ invariant_of-self c =
 pub returns : goal.returns
 returns c =
     let old = c.args.self.now in
-    let new : ScriptView = record { sets = c.self.inside.shelf; day = c.commit_command.new.book } in
+    let sets = c.self.inside.shelf in
+    let committed = subst (λ (day : BookView). Committed sets day 1 c.next_number-number.result (Do c.args.command.now) c.commit_command.result c.commit_command.new.book)
+    (ap (λ (v : ScriptView). v.day) c.self.view_is) c.commit_command.ensures.committed in
     rw c.answer_of.ensures (
-    called old.sets new.sets old.day new.day c.next_number-number.result (Do c.args.command.now) c.commit_command.result c.next_number-number.ensures.place c.commit_command.ensures.committed
-    (no_set_put old.sets new.sets c.args.command.now c.commit_command.result c.commit_command.ensures.sets)
+    called old.sets sets old.day c.commit_command.new.book c.next_number-number.result (Do c.args.command.now) c.commit_command.result c.next_number-number.ensures.place committed
+    (no_set_put old.sets sets c.args.command.now c.commit_command.result (ap (λ (v : ScriptView). v.sets) c.self.view_is))
     )
