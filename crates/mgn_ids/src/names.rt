@@ -1,4 +1,4 @@
-ghost use Rattle.std.specs.Prelude.{◌≡◌, ◌≤◌, length};
+ghost use Rattle.std.specs.Prelude.{◌≡◌};
 ghost use Rattle.mgn_ids.specs.Name.{name_in};
 
 use crate::fault::IdFault;
@@ -33,8 +33,7 @@ impl AccountName {
 
     /// The bytes of the name.
     pub fn as_bytes(&self) -> &[u8]
-        ensures value { result.now ≡ self.now }
-        ensures length { (1 ≤ length result.now) × (length result.now ≤ 16) }
+        ensures { result.now ≡ self.now }
     {
         self.name.as_bytes()
     }
@@ -68,8 +67,7 @@ impl ContractName {
 
     /// The bytes of the name.
     pub fn as_bytes(&self) -> &[u8]
-        ensures value { result.now ≡ self.now }
-        ensures length { (1 ≤ length result.now) × (length result.now ≤ 16) }
+        ensures { result.now ≡ self.now }
     {
         self.name.as_bytes()
     }
@@ -103,8 +101,7 @@ impl CommodityName {
 
     /// The bytes of the name.
     pub fn as_bytes(&self) -> &[u8]
-        ensures value { result.now ≡ self.now }
-        ensures length { (1 ≤ length result.now) × (length result.now ≤ 16) }
+        ensures { result.now ≡ self.now }
     {
         self.name.as_bytes()
     }
@@ -138,8 +135,7 @@ impl ClassName {
 
     /// The bytes of the name.
     pub fn as_bytes(&self) -> &[u8]
-        ensures value { result.now ≡ self.now }
-        ensures length { (1 ≤ length result.now) × (length result.now ≤ 16) }
+        ensures { result.now ≡ self.now }
     {
         self.name.as_bytes()
     }
@@ -173,8 +169,7 @@ impl OriginName {
 
     /// The bytes of the name.
     pub fn as_bytes(&self) -> &[u8]
-        ensures value { result.now ≡ self.now }
-        ensures length { (1 ≤ length result.now) × (length result.now ≤ 16) }
+        ensures { result.now ≡ self.now }
     {
         self.name.as_bytes()
     }
@@ -208,8 +203,7 @@ impl SetName {
 
     /// The bytes of the name.
     pub fn as_bytes(&self) -> &[u8]
-        ensures value { result.now ≡ self.now }
-        ensures length { (1 ≤ length result.now) × (length result.now ≤ 16) }
+        ensures { result.now ≡ self.now }
     {
         self.name.as_bytes()
     }

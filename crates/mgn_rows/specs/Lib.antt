@@ -1,3 +1,2 @@
--- Rows and pages, as they are kept and as they are read.
+-- Rows, as they are kept and as they are read.
 pub mod Rows
-pub mod Pages
