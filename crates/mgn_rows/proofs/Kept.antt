@@ -29,7 +29,7 @@ listed-is places kept list d long inside each =
 
 -- A row is kept from now on.
 
-kept-place : (places : List ℕ) (i j new : ℕ) → j ≢ i → get_or (set places i new) j 0 ≡ get_or places j 0
+pub kept-place : (places : List ℕ) (i j new : ℕ) → j ≢ i → get_or (set places i new) j 0 ≡ get_or places j 0
 kept-place places i j new apart = get_or-set_other places i j new 0 apart
 
 one-kept : (place : ℕ) → 0 < place → one_unkept place ≡ 0
@@ -132,7 +132,7 @@ written places kept capacity i w are within own =
 
 -- No row is kept.
 
-flat-place : (count i : ℕ) → get_or (replicate count zero) i 0 ≡ 0
+pub flat-place : (count i : ℕ) → get_or (replicate count zero) i 0 ≡ 0
 flat-place count i =
     ⊎_elim
     (λ (inside : i < count). get_or-replicate count i 0 0 inside)

@@ -1,2 +1,3 @@
--- Why rows of which some are kept are the list that contracts see.
+-- Why rows and pages of which some are kept are the list that contracts see.
 pub mod Kept
+pub mod Paged

@@ -1,2 +1,3 @@
--- Rows, as they are kept and as they are read.
+-- Rows and pages, as they are kept and as they are read.
 pub mod Rows
+pub mod Pages
