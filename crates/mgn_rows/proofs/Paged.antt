@@ -153,7 +153,7 @@ written-paged count places cells room i w are within own =
 
 -- No page is kept.
 
-pub flat-pages : {T : Type 0} (count pages room : ℕ) (value : T) → count ≤ 4096 → pages ≡ div_ceil count 16 → 16 * pages + 16 ≤ room → ArePages count (replicate pages zero) (replicate 16 value) room
+pub flat-pages : {T : Type 0} (count pages room : ℕ) (value : T) → count ≤ 65536 → pages ≡ div_ceil count 16 → 16 * pages + 16 ≤ room → ArePages count (replicate pages zero) (replicate 16 value) room
 flat-pages count pages room value few is enough = record {
   pages = length-replicate pages zero ∙ is;
   whole = omega (arith, length-replicate 16 value);

@@ -35,7 +35,7 @@ impl<T: Copy> SparseList<T> {
 
     /// So many values that are all one, of which no page is kept. An error says that memory was refused.
     pub fn new(alloc: Global, count: usize, value: T) -> Result<SparseList<T>, AllocError>
-        requires { count ≤ 4096 }
+        requires { count ≤ 65536 }
         ensures { IfOk result (λ list. list ≡ replicate count value) }
     {
         let pages = count.div_ceil(PAGE);
