@@ -101,7 +101,7 @@ totals_room t nets i sums s limits are h k =
     omega (arith, ints, small, more, share, are.totals c.commodity s (limits.contracts i no_contract h).commodity k)
 
 -- and so is the delta of its month a delta
-pub deltas_room : (t : Tables) (nets : List ℤ) (i : ℕ) (sums : Sums) → IsWithinLimits t → AreSumsTo t nets i sums → i < length t.contracts → let c = contract_at t.contracts i in IsDelta (value_at sums.deltas.items c.month +ℤ value_at nets i *ℤ c.delta)
+pub deltas_room : (t : Tables) (nets : List ℤ) (i : ℕ) (sums : Sums) → IsWithinLimits t → AreSumsTo t nets i sums → i < length t.contracts → let c = contract_at t.contracts i in IsDelta (value_at sums.deltas c.month +ℤ value_at nets i *ℤ c.delta)
 deltas_room t nets i sums limits are h =
     let c : Contract = contract_at t.contracts i in
     let one_each = are.of_nets.one_each in

@@ -44,7 +44,7 @@ pub record AreMarks (set : Tables) (nets : List ℤ) (marks : List Bool) : Type 
 -- all that is summed over the positions
 pub record AreSums (set : Tables) (nets : List ℤ) (sums : Sums) : Type 0 where
   pub totals : AreTotals set nets sums.totals
-  pub deltas : AreDeltas set nets sums.deltas.items
+  pub deltas : AreDeltas set nets sums.deltas
   pub minimums : AreMinimums set nets sums.minimums.items
   pub marks : AreMarks set nets sums.marks.items
   pub value : sums.option_value ≡ net_option_value (positions set.contracts nets)

@@ -14,11 +14,11 @@ use Rattle.mgn_plain.specs.Parts.{AreNets}
 pub record AreSumsTo (set : Tables) (nets : List ℤ) (count : ℕ) (sums : Sums) : Type 0 where
   pub of_nets : AreNets set nets
   pub one_row_each : length sums.totals ≡ length set.commodities
-  pub one_delta_each : length sums.deltas.items ≡ length set.months
+  pub one_delta_each : length sums.deltas ≡ length set.months
   pub one_minimum_each : length sums.minimums.items ≡ length set.commodities
   pub one_mark_each : length sums.marks.items ≡ length set.commodities
   pub totals : (g s : ℕ) → g < length set.commodities → s < 16 → total_of sums.totals g s ≡ scenario_total g (take count (positions set.contracts nets)) s
-  pub deltas : (m : ℕ) → m < length set.months → value_at sums.deltas.items m ≡ month_delta (take count (positions set.contracts nets)) m
+  pub deltas : (m : ℕ) → m < length set.months → value_at sums.deltas m ≡ month_delta (take count (positions set.contracts nets)) m
   pub minimums : (g : ℕ) → g < length set.commodities → slice_index sums.minimums.items g ≡ short_option_minimum (take count (positions set.contracts nets)) g (commodity_at set.commodities g).short_option_charge
   pub value : sums.option_value ≡ net_option_value (take count (positions set.contracts nets))
   pub flat : (g k : ℕ) → mark_at sums.marks.items g ≡ false → k < count → (contract_at set.contracts k).commodity ≡ g → value_at nets k ≡ pos 0

@@ -1,4 +1,4 @@
-ghost use Rattle.std.specs.Prelude.{◌≡◌, ◌≢◌, ℕ, ◌+◌, ◌*◌, ◌<◌, ◌≤◌, ◌^◌, ◌↔◌, ℤ, ◌+ℤ◌, ◌*ℤ◌, pos, unsigned_abs, List, length, IfOk, IsTrue};
+ghost use Rattle.std.specs.Prelude.{◌≡◌, ◌≢◌, ℕ, ◌+◌, ◌*◌, ◌<◌, ◌≤◌, ◌^◌, ℤ, ◌+ℤ◌, ◌*ℤ◌, pos, unsigned_abs, List, length, IfOk};
 ghost use Rattle.mgn_span.specs.Scan.{value_at};
 ghost use Rattle.mgn_span.specs.Sizes.{IsDelta};
 ghost use Rattle.mgn_span.specs.Words.{month_share};
@@ -10,7 +10,7 @@ ghost use Rattle.mgn_span.specs.MonthDeltas.{month_net, start_share};
 use mgn_num::{Quantity, TenThousandths};
 use mgn_params::rows::filled;
 use mgn_params::{Contract, Month, ParamSet};
-use mgn_rows::SparseRows;
+use mgn_rows::{SparseList, SparseRows};
 use mgn_span::{Delta, delta_at};
 use std::alloc::{AllocError, Global};
 
@@ -22,16 +22,24 @@ fn plus_scaled(total: Delta, net: Quantity, delta: &i64) -> Delta
     total.plus(TenThousandths::product(net, *delta))
 }
 
+// The delta of a month.
+fn month_delta_at(deltas: &SparseList<Delta>, m: usize) -> Delta
+    requires { m < length deltas.now }
+    ensures { result ≡ value_at deltas.now m }
+{
+    *deltas.at(m)
+}
+
 // Adds what a position in a contract counts for in its month.
-pub(crate) fn add_position(deltas: &mut [Delta], contract: &Contract, net: Quantity)
+pub(crate) fn add_position(deltas: &mut SparseList<Delta>, contract: &Contract, net: Quantity)
     requires month { contract.now.month < length deltas.old }
     requires room { IsDelta (value_at deltas.old contract.now.month +ℤ net *ℤ contract.now.delta) }
     ensures one_each { length deltas.new ≡ length deltas.old }
     ensures deltas { (m : ℕ) → m < length deltas.old →
         value_at deltas.new m ≡ value_at deltas.old m +ℤ month_share m (contract.now, net) }
 {
-    let month = contract.month;
-    deltas[month] = plus_scaled(delta_at(deltas, month), net, &contract.delta);
+    let delta = deltas.at_mut(contract.month);
+    *delta = plus_scaled(*delta, net, &contract.delta);
 }
 
 // Adds a month's delta to the leg of its tier that has the delta's direction.
@@ -87,54 +95,35 @@ fn nothing(alloc: Global, set: &ParamSet) -> Result<MonthSums, AllocError>
 }
 
 // Adds what the month at `m` counts for, after all those before it.
-fn add_month(sums: &mut MonthSums, set: &ParamSet, deltas: &[Delta], m: usize)
+fn add_month(sums: &mut MonthSums, set: &ParamSet, deltas: &SparseList<Delta>, m: usize)
     requires month { m < length set.now.months }
     requires deltas { (nets : List ℤ) × AreDeltas set.now nets deltas.now }
     requires sums { AreMonthSumsTo set.now deltas.now m sums.old }
     ensures { AreMonthSumsTo set.now deltas.now (m + 1) sums.new }
 {
     set.limits();
-    let delta = delta_at(deltas, m).ten_thousandths();
+    let delta = month_delta_at(deltas, m).ten_thousandths();
     let month = set.month_at(m);
     add_start(&mut sums.starts, month, delta);
     add_net(&mut sums.nets, month, delta);
 }
 
-// How many neighbouring deltas are compared at once.
-const GROUP: usize = 8;
-
-// Whether the eight deltas from a place on are 0.
-fn are_zero(deltas: &[Delta], from: usize) -> bool
-    requires { from + 8 ≤ length deltas.now }
-    ensures { IsTrue result ↔ ((k : ℕ) → k < 8 → value_at deltas.now (from + k) ≡ pos 0) }
-{
-    let mut zero = true;
-    // No delta ends the loop, so that several are compared at once.
-    for k in 0..GROUP {
-        zero &= deltas[from + k] == Delta::ZERO;
-    }
-    zero
-}
-
 // The first place from one on where the delta is not 0, or the number of deltas if there is none.
-fn next_moved(deltas: &[Delta], from: usize) -> usize
+fn next_moved(deltas: &SparseList<Delta>, from: usize) -> usize
     requires { from ≤ length deltas.now }
     ensures within { (from ≤ result) × (result ≤ length deltas.now) }
     ensures passed { (m : ℕ) → from ≤ m → m < result → value_at deltas.now m ≡ pos 0 }
     ensures moved { result < length deltas.now → value_at deltas.now result ≢ pos 0 }
 {
     let mut place = from;
-    'groups: while GROUP <= deltas.len() - place && are_zero(deltas, place) {
-        place += GROUP;
-    }
-    'places: while place < deltas.len() && delta_at(deltas, place) == Delta::ZERO {
-        place += 1;
+    while place < deltas.len() && month_delta_at(deltas, place) == Delta::ZERO {
+        place += deltas.run_from(place);
     }
     place
 }
 
 // Adds what all months count for. Those where the delta is 0, as it is in most, are passed over.
-fn add_months(sums: &mut MonthSums, set: &ParamSet, deltas: &[Delta])
+fn add_months(sums: &mut MonthSums, set: &ParamSet, deltas: &SparseList<Delta>)
     requires deltas { (nets : List ℤ) × AreDeltas set.now nets deltas.now }
     requires sums { AreMonthSumsTo set.now deltas.now 0 sums.old }
     ensures { AreMonthSumsTo set.now deltas.now (length set.now.months) sums.new }
@@ -150,7 +139,7 @@ fn add_months(sums: &mut MonthSums, set: &ParamSet, deltas: &[Delta])
 pub(crate) fn month_sums(
     alloc: Global,
     set: &ParamSet,
-    deltas: &[Delta],
+    deltas: &SparseList<Delta>,
 ) -> Result<MonthSums, AllocError>
     requires { (nets : List ℤ) × AreDeltas set.now nets deltas.now }
     ensures { IfOk result (λ sums. (nets : List ℤ) → AreDeltas set.now nets deltas.now → AreMonthSums set.now nets sums) }

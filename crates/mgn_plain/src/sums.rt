@@ -7,7 +7,7 @@ use mgn_nets::Nets;
 use mgn_num::Cents;
 use mgn_params::rows::filled;
 use mgn_params::{ParamSet, Work};
-use mgn_rows::SparseRows;
+use mgn_rows::{SparseList, SparseRows};
 use mgn_span::shares::share_of_value;
 use mgn_span::{Delta, Total};
 use std::alloc::{AllocError, Global};
@@ -17,8 +17,8 @@ use std::alloc::{AllocError, Global};
 pub(crate) struct Sums {
     // The totals of the 16 scenarios, a row for each commodity; kept are those of commodities with a position.
     pub totals: SparseRows<[Total; 16]>,
-    // The deltas of the months.
-    pub deltas: Vec<Delta>,
+    // The deltas of the months; kept are the pages of months with a position.
+    pub deltas: SparseList<Delta>,
     // The short option minimums of the commodities.
     pub minimums: Vec<u128>,
     // Whether a commodity has a net other than 0.
@@ -34,7 +34,7 @@ fn nothing(alloc: Global, set: &ParamSet) -> Result<Sums, AllocError>
     set.limits();
     Ok(Sums {
         totals: SparseRows::new(alloc, set.commodity_count(), [Total::ZERO; 16])?,
-        deltas: filled(alloc, set.month_count(), Delta::ZERO)?,
+        deltas: SparseList::new(alloc, set.month_count(), Delta::ZERO)?,
         minimums: filled(alloc, set.commodity_count(), 0)?,
         marks: filled(alloc, set.commodity_count(), false)?,
         option_value: Cents::ZERO,

@@ -12,7 +12,7 @@ add_start-requires-clause-room c = λ g leg h k.
 
 pub add_net-requires-clause-room : goal.add_net-requires-clause-room
 add_net-requires-clause-room c =
-    rw (c.deref_mut.ensures.value, c.ten_thousandths-delta.ensures.value, c.delta_at.ensures, c.month_at-month.ensures) (net_room c.args.set.now c.requires.deltas.0 c.args.deltas.now c.args.m c.args.sums.now c.limits.ensures c.requires.deltas.1 c.requires.sums c.requires.month)
+    rw (c.deref_mut.ensures.value, c.ten_thousandths-delta.ensures.value, c.month_delta_at.ensures, c.month_at-month.ensures) (net_room c.args.set.now c.requires.deltas.0 c.args.deltas.now c.args.m c.args.sums.now c.limits.ensures c.requires.deltas.1 c.requires.sums c.requires.month)
 
 pub returns : goal.returns
 returns c =
@@ -30,10 +30,10 @@ returns c =
           c.add_start.ensures.as_long g here ∙ are.sixteen g h;
       starts = λ g leg h k.
           let here : g < length sums.starts = omega (arith, h, are.one_row_each) in
-          let added = rw (c.ten_thousandths-delta.ensures.value, c.delta_at.ensures, c.month_at-month.ensures) at (c.add_start.ensures.starts g leg here k) in
+          let added = rw (c.ten_thousandths-delta.ensures.value, c.month_delta_at.ensures, c.month_at-month.ensures) at (c.add_start.ensures.starts g leg here k) in
           (omega (arith, added, are.starts g leg h k, sum_below_more (leg_share set.months deltas g leg) m));
       nets = λ g h.
           let here : g < length c.deref_mut.result.now = omega (arith, c.deref_mut.ensures.len, are.one_net_each) in
-          let added = rw (c.deref_mut.ensures.value, c.ten_thousandths-delta.ensures.value, c.delta_at.ensures, c.month_at-month.ensures) at (c.add_net.ensures.nets g here) in
+          let added = rw (c.deref_mut.ensures.value, c.ten_thousandths-delta.ensures.value, c.month_delta_at.ensures, c.month_at-month.ensures) at (c.add_net.ensures.nets g here) in
           rw row (omega (arith, ints, added, are.nets g h, signed_sum_below_more (net_share_by set.months deltas g) m));
     }

@@ -16,13 +16,13 @@ add_position-requires-clause-room c = λ s k.
 
 pub add_position-requires-2-clause-room : goal.add_position-requires-2-clause-room
 add_position-requires-2-clause-room c =
-    rw (c.deref_mut.ensures.value, c.at-net.ensures, c.contract_at-contract.ensures) (deltas_room c.args.set.now c.args.nets.now c.args.i c.args.sums.now c.limits.ensures c.requires.sums c.requires.contract)
+    rw (c.at-net.ensures, c.contract_at-contract.ensures) (deltas_room c.args.set.now c.args.nets.now c.args.i c.args.sums.now c.limits.ensures c.requires.sums c.requires.contract)
 
 pub add_minimum-requires-clause-room : goal.add_minimum-requires-clause-room
 add_minimum-requires-clause-room c = λ g h.
     let few = c.limits.ensures.few_contracts in
-    let low = minimums_small c.args.set.now c.args.nets.now c.args.i c.args.sums.now g c.limits.ensures c.requires.sums (omega arith) (omega (arith, c.requires.sums.one_minimum_each, c.deref_mut-2.ensures.len)) in
-    rw c.deref_mut-2.ensures.value (omega (arith, low, few))
+    let low = minimums_small c.args.set.now c.args.nets.now c.args.i c.args.sums.now g c.limits.ensures c.requires.sums (omega arith) (omega (arith, c.requires.sums.one_minimum_each, c.deref_mut.ensures.len)) in
+    rw c.deref_mut.ensures.value (omega (arith, low, few))
 
 pub plus-sums-requires : goal.plus-sums-requires
 plus-sums-requires c =
@@ -43,13 +43,12 @@ returns c =
     let one_each = are.of_nets.one_each in
     let inside : i < length set.contracts = c.requires.contract in
     let sums = c.args.sums.now in
-    let row = with_items_is sums.deltas c.add_position-2.new.deltas (c.add_position-2.ensures.one_each ∙ c.deref_mut.ensures.len) in
-    let charges = with_items_is sums.minimums c.add_minimum.new.minimums (c.add_minimum.ensures.one_each ∙ c.deref_mut-2.ensures.len) in
+    let charges = with_items_is sums.minimums c.add_minimum.new.minimums (c.add_minimum.ensures.one_each ∙ c.deref_mut.ensures.len) in
     record {
       of_nets = are.of_nets;
       one_row_each = c.add_position.ensures.one_each ∙ are.one_row_each;
-      one_delta_each = rw (row, c.add_position-2.ensures.one_each, c.deref_mut.ensures.value) are.one_delta_each;
-      one_minimum_each = rw (charges, c.add_minimum.ensures.one_each, c.deref_mut-2.ensures.value) are.one_minimum_each;
+      one_delta_each = c.add_position-2.ensures.one_each ∙ are.one_delta_each;
+      one_minimum_each = rw (charges, c.add_minimum.ensures.one_each, c.deref_mut.ensures.value) are.one_minimum_each;
       one_mark_each = length-set sums.marks.items c.contract_at-contract.result.now.commodity true ∙ are.one_mark_each;
       flat = flat_more set nets i c.contract_at-contract.result.now.commodity sums.marks.items (ap (λ (x : Contract). x.commodity) c.contract_at-contract.ensures) (omega (arith, are.one_mark_each, ap (λ (x : Contract). x.commodity) c.contract_at-contract.ensures, (c.limits.ensures.contracts i no_contract inside).commodity)) are.flat;
       totals = λ g s h k.
@@ -57,12 +56,12 @@ returns c =
           let added = rw c.at-net.ensures at (c.add_position.ensures.totals g s here k) in
           (omega (arith, ints, added, are.totals g s h k, position_sum_more (scenario_share g s) set.contracts nets i inside one_each));
       deltas = λ m h.
-          let here : m < length c.deref_mut.result.now = omega (arith, c.deref_mut.ensures.len, are.one_delta_each) in
-          let added = rw (c.deref_mut.ensures.value, c.at-net.ensures, c.contract_at-contract.ensures) at (c.add_position-2.ensures.deltas m here) in
-          rw row (omega (arith, ints, added, are.deltas m h, position_sum_more (month_share m) set.contracts nets i inside one_each));
+          let here : m < length sums.deltas = omega (arith, h, are.one_delta_each) in
+          let added = rw (c.at-net.ensures, c.contract_at-contract.ensures) at (c.add_position-2.ensures.deltas m here) in
+          (omega (arith, ints, added, are.deltas m h, position_sum_more (month_share m) set.contracts nets i inside one_each));
       minimums = λ g h.
-          let here : g < length c.deref_mut-2.result.now = omega (arith, c.deref_mut-2.ensures.len, are.one_minimum_each) in
-          let added = rw (c.deref_mut-2.ensures.value, c.at-net.ensures) at (c.add_minimum.ensures.minimums g here) in
+          let here : g < length c.deref_mut.result.now = omega (arith, c.deref_mut.ensures.len, are.one_minimum_each) in
+          let added = rw (c.deref_mut.ensures.value, c.at-net.ensures) at (c.add_minimum.ensures.minimums g here) in
           let share = short_share_of g (commodity_at set.commodities g).short_option_charge in
           rw charges (omega (arith, added, are.minimums g h, position_count_more share set.contracts nets i inside one_each));
       value =
