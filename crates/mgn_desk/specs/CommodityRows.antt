@@ -6,7 +6,7 @@ use Rattle.mgn_desk.specs.KeptRows.{KeptRows, kept_by}
 use Rattle.mgn_desk.specs.Risks.{AreSummed}
 
 abbrev pub kept_of : Inside → KeptRows
-kept_of r = kept_by r.rows r.deltas.items r.value
+kept_of r = kept_by r.rows r.deltas r.value
 
 -- the sum is that of the risks
 abbrev pub AreRowsSummed : Inside → Type 0

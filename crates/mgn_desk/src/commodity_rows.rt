@@ -16,9 +16,8 @@ use crate::commodity_row::CommodityRow;
 use mgn_nets::Nets;
 use mgn_num::{Cents, Quantity};
 use mgn_option::OptionValue;
-use mgn_params::rows::{fill, filled};
 use mgn_params::{ParamSet, Work};
-use mgn_rows::SparseRows;
+use mgn_rows::{SparseList, SparseRows};
 use mgn_scan::ScanRisks;
 use mgn_span::Delta;
 use std::alloc::{AllocError, Global};
@@ -27,12 +26,12 @@ use std::marker::Model;
 /// What is kept of the commodities of a set: a row for each, the deltas of the months, in ten-thousandths, the net option
 /// value, and the sum of the risks. The nets are the caller's.
 ///
-/// Contracts see one list for each part of the rows. Nothing but `new` takes memory, and a row is kept only once it is
-/// written to.
+/// Contracts see one list for each part of the rows. Nothing but `new` takes memory, and a row or a page of deltas is kept
+/// only once it is written to.
 #[derive(Drop)]
 pub(crate) struct CommodityRows {
     rows: SparseRows<CommodityRow>,
-    deltas: Vec<Delta>,
+    deltas: SparseList<Delta>,
     value: OptionValue,
     sum: Cents,
 }
@@ -57,7 +56,7 @@ impl CommodityRows {
         set.limits();
         Ok(CommodityRows {
             rows: SparseRows::new(alloc, set.commodity_count(), CommodityRow::NOTHING)?,
-            deltas: filled(alloc, set.month_count(), Delta::ZERO)?,
+            deltas: SparseList::new(alloc, set.month_count(), Delta::ZERO)?,
             value: OptionValue::ZERO,
             sum: Cents::ZERO,
         })
@@ -75,7 +74,7 @@ impl CommodityRows {
         ensures { (set : Tables) → AreKeptRows set self.old → self.new ≡ nothing_kept set }
     {
         self.rows.flatten(CommodityRow::NOTHING);
-        fill(&mut self.deltas, Delta::ZERO);
+        self.deltas.flatten(Delta::ZERO);
         self.value = OptionValue::ZERO;
         self.sum = Cents::ZERO;
     }
@@ -86,7 +85,7 @@ impl CommodityRows {
         ensures { self.new ≡ others.now }
     {
         self.rows.copy_from(&others.rows);
-        self.deltas.copy_from_slice(&others.deltas);
+        self.deltas.copy_from(&others.deltas);
         self.value = others.value;
         self.sum = others.sum;
     }
@@ -123,7 +122,7 @@ impl CommodityRows {
         let contract = set.contract_at(i);
         let net = nets.at(i);
         let row = self.rows.row_mut(contract.commodity);
-        let month_delta = &mut self.deltas[contract.month];
+        let month_delta = self.deltas.at_mut(contract.month);
         row.add(set, i, net, quantity, month_delta, work);
         self.value.follow(set, i, quantity);
     }

@@ -14,5 +14,5 @@ pub returns : goal.returns
 returns c =
     λ set' fits.
     let rows : length c.self.inside.rows ≡ length set'.commodities = sym (length-map c.self.inside.rows (λ (r : CommodityRow). r.risk)) ∙ ap (λ (k : KeptRows). length k.risks) c.self.view_is ∙ fits.risks in
-    let deltas : length c.self.inside.deltas.items ≡ length set'.months = ap (λ (k : KeptRows). length k.tiers.deltas) c.self.view_is ∙ fits.tiers.deltas in
-    flat_rows set' _ _ (c.flatten.ensures ∙ ap (λ (n : ℕ). replicate n no_row) rows) (c.fill.ensures ∙ ap (λ (n : ℕ). replicate n (pos 0)) deltas)
+    let deltas : length c.self.inside.deltas ≡ length set'.months = ap (λ (k : KeptRows). length k.tiers.deltas) c.self.view_is ∙ fits.tiers.deltas in
+    flat_rows set' _ _ (c.flatten.ensures ∙ ap (λ (n : ℕ). replicate n no_row) rows) (c.flatten-2.ensures ∙ ap (λ (n : ℕ). replicate n (pos 0)) deltas)

@@ -8,4 +8,4 @@ invariant_of-result-4 c =
 
 pub returns : goal.returns
 returns c =
-    flat_rows c.args.set.now _ _ (c.in_ok-new.ensures ∙ ap (λ (n : ℕ). replicate n no_row) c.commodity_count.ensures.value) (c.in_ok-filled.ensures ∙ ap (λ (n : ℕ). replicate n (pos 0)) c.month_count.ensures.value)
+    flat_rows c.args.set.now _ _ (c.in_ok-new.ensures ∙ ap (λ (n : ℕ). replicate n no_row) c.commodity_count.ensures.value) (c.in_ok-new-2.ensures ∙ ap (λ (n : ℕ). replicate n (pos 0)) c.month_count.ensures.value)

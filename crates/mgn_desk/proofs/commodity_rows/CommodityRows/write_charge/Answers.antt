@@ -11,5 +11,5 @@ invariant_of-self c =
 
 pub returns : goal.returns
 returns c =
-    charge_written c.self.inside.rows c.self.inside.deltas.items c.self.inside.value c.args.g c.row_mut.result.now c.args.charge c.row_mut.ensures.value
+    charge_written c.self.inside.rows c.self.inside.deltas c.self.inside.value c.args.g c.row_mut.result.now c.args.charge c.row_mut.ensures.value
     ∙ ap (λ (k : KeptRows). with_kept_charges k (set k.charges c.args.g c.args.charge)) c.self.view_is

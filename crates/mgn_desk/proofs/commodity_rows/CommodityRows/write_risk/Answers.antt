@@ -46,7 +46,7 @@ invariant_of-self c =
 
 pub returns-then-ne : goal.returns-then-ne
 returns-then-ne c =
-    risk_written c.self.inside.rows c.self.inside.deltas.items c.self.inside.value c.args.g c.row_mut.result.now c.args.risk c.row_mut.ensures.value
+    risk_written c.self.inside.rows c.self.inside.deltas c.self.inside.value c.args.g c.row_mut.result.now c.args.risk c.row_mut.ensures.value
     ∙ ap (λ (k : KeptRows). with_kept_risks k (set k.risks c.args.g c.args.risk)) c.self.view_is
 
 pub returns-else-ne : goal.returns-else-ne
