@@ -1,7 +1,8 @@
 ghost use Rattle.std.specs.Prelude.{◌≡◌, ◌<◌, ◌≤◌, ◌+◌, ℕ, length, replicate, slice_index_or, slice_set, IfOk};
 ghost use Rattle.std.specs.Borrow.{Lends, sem};
+ghost use Rattle.std.specs.Int.{div_ceil};
 
-use crate::pages::{PAGE, keep, push_page};
+use crate::pages::{PAGE, first_page, keep, push_page};
 use std::alloc::{AllocError, Global};
 use std::marker::Model;
 
@@ -38,10 +39,22 @@ impl<T: Copy> SparseList<T> {
         requires { count ≤ 65536 }
         ensures { IfOk result (λ list. list ≡ replicate count value) }
     {
-        let pages = count.div_ceil(PAGE);
+        SparseList::of_pages(alloc, count, count.div_ceil(PAGE), value)
+    }
+
+    // The same in so many pages.
+    fn of_pages(
+        alloc: Global,
+        count: usize,
+        pages: usize,
+        value: T,
+    ) -> Result<SparseList<T>, AllocError>
+        requires few { count ≤ 65536 }
+        requires pages { pages ≡ div_ceil count 16 }
+        ensures { IfOk result (λ list. list ≡ replicate count value) }
+    {
         let places = vec![in alloc; 0; pages]?;
-        let mut cells = Vec::with_capacity(alloc, PAGE * pages + PAGE)?;
-        push_page(&mut cells, value);
+        let cells = first_page(alloc, value, PAGE * pages + PAGE)?;
         Ok(SparseList {
             count,
             places,

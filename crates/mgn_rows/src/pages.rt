@@ -1,8 +1,10 @@
 //! Values in pages of 16 neighbours.
 
-ghost use Rattle.std.specs.Prelude.{◌≡◌, ◌<◌, ◌≤◌, ◌+◌, ◌++◌, ℕ, length, replicate, slice_index};
+ghost use Rattle.std.specs.Prelude.{◌≡◌, ◌<◌, ◌≤◌, ◌+◌, ◌++◌, ℕ, length, replicate, slice_index, IfOk};
 ghost use Rattle.std.specs.Vec.{vec_capacity};
 ghost use Rattle.mgn_rows.specs.Pages.{ArePages, paged};
+
+use std::alloc::{AllocError, Global};
 
 /// How many neighbouring values a page has.
 pub(crate) const PAGE: usize = 16;
@@ -16,6 +18,21 @@ pub(crate) fn push_page<T: Copy>(cells: &mut Vec<T>, value: T)
     for _ in 0..PAGE {
         cells.push_reserved(value);
     }
+}
+
+// A page of one value, with room for so many values.
+pub(crate) fn first_page<T: Copy>(
+    alloc: Global,
+    value: T,
+    room: usize,
+) -> Result<Vec<T>, AllocError>
+    requires { 16 ≤ room }
+    ensures page { IfOk result (λ cells. cells.items ≡ replicate 16 value) }
+    ensures room { IfOk result (λ cells. room ≤ vec_capacity cells) }
+{
+    let mut cells = Vec::with_capacity(alloc, room)?;
+    push_page(&mut cells, value);
+    Ok(cells)
 }
 
 // Keeps a page from now on, as it is, unless it is kept already.
