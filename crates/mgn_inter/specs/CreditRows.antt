@@ -9,5 +9,5 @@ credited_of c = record {
   risks = risks_in c.numbers;
   rests = rests_in c.numbers;
   credits = credits_in c.numbers;
-  kept = c.kept.items;
+  kept = c.kept;
 }

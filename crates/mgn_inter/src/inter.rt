@@ -23,7 +23,6 @@ use crate::rows::{
 use crate::spread_state::SpreadState;
 use mgn_num::{Cents, TenThousandths};
 use mgn_params::ParamSet;
-use mgn_params::rows::{fill, filled};
 use mgn_rows::SparseRows;
 use mgn_span::Delta;
 use std::alloc::{AllocError, Global};
@@ -40,7 +39,8 @@ use std::marker::Model;
 pub struct InterCredits {
     // Kept are the rows of commodities that were refreshed: no other has a net delta or a credit.
     numbers: SparseRows<CommodityNumbers>,
-    kept: Vec<SpreadState>,
+    // Kept are the states of spreads that name a commodity which was refreshed.
+    kept: SparseRows<SpreadState>,
 }
 
 impl Model for InterCredits {
@@ -64,7 +64,7 @@ impl InterCredits {
         let count = set.commodity_count();
         Ok(InterCredits {
             numbers: SparseRows::new(alloc, count, CommodityNumbers::NOTHING)?,
-            kept: filled(alloc, set.credits().len(), SpreadState::NOTHING)?,
+            kept: SparseRows::new(alloc, set.credits().len(), SpreadState::NOTHING)?,
         })
     }
 
@@ -84,7 +84,7 @@ impl InterCredits {
     {
         set.limits();
         self.numbers.flatten(CommodityNumbers::NOTHING);
-        fill(&mut self.kept, SpreadState::NOTHING);
+        self.kept.flatten(SpreadState::NOTHING);
     }
 
     // Writes the numbers of a commodity, and its net delta as its rest.
@@ -113,7 +113,7 @@ impl InterCredits {
         set.limits();
         let spread = spread_at(set.credits(), i);
         let legs = &spread.legs[..spread.count];
-        let kept = &mut self.kept[i];
+        let kept = self.kept.row_mut(i);
         bring_rests(moved, &self.numbers, legs, &mut kept.rests);
         let mut after = kept.rests;
         let credits = form_spread(&self.numbers, &mut after, spread);
@@ -194,7 +194,7 @@ impl InterCredits {
         let mut i = first_place(naming).min(spreads);
         while i < spreads {
             let spread = spread_at(set.credits(), i);
-            if kept_forms(&self.kept[i].rests, &spread.legs[..spread.count]) {
+            if kept_forms(&self.kept.row(i).rests, &spread.legs[..spread.count]) {
                 return false;
             }
             i = next_place(naming, i).min(spreads);
@@ -221,7 +221,7 @@ impl InterCredits {
     {
         set.limits();
         let spread = spread_at(set.credits(), i);
-        move_rest(&mut self.kept[i], &spread.legs[..spread.count], g, rest);
+        move_rest(self.kept.row_mut(i), &spread.legs[..spread.count], g, rest);
     }
 
     // The same of all spreads that name the commodity, of which none forms of the old rest, nor of this.
@@ -291,7 +291,7 @@ impl InterCredits {
         ensures { self.new ≡ others.now }
     {
         self.numbers.copy_from(&others.numbers);
-        self.kept.copy_from_slice(&others.kept);
+        self.kept.copy_from(&others.kept);
     }
 
     /// What the intercommodity spreads credit to the commodity at a place, in cents.

@@ -1,6 +1,6 @@
 use Rattle.std.proofs.Common.{◌≡◌, ◌≢◌, ◌∙◌, ◌<◌, ◌≤◌, List, ⊎_elim, ap, arith, false, length, sym}
 use Rattle.std.proofs.lemmas.Bool.{cases_eq, cases_lt}
-use Rattle.std.proofs.lemmas.List.{get_or_read}
+use Rattle.std.proofs.lemmas.List.{get_or_default}
 use Rattle.mgn_params.specs.declared.tables.CreditSpread.{CreditSpread}
 use Rattle.mgn_params.specs.Tables.{credit_spread_at, legs_of}
 use Rattle.mgn_span.specs.Credits.{forms}
@@ -16,12 +16,12 @@ loop-i-preserved c =
     let next = c.min-i-in-loop-i.result in
     let legs = legs_of (credit_spread_at set'.credits i) in
     let rests = rests_at self.deltas self.risks set'.credits i in
-    let kept : List SpreadState = c.self.inside.kept.items in
+    let kept : List SpreadState = c.self.inside.kept in
     let count : length c.credits-spreads.result.now ≡ length set'.credits = ap (λ (ss : List CreditSpread). length ss) c.credits-spreads.ensures in
     let inside : i < length set'.credits = omega (arith, c.loop-i-test.true, count) in
     let long : length kept ≡ length self.kept = ap (λ (r : Credited). length r.kept) c.self.view_is in
     let low : i < length kept = omega (arith, long, c.requires.one_kept_each, inside) in
-    let read : c.index.result.now ≡ kept_at self.kept i = get_or_read kept i c.index.result.now low c.index.ensures nothing_kept ∙ ap (λ (r : Credited). kept_at r.kept i) c.self.view_is in
+    let read : c.row.result.now ≡ kept_at self.kept i = c.row.ensures ∙ get_or_default kept i c.row.result.now nothing_kept low ∙ ap (λ (r : Credited). kept_at r.kept i) c.self.view_is in
     let spread_is : c.spread_at-spread.result.now ≡ credit_spread_at set'.credits i = c.spread_at-spread.ensures ∙ ap (λ (ss : List CreditSpread). credit_spread_at ss i) c.credits.ensures in
     let own = c.requires.kept i inside in
     let are : AreRestsOf legs rests (kept_at self.kept i).rests = record { long = own.rests_long; are = own.rests_are } in

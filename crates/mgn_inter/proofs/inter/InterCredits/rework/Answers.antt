@@ -21,10 +21,10 @@ spread_is : (c : After-bring_rests) → c.spread_at-spread.result.now ≡ credit
 spread_is c =
     c.spread_at-spread.ensures ∙ ap (λ (ss : List CreditSpread). credit_spread_at ss c.args.i) c.credits.ensures
 
-kept_is : (c : After-bring_rests) → c.index_mut-kept.result.now ≡ kept_at c.self.inside.kept.items c.args.i
+kept_is : (c : After-bring_rests) → c.row_mut-kept.result.now ≡ kept_at c.self.inside.kept c.args.i
 kept_is c =
-    c.index_mut-kept.ensures.value
-    ∙ get_or_default c.self.inside.kept.items c.args.i c.index_mut-kept.result.now nothing_kept (omega (arith, c.requires.inside, (were c).one_kept_each))
+    c.row_mut-kept.ensures.value
+    ∙ get_or_default c.self.inside.kept c.args.i c.row_mut-kept.result.now nothing_kept (omega (arith, c.requires.inside, (were c).one_kept_each))
 
 -- the rests at the turn, of which the spread is formed
 abbrev turn : After-bring_rests → List ℤ
@@ -95,5 +95,5 @@ returns-clause-others c =
     let at = (goal.at.returns-clause-others c).After-bring_rests in
     let moved = rw (c.write_rests.ensures.credits, spread_is at, kept_is at) at c.change_credits.ensures.moved in
     let legs = legs_of (credit_spread_at c.args.set.now.credits c.args.i) in
-    let same = turn_others legs (kept_at c.self.inside.kept.items c.args.i).credits c.form_spread-credits.result (credits_in c.change_credits.new.numbers) (credits_in c.self.inside.numbers) k (moved k) out in
+    let same = turn_others legs (kept_at c.self.inside.kept c.args.i).credits c.form_spread-credits.result (credits_in c.change_credits.new.numbers) (credits_in c.self.inside.numbers) k (moved k) out in
     subst (λ (r : Credited). slice_index (credits_in c.change_credits.new.numbers) k ≡ slice_index r.credits k) c.self.view_is same
