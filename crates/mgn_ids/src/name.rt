@@ -115,7 +115,8 @@ impl Name {
 
     /// The bytes of the name.
     pub fn as_bytes(&self) -> &[u8]
-        ensures { result.now ≡ self.now }
+        ensures value { result.now ≡ self.now }
+        ensures length { (1 ≤ length result.now) × (length result.now ≤ 16) }
     {
         &self.bytes[..self.len as usize]
     }

@@ -1,4 +1,4 @@
-ghost use Rattle.std.specs.Prelude.{◌≡◌};
+ghost use Rattle.std.specs.Prelude.{◌≡◌, ◌≤◌, length};
 ghost use Rattle.mgn_ids.specs.Name.{name_in};
 
 use crate::fault::IdFault;
@@ -33,7 +33,8 @@ impl AccountName {
 
     /// The bytes of the name.
     pub fn as_bytes(&self) -> &[u8]
-        ensures { result.now ≡ self.now }
+        ensures value { result.now ≡ self.now }
+        ensures length { (1 ≤ length result.now) × (length result.now ≤ 16) }
     {
         self.name.as_bytes()
     }
@@ -67,7 +68,8 @@ impl ContractName {
 
     /// The bytes of the name.
     pub fn as_bytes(&self) -> &[u8]
-        ensures { result.now ≡ self.now }
+        ensures value { result.now ≡ self.now }
+        ensures length { (1 ≤ length result.now) × (length result.now ≤ 16) }
     {
         self.name.as_bytes()
     }
@@ -101,7 +103,8 @@ impl CommodityName {
 
     /// The bytes of the name.
     pub fn as_bytes(&self) -> &[u8]
-        ensures { result.now ≡ self.now }
+        ensures value { result.now ≡ self.now }
+        ensures length { (1 ≤ length result.now) × (length result.now ≤ 16) }
     {
         self.name.as_bytes()
     }
@@ -135,7 +138,8 @@ impl ClassName {
 
     /// The bytes of the name.
     pub fn as_bytes(&self) -> &[u8]
-        ensures { result.now ≡ self.now }
+        ensures value { result.now ≡ self.now }
+        ensures length { (1 ≤ length result.now) × (length result.now ≤ 16) }
     {
         self.name.as_bytes()
     }
@@ -169,7 +173,8 @@ impl OriginName {
 
     /// The bytes of the name.
     pub fn as_bytes(&self) -> &[u8]
-        ensures { result.now ≡ self.now }
+        ensures value { result.now ≡ self.now }
+        ensures length { (1 ≤ length result.now) × (length result.now ≤ 16) }
     {
         self.name.as_bytes()
     }
@@ -203,7 +208,8 @@ impl SetName {
 
     /// The bytes of the name.
     pub fn as_bytes(&self) -> &[u8]
-        ensures { result.now ≡ self.now }
+        ensures value { result.now ≡ self.now }
+        ensures length { (1 ≤ length result.now) × (length result.now ≤ 16) }
     {
         self.name.as_bytes()
     }
