@@ -1,13 +1,12 @@
-ghost use Rattle.std.specs.Prelude.{◌≡◌, ◌≤◌, ◌+◌, ◌++◌, [], ◌∷◌, OnOk, OnErr, IsOk, codes, drop, length, take, vec_capacity};
-ghost use Rattle.mgn_wire.specs.Fields.{field, figures_text, number_text};
+ghost use Rattle.std.specs.Prelude.{◌≡◌, ◌≤◌, ◌+◌, ◌++◌, [], OnOk, OnErr, IsOk, codes, drop, length, take, vec_capacity};
+ghost use Rattle.mgn_wire.specs.Fields.{figures_text, number_text};
 ghost use Rattle.mgn_wire.specs.Room.{FitsIn};
 ghost use Rattle.mgn_wire.specs.Text.{fault_text, line_reply_of, lines_after, place_text, refusal_text, reply_of, set_text, text_of, totals_text};
 
 use crate::fault::{LineFault, Memory};
-use crate::row::{LONG_ROW, ROW, write_byte, write_figures, write_number, write_text};
+use crate::row::{LONG_ROW, ROW, write_byte, write_field, write_figures, write_number, write_text};
 use crate::statement::{line_count, print_statement};
 use mgn_machine::{Answer, NewSet, Refusal, Reply, Totals, UnitFigures};
-use mgn_num::Cents;
 use std::alloc::AllocError;
 
 /// No line of a reply is longer, with its line feed: five numbers of at most 38 bytes and a place of at most 20, with what
@@ -65,39 +64,6 @@ fn fault_text(fault: LineFault) -> &'static str
     }
 }
 
-// Here and below: at any outcome what was there stays in front, so what a failed reply left can be cut off.
-pub(crate) fn print(text: &str, out: &mut Vec<u8>) -> Result<(), AllocError>
-    ensures ok { OnOk result (out.new.items ≡ out.old.items ++ text.now) }
-    ensures kept { take (length out.old.items) out.new.items ≡ out.old.items }
-    ensures room { FitsIn (length text.now) out.old out.new result }
-{
-    out.extend_from_slice(text.as_bytes())
-}
-
-// A single byte costs less this way than as a text.
-#[inline]
-pub(crate) fn print_byte(byte: u8, out: &mut Vec<u8>) -> Result<(), AllocError>
-    ensures ok { OnOk result (out.new.items ≡ out.old.items ++ byte ∷ []) }
-    ensures kept { take (length out.old.items) out.new.items ≡ out.old.items }
-    ensures room { FitsIn 1 out.old out.new result }
-{
-    match out.push(byte) {
-        Ok(()) => Ok(()),
-        Err(_) => Err(AllocError),
-    }
-}
-
-#[tactic(auto, using(crate::proofs::RoomFacts::decimal_short))]
-pub(crate) fn print_number(number: u64, out: &mut Vec<u8>) -> Result<(), AllocError>
-    ensures ok { OnOk result (out.new.items ≡ out.old.items ++ number_text number) }
-    ensures kept { take (length out.old.items) out.new.items ≡ out.old.items }
-    ensures room { FitsIn 21 out.old out.new result }
-{
-    let mut row = [0; ROW];
-    let start = write_number(number, &mut row, ROW);
-    out.extend_from_slice(&row[start..])
-}
-
 // The place of an answer after a space, where it has one: at most 21 bytes.
 #[inline]
 fn write_place(place: Option<u64>, row: &mut [u8], end: usize) -> usize
@@ -112,65 +78,110 @@ fn write_place(place: Option<u64>, row: &mut [u8], end: usize) -> usize
     }
 }
 
-fn print_field(cents: Cents, out: &mut Vec<u8>) -> Result<(), AllocError>
-    ensures ok { OnOk result (out.new.items ≡ out.old.items ++ field cents) }
-    ensures kept { take (length out.old.items) out.new.items ≡ out.old.items }
-    ensures room { FitsIn 39 out.old out.new result }
+// That a command was done, and the place of its answer: at most 23 bytes.
+#[inline]
+fn write_done(place: Option<u64>, row: &mut [u8], end: usize) -> usize
+    requires { (23 ≤ end) × (end ≤ length row.old) }
+    ensures within { result ≤ end }
+    ensures short { end ≤ result + 23 }
+    ensures written { drop result row.new ≡ codes "OK" ++ place_text place ++ drop end row.old }
 {
-    print_byte(b' ', out)?;
-    cents.print(out)
+    let start = write_place(place, row, end);
+    write_text(b"OK", row, start)
 }
 
-fn print_figures(figures: &UnitFigures, out: &mut Vec<u8>) -> Result<(), AllocError>
-    ensures ok { OnOk result (out.new.items ≡ out.old.items ++ figures_text figures.now) }
-    ensures kept { take (length out.old.items) out.new.items ≡ out.old.items }
-    ensures room { FitsIn 195 out.old out.new result }
+// Three amounts and a number, each after a space: at most 138 bytes.
+fn write_totals(totals: &Totals, row: &mut [u8], end: usize) -> usize
+    requires { (138 ≤ end) × (end ≤ length row.old) }
+    ensures start { result + length (totals_text totals.now) ≡ end }
+    ensures short { end ≤ result + 138 }
+    ensures written { drop result row.new ≡ totals_text totals.now ++ drop end row.old }
 {
-    let mut row = [0; LONG_ROW];
-    let start = write_figures(figures, &mut row, LONG_ROW);
+    let start = write_number(u64::from(totals.accounts), row, end);
+    let start = write_field(totals.call, row, start);
+    let start = write_field(totals.value, row, start);
+    write_field(totals.requirement, row, start)
+}
+
+// Here and below: at any outcome what was there stays in front, so what a failed reply left can be cut off.
+fn print_done(place: Option<u64>, out: &mut Vec<u8>) -> Result<(), AllocError>
+    ensures ok { OnOk result (out.new.items ≡ out.old.items ++ codes "OK" ++ place_text place ++ codes "\n") }
+    ensures kept { take (length out.old.items) out.new.items ≡ out.old.items }
+    ensures room { FitsIn 24 out.old out.new result }
+{
+    let mut row = [0; ROW];
+    let start = write_byte(b'\n', &mut row, ROW);
+    let start = write_done(place, &mut row, start);
     out.extend_from_slice(&row[start..])
 }
 
-fn print_totals(totals: &Totals, out: &mut Vec<u8>) -> Result<(), AllocError>
-    ensures ok { OnOk result (out.new.items ≡ out.old.items ++ totals_text totals.now) }
+fn print_figures(
+    figures: &UnitFigures,
+    place: Option<u64>,
+    out: &mut Vec<u8>,
+) -> Result<(), AllocError>
+    ensures ok { OnOk result (out.new.items ≡ out.old.items
+        ++ codes "OK" ++ place_text place ++ figures_text figures.now ++ codes "\n") }
     ensures kept { take (length out.old.items) out.new.items ≡ out.old.items }
-    ensures room { FitsIn 138 out.old out.new result }
+    ensures room { FitsIn 219 out.old out.new result }
 {
-    print_field(totals.requirement, out)?;
-    print_field(totals.value, out)?;
-    print_field(totals.call, out)?;
-    print_number(u64::from(totals.accounts), out)
+    let mut row = [0; LONG_ROW];
+    let start = write_byte(b'\n', &mut row, LONG_ROW);
+    let start = write_figures(figures, &mut row, start);
+    let start = write_done(place, &mut row, start);
+    out.extend_from_slice(&row[start..])
 }
 
-fn print_set(told: NewSet, out: &mut Vec<u8>) -> Result<(), AllocError>
-    ensures ok { OnOk result (out.new.items ≡ out.old.items ++ set_text told) }
+fn print_totals(totals: &Totals, place: Option<u64>, out: &mut Vec<u8>) -> Result<(), AllocError>
+    ensures ok { OnOk result (out.new.items ≡ out.old.items
+        ++ codes "OK" ++ place_text place ++ totals_text totals.now ++ codes "\n") }
     ensures kept { take (length out.old.items) out.new.items ≡ out.old.items }
-    ensures room { FitsIn 42 out.old out.new result }
+    ensures room { FitsIn 162 out.old out.new result }
 {
-    print_number(u64::from(told.version), out)?;
-    print_number(u64::from(told.on_call), out)
+    let mut row = [0; LONG_ROW];
+    let start = write_byte(b'\n', &mut row, LONG_ROW);
+    let start = write_totals(totals, &mut row, start);
+    let start = write_done(place, &mut row, start);
+    out.extend_from_slice(&row[start..])
 }
 
-// That a command was done, and the place of its answer.
-fn print_done(place: Option<u64>, out: &mut Vec<u8>) -> Result<(), AllocError>
-    ensures ok { OnOk result (out.new.items ≡ out.old.items ++ (codes "OK" ++ place_text place)) }
+fn print_set(told: NewSet, place: Option<u64>, out: &mut Vec<u8>) -> Result<(), AllocError>
+    ensures ok { OnOk result (out.new.items ≡ out.old.items
+        ++ codes "OK" ++ place_text place ++ set_text told ++ codes "\n") }
     ensures kept { take (length out.old.items) out.new.items ≡ out.old.items }
-    ensures room { FitsIn 23 out.old out.new result }
+    ensures room { FitsIn 66 out.old out.new result }
 {
     let mut row = [0; ROW];
-    let start = write_place(place, &mut row, ROW);
-    let start = write_text(b"OK", &mut row, start);
+    let start = write_byte(b'\n', &mut row, ROW);
+    let start = write_number(u64::from(told.on_call), &mut row, start);
+    let start = write_number(u64::from(told.version), &mut row, start);
+    let start = write_done(place, &mut row, start);
+    out.extend_from_slice(&row[start..])
+}
+
+// How many lines of a statement follow.
+fn print_count(count: u64, place: Option<u64>, out: &mut Vec<u8>) -> Result<(), AllocError>
+    ensures ok { OnOk result (out.new.items ≡ out.old.items
+        ++ codes "OK" ++ place_text place ++ number_text count ++ codes "\n") }
+    ensures kept { take (length out.old.items) out.new.items ≡ out.old.items }
+    ensures room { FitsIn 45 out.old out.new result }
+{
+    let mut row = [0; ROW];
+    let start = write_byte(b'\n', &mut row, ROW);
+    let start = write_number(count, &mut row, start);
+    let start = write_done(place, &mut row, start);
     out.extend_from_slice(&row[start..])
 }
 
 fn print_refused(refusal: Refusal, place: Option<u64>, out: &mut Vec<u8>) -> Result<(), AllocError>
     ensures ok { OnOk result (out.new.items ≡ out.old.items
-        ++ (codes "ERR" ++ place_text place ++ codes " " ++ refusal_text refusal)) }
+        ++ codes "ERR" ++ place_text place ++ codes " " ++ refusal_text refusal ++ codes "\n") }
     ensures kept { take (length out.old.items) out.new.items ≡ out.old.items }
-    ensures room { FitsIn 38 out.old out.new result }
+    ensures room { FitsIn 39 out.old out.new result }
 {
     let mut row = [0; ROW];
-    let start = write_text(refusal_text(refusal).as_bytes(), &mut row, ROW);
+    let start = write_byte(b'\n', &mut row, ROW);
+    let start = write_text(refusal_text(refusal).as_bytes(), &mut row, start);
     let start = write_byte(b' ', &mut row, start);
     let start = write_place(place, &mut row, start);
     let start = write_text(b"ERR", &mut row, start);
@@ -178,48 +189,48 @@ fn print_refused(refusal: Refusal, place: Option<u64>, out: &mut Vec<u8>) -> Res
 }
 
 fn print_answer(answer: &Answer, out: &mut Vec<u8>) -> Result<(), AllocError>
-    ensures ok { OnOk result (out.new.items ≡ out.old.items ++ reply_of answer.now.place answer.now.reply) }
+    ensures ok { OnOk result (out.new.items ≡ out.old.items ++ reply_of answer.now.place answer.now.reply ++ codes "\n") }
     ensures kept { take (length out.old.items) out.new.items ≡ out.old.items }
-    ensures room { FitsIn 218 out.old out.new result }
+    ensures room { FitsIn 219 out.old out.new result }
 {
     match &answer.reply {
         Reply::Done => print_done(answer.place, out),
-        Reply::Figures(figures) => {
-            print_done(answer.place, out)?;
-            print_figures(figures, out)
-        }
-        Reply::Totals(totals) => {
-            print_done(answer.place, out)?;
-            print_totals(totals, out)
-        }
-        Reply::NewSet(told) => {
-            print_done(answer.place, out)?;
-            print_set(*told, out)
-        }
+        Reply::Figures(figures) => print_figures(figures, answer.place, out),
+        Reply::Totals(totals) => print_totals(totals, answer.place, out),
+        Reply::NewSet(told) => print_set(*told, answer.place, out),
         Reply::Statement(shared) => {
-            print_done(answer.place, out)?;
-            print_number(line_count(shared.statement()), out)
+            print_count(line_count(shared.statement()), answer.place, out)
         }
         Reply::Refused(refusal) => print_refused(*refusal, answer.place, out),
     }
 }
 
-fn print_reply(reply: &LineReply, out: &mut Vec<u8>) -> Result<(), AllocError>
-    ensures ok { OnOk result (out.new.items ≡ out.old.items ++ line_reply_of reply.now) }
+// Why a line asks for nothing, and the number of the record that is wrong, where one is.
+fn print_error(text: &str, number: Option<u64>, out: &mut Vec<u8>) -> Result<(), AllocError>
+    requires { length text.now ≤ 9 }
+    ensures ok { OnOk result (out.new.items ≡ out.old.items
+        ++ codes "ERR " ++ text.now ++ place_text number ++ codes "\n") }
     ensures kept { take (length out.old.items) out.new.items ≡ out.old.items }
-    ensures room { FitsIn 218 out.old out.new result }
+    ensures room { FitsIn 35 out.old out.new result }
+{
+    let mut row = [0; ROW];
+    let start = write_byte(b'\n', &mut row, ROW);
+    let start = write_place(number, &mut row, start);
+    let start = write_text(text.as_bytes(), &mut row, start);
+    let start = write_text(b"ERR ", &mut row, start);
+    out.extend_from_slice(&row[start..])
+}
+
+fn print_reply(reply: &LineReply, out: &mut Vec<u8>) -> Result<(), AllocError>
+    ensures ok { OnOk result (out.new.items ≡ out.old.items ++ line_reply_of reply.now ++ codes "\n") }
+    ensures kept { take (length out.old.items) out.new.items ≡ out.old.items }
+    ensures room { FitsIn 219 out.old out.new result }
 {
     match reply {
         LineReply::Answered(answer) => print_answer(answer, out),
-        LineReply::NotRead(fault) => {
-            print("ERR ", out)?;
-            print(fault_text(*fault), out)
-        }
-        LineReply::NoSet => print("ERR 40 NOSET", out),
-        LineReply::BadSet(record) => {
-            print("ERR 41 BADSET", out)?;
-            print_number(*record, out)
-        }
+        LineReply::NotRead(fault) => print_error(fault_text(*fault), None, out),
+        LineReply::NoSet => print_error("40 NOSET", None, out),
+        LineReply::BadSet(record) => print_error("41 BADSET", Some(*record), out),
     }
 }
 
@@ -246,7 +257,6 @@ fn print_line(reply: &LineReply, out: &mut Vec<u8>) -> Result<(), AllocError>
     ensures room { lines_after reply.now ≡ [] → FitsIn 219 out.old out.new result }
 {
     print_reply(reply, out)?;
-    print_byte(b'\n', out)?;
     print_lines_after(reply, out)
 }
 

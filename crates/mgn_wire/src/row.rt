@@ -3,16 +3,19 @@
 ghost use Rattle.std.specs.Prelude.{◌≡◌, ◌+◌, ◌≤◌, ◌++◌, ◌∷◌, drop, length};
 ghost use Rattle.std.specs.Fmt.{signed_decimal};
 ghost use Rattle.mgn_wire.specs.Fields.{field, figures_text, number_text};
+ghost use Rattle.mgn_wire.specs.StatementText.{name_text};
 
 use itoa::{Buffer, write_digits};
 use mgn_machine::UnitFigures;
 use mgn_num::{Cents, Quantity};
 
-/// Room for a byte, two numbers after spaces and three bytes.
-pub(crate) const ROW: usize = 64;
+/// Room for a line of at most one amount. The longest is a lot's: a quantity of at most 22 bytes, two numbers of 21, a
+/// name of 17 and a mark of 2, each with the space before it, a letter and a line feed: 85 bytes.
+pub(crate) const ROW: usize = 96;
 
-/// Room for six amounts and a number, each after a space, and a byte.
-pub(crate) const LONG_ROW: usize = 256;
+/// Room for a line of amounts. The longest is a commodity's: six amounts of at most 39 bytes, a number of 21 and a name of
+/// 17, each with the space before it, a letter and a line feed: 274 bytes.
+pub(crate) const LONG_ROW: usize = 288;
 
 #[inline]
 pub(crate) fn write_byte(byte: u8, row: &mut [u8], end: usize) -> usize
@@ -34,6 +37,18 @@ pub(crate) fn write_text(text: &[u8], row: &mut [u8], end: usize) -> usize
     let start = end - text.len();
     row[start..end].copy_from_slice(text);
     start
+}
+
+// A name after a space: at most 17 bytes.
+#[inline]
+pub(crate) fn write_name(name: &[u8], row: &mut [u8], end: usize) -> usize
+    requires { (length name.now ≤ 16) × (17 ≤ end) × (end ≤ length row.old) }
+    ensures start { result + length (name_text name.now) ≡ end }
+    ensures short { end ≤ result + 17 }
+    ensures written { drop result row.new ≡ name_text name.now ++ drop end row.old }
+{
+    let start = write_text(name, row, end);
+    write_byte(b' ', row, start)
 }
 
 // A number after a space: at most 21 bytes.

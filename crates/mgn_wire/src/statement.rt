@@ -1,36 +1,27 @@
 ghost use Rattle.std.specs.Prelude.{◌≡◌, ◌≤◌, ◌+◌, ◌++◌, ◌∷◌, [], OnOk, OnErr, codes, drop, length, take};
 ghost use Rattle.std.specs.List.{flat_map};
-ghost use Rattle.mgn_wire.specs.Fields.{field, number_text};
-ghost use Rattle.mgn_wire.specs.StatementText.{account_line, cash_line, charges_text, class_text, commodity_text, figures_line, hold_text, line_count, lot_text, mark_text, mode_text, name_text, option_line, own_lines, statement_text, unit_lines};
+ghost use Rattle.mgn_wire.specs.StatementText.{account_line, cash_line, charges_text, class_text, commodity_text, figures_line, hold_text, line_count, lot_text, mark_text, mode_text, option_line, own_lines, statement_text, unit_lines};
 
 use crate::fault::Memory;
-use crate::reply::{print, print_byte, print_number};
 use crate::row::{
-    LONG_ROW, ROW, write_byte, write_field, write_figures, write_number, write_quantity,
+    LONG_ROW, ROW, write_byte, write_field, write_figures, write_name, write_number,
+    write_quantity, write_text,
 };
 use mgn_holds::Held;
 use mgn_lots::{Lot, Mark};
 use mgn_machine::{ClassLine, CommodityLine, CommodityLines, Heading, Mode, Statement};
-use mgn_num::Quantity;
 use std::alloc::AllocError;
 
-// As in replies: at any outcome what was there stays in front, so what a failed statement left can be cut off.
-
-fn print_name(name: &[u8], out: &mut Vec<u8>) -> Result<(), AllocError>
-    ensures ok { OnOk result (out.new.items ≡ out.old.items ++ name_text name.now) }
-    ensures kept { take (length out.old.items) out.new.items ≡ out.old.items }
-{
-    print_byte(b' ', out)?;
-    out.extend_from_slice(name)
-}
-
-fn print_mode(mode: Mode, out: &mut Vec<u8>) -> Result<(), AllocError>
-    ensures ok { OnOk result (out.new.items ≡ out.old.items ++ mode_text mode) }
-    ensures kept { take (length out.old.items) out.new.items ≡ out.old.items }
+// How the account is margined, after a space: at most 6 bytes.
+fn write_mode(mode: Mode, row: &mut [u8], end: usize) -> usize
+    requires { (6 ≤ end) × (end ≤ length row.old) }
+    ensures start { result + length (mode_text mode) ≡ end }
+    ensures short { end ≤ result + 6 }
+    ensures written { drop result row.new ≡ mode_text mode ++ drop end row.old }
 {
     match mode {
-        Mode::Gross => print(" GROSS", out),
-        Mode::Net => print(" NET", out),
+        Mode::Gross => write_text(b" GROSS", row, end),
+        Mode::Net => write_text(b" NET", row, end),
     }
 }
 
@@ -44,6 +35,7 @@ fn mark_letter(mark: Mark) -> u8
     }
 }
 
+// Whether the lot was traded or moved, after a space: 2 bytes.
 #[inline]
 fn write_mark(mark: Mark, row: &mut [u8], end: usize) -> usize
     requires { (2 ≤ end) × (end ≤ length row.old) }
@@ -54,26 +46,20 @@ fn write_mark(mark: Mark, row: &mut [u8], end: usize) -> usize
     write_byte(b' ', row, start)
 }
 
-// The account, its origin and how that is margined.
-fn print_owner(heading: &Heading, out: &mut Vec<u8>) -> Result<(), AllocError>
-    ensures ok { OnOk result (out.new.items ≡ out.old.items
-        ++ (name_text heading.now.account ++ name_text heading.now.origin ++ mode_text heading.now.mode)) }
-    ensures kept { take (length out.old.items) out.new.items ≡ out.old.items }
-{
-    print_name(heading.account.as_bytes(), out)?;
-    print_name(heading.origin.as_bytes(), out)?;
-    print_mode(heading.mode, out)
-}
-
+// As in replies: at any outcome what was there stays in front, so what a failed statement left can be cut off.
 fn print_account(heading: &Heading, out: &mut Vec<u8>) -> Result<(), AllocError>
     ensures ok { OnOk result (out.new.items ≡ out.old.items ++ account_line heading.now) }
     ensures kept { take (length out.old.items) out.new.items ≡ out.old.items }
 {
-    print_byte(b'S', out)?;
-    print_owner(heading, out)?;
-    print_name(heading.set.as_bytes(), out)?;
-    print_number(u64::from(heading.version.number()), out)?;
-    print_byte(b'\n', out)
+    let mut row = [0; ROW];
+    let start = write_byte(b'\n', &mut row, ROW);
+    let start = write_number(u64::from(heading.version.number()), &mut row, start);
+    let start = write_name(heading.set.as_bytes(), &mut row, start);
+    let start = write_mode(heading.mode, &mut row, start);
+    let start = write_name(heading.origin.as_bytes(), &mut row, start);
+    let start = write_name(heading.account.as_bytes(), &mut row, start);
+    let start = write_byte(b'S', &mut row, start);
+    out.extend_from_slice(&row[start..])
 }
 
 fn print_figures_line(heading: &Heading, out: &mut Vec<u8>) -> Result<(), AllocError>
@@ -106,13 +92,13 @@ fn print_commodity(line: &CommodityLine, out: &mut Vec<u8>) -> Result<(), AllocE
     ensures ok { OnOk result (out.new.items ≡ out.old.items ++ commodity_text line.now) }
     ensures kept { take (length out.old.items) out.new.items ≡ out.old.items }
 {
-    print_byte(b'G', out)?;
-    print_name(line.commodity.as_bytes(), out)?;
     let mut row = [0; LONG_ROW];
     let start = write_byte(b'\n', &mut row, LONG_ROW);
     let start = write_charges(line, &mut row, start);
     let start = write_number(u64::from(line.active), &mut row, start);
     let start = write_field(line.scan, &mut row, start);
+    let start = write_name(line.commodity.as_bytes(), &mut row, start);
+    let start = write_byte(b'G', &mut row, start);
     out.extend_from_slice(&row[start..])
 }
 
@@ -127,44 +113,18 @@ fn print_option_value(heading: &Heading, out: &mut Vec<u8>) -> Result<(), AllocE
     out.extend_from_slice(&row[start..])
 }
 
-// What a line of a lot or an order begins with: its letter, its number and its contract.
-fn print_start(
-    letter: u8,
-    number: u64,
-    contract: &[u8],
-    out: &mut Vec<u8>,
-) -> Result<(), AllocError>
-    ensures ok { OnOk result (out.new.items ≡ out.old.items ++ (letter ∷ (number_text number ++ name_text contract.now))) }
-    ensures kept { take (length out.old.items) out.new.items ≡ out.old.items }
-{
-    let mut row = [0; ROW];
-    let start = write_byte(b' ', &mut row, ROW);
-    let start = write_number(number, &mut row, start);
-    let start = write_byte(letter, &mut row, start);
-    out.extend_from_slice(&row[start..])?;
-    out.extend_from_slice(contract)
-}
-
-// The quantity and the price of a lot or an order.
-#[inline]
-fn write_terms(quantity: Quantity, price: u32, row: &mut [u8], end: usize) -> usize
-    requires { (43 ≤ end) × (end ≤ length row.old) }
-    ensures written { drop result row.new ≡ field quantity ++ number_text price ++ drop end row.old }
-    ensures within { result ≤ length row.old }
-{
-    let start = write_number(u64::from(price), row, end);
-    write_quantity(quantity, row, start)
-}
-
 fn print_lot(lot: &Lot, out: &mut Vec<u8>) -> Result<(), AllocError>
     ensures ok { OnOk result (out.new.items ≡ out.old.items ++ lot_text lot.now) }
     ensures kept { take (length out.old.items) out.new.items ≡ out.old.items }
 {
-    print_start(b'L', lot.number.number(), lot.contract.as_bytes(), out)?;
     let mut row = [0; ROW];
     let start = write_byte(b'\n', &mut row, ROW);
     let start = write_mark(lot.mark, &mut row, start);
-    let start = write_terms(lot.quantity, lot.premium, &mut row, start);
+    let start = write_number(u64::from(lot.premium), &mut row, start);
+    let start = write_quantity(lot.quantity, &mut row, start);
+    let start = write_name(lot.contract.as_bytes(), &mut row, start);
+    let start = write_number(lot.number.number(), &mut row, start);
+    let start = write_byte(b'L', &mut row, start);
     out.extend_from_slice(&row[start..])
 }
 
@@ -172,10 +132,13 @@ fn print_hold(held: &Held, out: &mut Vec<u8>) -> Result<(), AllocError>
     ensures ok { OnOk result (out.new.items ≡ out.old.items ++ hold_text held.now) }
     ensures kept { take (length out.old.items) out.new.items ≡ out.old.items }
 {
-    print_start(b'O', held.order.number(), held.contract.as_bytes(), out)?;
     let mut row = [0; ROW];
     let start = write_byte(b'\n', &mut row, ROW);
-    let start = write_terms(held.quantity, held.limit, &mut row, start);
+    let start = write_number(u64::from(held.limit), &mut row, start);
+    let start = write_quantity(held.quantity, &mut row, start);
+    let start = write_name(held.contract.as_bytes(), &mut row, start);
+    let start = write_number(held.order.number(), &mut row, start);
+    let start = write_byte(b'O', &mut row, start);
     out.extend_from_slice(&row[start..])
 }
 
@@ -183,20 +146,24 @@ fn print_cash(heading: &Heading, out: &mut Vec<u8>) -> Result<(), AllocError>
     ensures ok { OnOk result (out.new.items ≡ out.old.items ++ cash_line heading.now) }
     ensures kept { take (length out.old.items) out.new.items ≡ out.old.items }
 {
-    print("C CASH", out)?;
-    print_number(heading.cash, out)?;
-    print_byte(b'\n', out)
+    let mut row = [0; ROW];
+    let start = write_byte(b'\n', &mut row, ROW);
+    let start = write_number(heading.cash, &mut row, start);
+    let start = write_text(b"C CASH", &mut row, start);
+    out.extend_from_slice(&row[start..])
 }
 
 fn print_class(line: &ClassLine, out: &mut Vec<u8>) -> Result<(), AllocError>
     ensures ok { OnOk result (out.new.items ≡ out.old.items ++ class_text line.now) }
     ensures kept { take (length out.old.items) out.new.items ≡ out.old.items }
 {
-    print_byte(b'C', out)?;
-    print_name(line.class.as_bytes(), out)?;
-    print_number(line.units, out)?;
-    print_number(line.value, out)?;
-    print_byte(b'\n', out)
+    let mut row = [0; ROW];
+    let start = write_byte(b'\n', &mut row, ROW);
+    let start = write_number(line.value, &mut row, start);
+    let start = write_number(line.units, &mut row, start);
+    let start = write_name(line.class.as_bytes(), &mut row, start);
+    let start = write_byte(b'C', &mut row, start);
+    out.extend_from_slice(&row[start..])
 }
 
 fn print_commodities(lines: &CommodityLines, out: &mut Vec<u8>) -> Result<(), AllocError>
