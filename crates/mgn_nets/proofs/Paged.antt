@@ -1,5 +1,5 @@
 -- Pages that are kept from now on, and quantities written in them: why each call of `Nets` is the list's.
-use Rattle.std.proofs.Common.{◌≡◌, ◌≢◌, ◌∙◌, ◌+◌, ◌*◌, ◌/◌, ◌%◌, ◌<◌, ◌≤◌, ◌++◌, ℕ, zero, suc, ℤ, pos, List, length, length-append, set, take, get_or, replicate, ap, sym, refl, subst, arith, ⊎_elim, length-set, get_or-set_same, get_or-set_other}
+use Rattle.std.proofs.Common.{◌≡◌, ◌≢◌, ◌∙◌, ◌+◌, ◌*◌, ◌/◌, ◌%◌, ◌-◌, ◌<◌, ◌≤◌, ◌++◌, ℕ, zero, suc, ℤ, pos, List, length, length-append, set, take, get_or, replicate, ap, sym, refl, subst, arith, ⊎_elim, length-set, get_or-set_same, get_or-set_other}
 use Rattle.std.specs.Prelude.{IfSome, Option, None, Some}
 use Rattle.std.specs.List.{sum_by}
 use Rattle.std.proofs.Math.Nat.{div-eq_of_lt-le, mod-lt}
@@ -116,6 +116,21 @@ opened-apart count starts cells room page are inside p q i j some small other_sm
     here : (k : ℕ) → k ≡ page → get_or (set starts page (length cells)) k 0 ≡ length cells
     here k new = ap (λ (n : ℕ). get_or (set starts page (length cells)) n 0) new ∙ get_or-set_same starts page (length cells) 0 inside
 
+opened-owned : (count : ℕ) (starts : List ℕ) (cells : List ℤ) (room page : ℕ) → ArePages count starts cells room → page < length starts → get_or starts page 0 ≡ 0
+    → (i : ℕ) → 16 ≤ i → i < length (cells ++ replicate 16 (pos 0))
+    → (p : ℕ) × (get_or (set starts page (length cells)) p 0 ≤ i) × (i < get_or (set starts page (length cells)) p 0 + 16)
+opened-owned count starts cells room page are inside closed i past within =
+    ⊎_elim
+    (λ (old : i < length cells).
+    let it = are.owned i past old in
+    let apart : it.0 ≢ page = λ same. absurd (omega (arith, past, it.2, ap (λ (p : ℕ). get_or starts p 0) same, closed)) in
+    let start = opened-start starts page it.0 (length cells) apart in
+    (it.0, omega (arith, start, it.1), omega (arith, start, it.2)))
+    (λ (new : length cells ≤ i).
+    let start = get_or-set_same starts page (length cells) 0 inside in
+    (page, omega (arith, start, new), omega (arith, start, within, length-append cells (replicate 16 (pos 0)))))
+    (cases_lt i (length cells))
+
 -- the zeros that stand first
 pub zeros-first : (count : ℕ) (starts : List ℕ) (cells : List ℤ) (room : ℕ) → ArePages count starts cells room → 16 ≤ length cells
 zeros-first count starts cells room are = omega (arith, are.inside (length starts))
@@ -130,6 +145,7 @@ opened-pages count starts cells room page are inside closed = record {
   inside = λ other. opened-inside starts cells page other inside (are.inside other);
   past = λ other. opened-past starts cells page other inside some (are.past other);
   apart = opened-apart count starts cells room page are inside;
+  owned = opened-owned count starts cells room page are inside closed;
   zero = λ i small. get_or_append_left cells (replicate 16 (pos 0)) (pos 0) i (omega (arith, some, small)) ∙ are.zero i small;
   beyond = λ c past. opened-cell count starts cells room page are inside closed c ∙ are.beyond c past;
 }
@@ -183,6 +199,7 @@ written-pages count starts cells room are c v within kept = record {
   inside = λ page. omega (arith, are.inside page, long);
   past = are.past;
   apart = are.apart;
+  owned = λ i past within. are.owned i past (omega (arith, within, long));
   zero = λ i small.
       get_or-set_other cells (place_of starts c) i v (pos 0) (λ same. absurd (omega (arith, same, small, are.past (c / 16) kept))) ∙ are.zero i small;
   beyond = λ d past.
@@ -248,6 +265,7 @@ flat-pages count pages room few is enough = record {
   inside = λ page. omega (arith, flat-start pages page);
   past = λ page some. absurd (omega (arith, some, flat-start pages page));
   apart = λ page other i j some. absurd (omega (arith, some, flat-start pages page));
+  owned = λ i past within. absurd (omega (arith, past, within, length-replicate 16 (pos 0)));
   zero = λ i small. get_or-replicate 16 i (pos 0) (pos 0) small;
   beyond = λ c past. flat-cell pages c;
 }
@@ -283,9 +301,36 @@ pages-with count starts cells room more are enough = record {
   inside = are.inside;
   past = are.past;
   apart = are.apart;
+  owned = are.owned;
   zero = are.zero;
   beyond = are.beyond;
 }
+
+-- pages at the same places are the same cells where their contracts' are the same
+pub cells-one : (starts : List ℕ) (cells others : List ℤ) → length cells ≡ length others → ((i : ℕ) → i < 16 → value_at cells i ≡ value_at others i)
+    → ((i : ℕ) → 16 ≤ i → i < length cells → (page : ℕ) × (get_or starts page 0 ≤ i) × (i < get_or starts page 0 + 16))
+    → ((c : ℕ) → c / 16 < length starts → cell starts cells c ≡ cell starts others c) → cells ≡ others
+cells-one starts cells others long zeros owned same =
+    ext_get_or (pos 0) cells others long (λ i inside. ⊎_elim (λ (first : i < 16). zeros i first) (λ (past : 16 ≤ i). kept i past inside) (cases_lt i 16))
+  where
+    kept : (i : ℕ) → 16 ≤ i → i < length cells → value_at cells i ≡ value_at others i
+    kept i past inside =
+        let it = owned i past inside in
+        let page = it.0 in
+        let start = get_or starts page 0 in
+        let place : start + (i - start) ≡ i = omega (arith, it.1) in
+        let small : i - start < 16 = omega (arith, it.1, it.2) in
+        let there : page < length starts =
+        ⊎_elim
+        (λ (in_list : page < length starts). in_list)
+        (λ (beyond : length starts ≤ page). absurd (omega (arith, past, it.2, get_or_past starts page 0 beyond)))
+        (cases_lt page (length starts))
+        in
+        sym (ap (value_at cells) place)
+        ∙ sym (cell-in starts cells page (i - start) small)
+        ∙ same (page * 16 + (i - start)) (omega (arith, div-mul-add page 16 (i - start) small, there))
+        ∙ cell-in starts others page (i - start) small
+        ∙ ap (value_at others) place
 
 -- lists of one length are the same where their quantities are
 pub cells-same : (count : ℕ) (starts : List ℕ) (cells : List ℤ) (starts' : List ℕ) (cells' : List ℤ) (room room' : ℕ) → ArePages count starts cells room → ArePages count starts' cells' room' → listed count starts cells ≡ listed count starts' cells' → (c : ℕ) → cell starts cells c ≡ cell starts' cells' c

@@ -28,5 +28,6 @@ pub record ArePages (count : ℕ) (starts : List ℕ) (cells : List ℤ) (capaci
   pub past : (page : ℕ) → 0 < slice_index starts page → 16 ≤ slice_index starts page
   pub apart : (page other i j : ℕ) → 0 < slice_index starts page → i < 16 → j < 16
       → slice_index starts page + i ≡ slice_index starts other + j → page ≡ other
+  pub owned : (i : ℕ) → 16 ≤ i → i < length cells → (page : ℕ) × (slice_index starts page ≤ i) × (i < slice_index starts page + 16)
   pub zero : (i : ℕ) → i < 16 → value_at cells i ≡ pos 0
   pub beyond : (contract : ℕ) → count ≤ contract → cell starts cells contract ≡ pos 0

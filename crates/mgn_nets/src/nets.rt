@@ -4,7 +4,9 @@ ghost use Rattle.mgn_num.specs.Amount.{IsQuantity};
 ghost use Rattle.mgn_span.specs.Scan.{value_at};
 ghost use Rattle.mgn_nets.specs.Numbers.{number_at};
 
-use crate::pages::{PAGE, add_to, are_same, cell_at, cell_count, held_from, page_count, with_room};
+use crate::pages::{
+    PAGE, add_to, are_same, cell_at, cell_count, held_from, next_kept, page_count, with_room,
+};
 use mgn_num::Quantity;
 use std::alloc::{AllocError, Global};
 use std::marker::Model;
@@ -153,9 +155,19 @@ impl Nets {
             if let Some(place) = self.held_in(page, contract % PAGE) {
                 return Some(page * PAGE + place);
             }
-            contract = (page + 1) * PAGE;
+            contract = self.kept_from(page + 1) * PAGE;
         }
         None
+    }
+
+    // The first page from one on that is kept, or how many pages there are.
+    fn kept_from(&self, page: usize) -> usize
+        requires { page * 16 < length self.now + 16 }
+        ensures from { page ≤ result }
+        ensures few { result ≤ 256 }
+        ensures passed { (k : ℕ) → page * 16 ≤ k → k < result * 16 → value_at self.now k ≡ pos 0 }
+    {
+        next_kept(&self.starts, page)
     }
 
     // The first place of a page from one on with a quantity that is not 0.

@@ -13,6 +13,9 @@ use std::alloc::{AllocError, Global};
 /// How many neighbouring quantities a page has.
 pub(crate) const PAGE: usize = 16;
 
+// How many pages are passed at once.
+const GROUP: usize = 8;
+
 // How many pages so many quantities stand in.
 pub(crate) fn page_count(count: usize) -> usize
     ensures { result ≡ div_ceil count 16 }
@@ -104,6 +107,55 @@ pub(crate) fn add_to(
     cells[place] = cells[place].plus(quantity);
 }
 
+// Whether none of so many neighbouring pages is kept. None ends the loop, so that all are looked at together.
+fn are_closed(starts: &[u16], from: usize) -> bool
+    requires inside { from + 8 ≤ length starts.now }
+    ensures { IsTrue result ↔ ((i : ℕ) → i < 8 → slice_index starts.now (from + i) ≡ 0) }
+{
+    let mut closed = true;
+    for i in 0..GROUP {
+        closed &= starts[from + i] == 0;
+    }
+    closed
+}
+
+// The first page from one on that is kept, or how many pages there are.
+pub(crate) fn next_kept(starts: &[u16], from: usize) -> usize
+    requires inside { from ≤ length starts.now }
+    ensures from { from ≤ result }
+    ensures inside { result ≤ length starts.now }
+    ensures kept { result < length starts.now → 0 < slice_index starts.now result }
+    ensures passed { (page : ℕ) → from ≤ page → page < result → slice_index starts.now page ≡ 0 }
+{
+    let mut page = from;
+    while page + GROUP <= starts.len() && are_closed(starts, page) {
+        page += GROUP;
+    }
+    while page < starts.len() && starts[page] == 0 {
+        page += 1;
+    }
+    page
+}
+
+// The first page from one on that is kept in one of two lists at least, or how many pages there are.
+fn next_kept_in_one(starts: &[u16], others: &[u16], from: usize) -> usize
+    requires long { length starts.now ≡ length others.now }
+    requires inside { from ≤ length starts.now }
+    ensures from { from ≤ result }
+    ensures inside { result ≤ length starts.now }
+    ensures passed { (page : ℕ) → from ≤ page → page < result →
+        (slice_index starts.now page ≡ 0) × (slice_index others.now page ≡ 0) }
+{
+    let mut page = from;
+    while page + GROUP <= starts.len() && are_closed(starts, page) && are_closed(others, page) {
+        page += GROUP;
+    }
+    while page < starts.len() && starts[page] == 0 && others[page] == 0 {
+        page += 1;
+    }
+    page
+}
+
 // The first place of a page from one on with a quantity that is not 0.
 pub(crate) fn held_from(cells: &[Quantity], start: usize, from: usize) -> Option<usize>
     requires inside { start + 16 ≤ length cells.now }
@@ -134,6 +186,30 @@ fn is_same_page(cells: &[Quantity], start: usize, others: &[Quantity], other_sta
     same
 }
 
+// Whether both lists begin their pages at the same places. No page ends the loop, so that several are compared at once.
+fn are_same_starts(starts: &[u16], others: &[u16]) -> bool
+    requires long { length starts.now ≡ length others.now }
+    ensures { IsTrue result ↔ (starts.now ≡ others.now) }
+{
+    let mut same = true;
+    for i in 0..starts.len() {
+        same &= starts[i] == others[i];
+    }
+    same
+}
+
+// Whether both keep the same quantities in the same order.
+fn are_same_cells(cells: &[Quantity], others: &[Quantity]) -> bool
+    requires long { length cells.now ≡ length others.now }
+    ensures { IsTrue result ↔ (cells.now ≡ others.now) }
+{
+    let mut same = true;
+    for i in 0..cells.len() {
+        same &= cells[i] == others[i];
+    }
+    same
+}
+
 // Whether all quantities are the same in both.
 pub(crate) fn are_same(
     starts: &[u16],
@@ -145,14 +221,22 @@ pub(crate) fn are_same(
     requires inside { (page : ℕ) → slice_index starts.now page + 16 ≤ length cells.now }
     requires other_inside { (page : ℕ) → slice_index other_starts.now page + 16 ≤ length others.now }
     requires zero { (i : ℕ) → i < 16 → value_at cells.now i ≡ value_at others.now i }
+    requires owned { (i : ℕ) → 16 ≤ i → i < length cells.now →
+        (page : ℕ) × (slice_index starts.now page ≤ i) × (i < slice_index starts.now page + 16) }
     ensures { IsTrue result ↔ ((c : ℕ) → c / 16 < length starts.now →
         cell starts.now cells.now c ≡ cell other_starts.now others.now c) }
 {
-    for page in 0..starts.len() {
+    // Of pages that were written to in the same order, as most are, all cells are compared at once.
+    if cells.len() == others.len() && are_same_starts(starts, other_starts) {
+        return are_same_cells(cells, others);
+    }
+    let mut page = next_kept_in_one(starts, other_starts, 0);
+    while page < starts.len() {
         let (start, other) = (usize::from(starts[page]), usize::from(other_starts[page]));
-        if start + other != 0 && !is_same_page(cells, start, others, other) {
+        if !is_same_page(cells, start, others, other) {
             return false;
         }
+        page = next_kept_in_one(starts, other_starts, page + 1);
     }
     true
 }

@@ -1,9 +1,22 @@
-use Rattle.std.proofs.Common.{◌≡◌, ◌*◌, ◌+◌, ◌<◌, ◌/◌, ◌∙◌, ap, arith, sym, length, ℕ}
+use Rattle.std.proofs.Common.{◌≡◌, ◌*◌, ◌+◌, ◌<◌, ◌/◌, ◌∙◌, ap, arith, refl, sym, length, ℕ}
 use Rattle.std.proofs.lemmas.Nat.{div-mul-add}
 use Rattle.mgn_span.specs.Scan.{value_at}
 use Rattle.mgn_nets.specs.Pages.{cell}
-use Rattle.mgn_nets.proofs.Paged.{cell-in}
+use Rattle.mgn_nets.proofs.Paged.{cell-as, cell-in, cells-one}
 use Rattle.mgn_nets.proofs.pages.are_same.Goals as goal
+
+pub returns-then-are_same_starts : goal.returns-then-are_same_starts
+returns-then-are_same_starts c = (
+  λ is k within.
+      cell-as c.args.other_starts.now c.args.starts.now c.args.others.now c.args.cells.now starts (c.are_same_cells.ensures.0 is) k,
+  λ each.
+      c.are_same_cells.ensures.1
+      (cells-one c.args.starts.now c.args.cells.now c.args.others.now c.if-cells-others.true c.requires.zero c.requires.owned
+      (λ k within. each k within ∙ cell-as c.args.starts.now c.args.other_starts.now c.args.others.now c.args.others.now (sym starts) refl k)),
+)
+  where
+    starts : c.args.starts.now ≡ c.args.other_starts.now
+    starts = c.are_same_starts.ensures.0 c.if-are_same_starts.true
 
 pub returns-then-not-is_same_page : goal.returns-then-not-is_same_page
 returns-then-not-is_same_page c = (

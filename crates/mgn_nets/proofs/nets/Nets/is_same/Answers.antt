@@ -1,9 +1,14 @@
-use Rattle.std.proofs.Common.{◌≡◌, ◌<◌, ◌/◌, ◌∙◌, ap, arith, length, subst, sym, List, ℤ, ℕ}
+use Rattle.std.proofs.Common.{◌≡◌, ◌+◌, ◌<◌, ◌≤◌, ◌/◌, ◌∙◌, ap, arith, get_or, length, subst, sym, List, ℤ, ℕ}
 use Rattle.std.specs.Vec.{vec_capacity}
 use Rattle.std.proofs.lemmas.Bool.Decides.{Decides-eqb}
 use Rattle.mgn_nets.specs.Pages.{ArePages, cell, listed}
 use Rattle.mgn_nets.proofs.Paged.{cell-as, cells-same, lists-same, page-inside, row-long}
 use Rattle.mgn_nets.proofs.nets.Nets.is_same.Goals as goal
+
+pub are_same-requires-clause-owned : goal.are_same-requires-clause-owned
+are_same-requires-clause-owned c = λ i past within.
+    subst (λ (xs : List ℕ). (page : ℕ) × (get_or xs page 0 ≤ i) × (i < get_or xs page 0 + 16)) (sym c.deref.ensures.value)
+    (c.self.invariant.owned i past (omega (arith, within, ap length c.deref-then-self-other.ensures.value)))
 
 pub returns-then-self-other : goal.returns-then-self-other
 returns-then-self-other c = (

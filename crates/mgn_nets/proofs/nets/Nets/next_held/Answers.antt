@@ -22,13 +22,17 @@ pub loop-contract-preserved : goal.loop-contract-preserved
 loop-contract-preserved c =
     let at = c.loop-contract.contract in
     record {
-      from = omega (arith, c.loop-contract.invariant.from, div-add-mod' at 16, c.held_in.ensures.few);
+      from = omega (arith, c.loop-contract.invariant.from, div-add-mod' at 16, c.kept_from-contract.ensures.from);
       passed = λ k from less.
           ⊎_elim
           (λ (before : k < at). c.loop-contract.invariant.passed k from before)
           (λ (after : at ≤ k).
-          let here : (at / 16) * 16 + (k - (at / 16) * 16) ≡ k = omega (arith, after, div-add-mod' at 16) in
-          sym (ap (value_at c.args.self.now) here)
-          ∙ c.in_default.ensures.none refl (k - (at / 16) * 16) (omega (arith, after, div-add-mod' at 16)) (omega (arith, after, less, div-add-mod' at 16)))
+          ⊎_elim
+          (λ (here : k < (at / 16 + 1) * 16).
+          let same : (at / 16) * 16 + (k - (at / 16) * 16) ≡ k = omega (arith, after, div-add-mod' at 16) in
+          sym (ap (value_at c.args.self.now) same)
+          ∙ c.in_default.ensures.none refl (k - (at / 16) * 16) (omega (arith, after, div-add-mod' at 16)) (omega (arith, after, here, div-add-mod' at 16)))
+          (λ (past : (at / 16 + 1) * 16 ≤ k). c.kept_from-contract.ensures.passed k past less)
+          (cases_lt k ((at / 16 + 1) * 16)))
           (cases_lt k at);
     }
