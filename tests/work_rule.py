@@ -18,7 +18,7 @@ ALLOWED = {
     ("crates/mgn_prepare/src/marker.rt", "mark"),
     ("crates/mgn_pricing/src/desks.rt", "foresee"),
     ("crates/mgn_pricing/src/desks.rt", "take_back"),
-    ("crates/mgn_script/src/plain.rt", "commit_switch"),
+    ("crates/mgn_script/src/plain.rt", "switch"),
     ("crates/mgn_script/src/plain.rt", "exec"),
     ("crates/mgn_statement/src/build.rt", "commodity_figures"),
     ("crates/mgn_unit_desk/src/unit_desk.rt", "apply"),

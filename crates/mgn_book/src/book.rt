@@ -42,9 +42,9 @@ pub enum Outcome {
 /// with these rows. Under which sets, each call says of the shelf that it is given.
 #[derive(Drop)]
 pub struct Book {
-    register: Register,
-    history: History,
-    counts: [u64; 16],
+    pub(crate) register: Register,
+    pub(crate) history: History,
+    pub(crate) counts: [u64; 16],
 }
 
 impl Model for Book {
@@ -340,7 +340,7 @@ fn likely_places(plan: &Plan) -> Likely {
 }
 
 // Where the count of a session stands, which are numbered from 1.
-fn count_place(session: SessionNo) -> usize
+pub(crate) fn count_place(session: SessionNo) -> usize
     ensures place { result + 1 ≡ session }
     ensures within { result < 16 }
 {

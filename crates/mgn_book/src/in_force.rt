@@ -3,7 +3,7 @@ ghost use Rattle.mgn_params.specs.Shelves.{set_at};
 ghost use Rattle.mgn_machine.specs.declared.request.Recorded.TheVariants.{InForce, SetRefused};
 ghost use Rattle.mgn_machine.specs.declared.request.Request.TheVariants.{Switch};
 ghost use Rattle.mgn_machine.specs.History.{entry, recorded};
-ghost use Rattle.mgn_unit.specs.Amounts.{AreAfter};
+ghost use Rattle.mgn_unit.specs.Amounts.{AreAfter, AreAllKnown, AreKnown, KeepsPlaces};
 ghost use Rattle.mgn_unit.specs.NewSets.{ArePrepared, row_on_call};
 ghost use Rattle.mgn_unit.specs.Prepared.{AreCurrent, ArePreparedFor};
 ghost use Rattle.mgn_unit.specs.declared.row.Row.{Row as UnitRow};
@@ -16,7 +16,7 @@ use mgn_ids::SessionNo;
 use mgn_machine::{NewSet, Refusal, Reply};
 use mgn_params::{ParamSet, PutFault, Shelf, Work};
 use mgn_register::{Register, StepFault};
-use mgn_unit::{NewRows, PreparedUnits, Row};
+use mgn_unit::{NewRows, PreparedUnits, Priced, Row};
 use std::alloc::Global;
 
 /// A call that asks for a switch: its session, and its number among the calls of that session.
@@ -140,6 +140,51 @@ pub(crate) fn switch_set<S: Shelf>(
             &mut prepared.spent,
             shelf,
         ),
+        Err(StepFault::Refused(why)) => refuse_set(history, call, set, why),
+        Err(StepFault::Memory) => Err(StepFault::Memory),
+    }
+}
+
+/// The same where each contract keeps its place under the set, and it may be known what units require there, by their
+/// numbers.
+pub(crate) fn switch_known<S: Shelf>(
+    alloc: Global,
+    register: &mut Register,
+    history: &mut History,
+    call: SwitchCall,
+    set: ParamSet,
+    shelf: &mut S,
+    known: &[Option<Priced>],
+    work: &mut Work,
+) -> Result<Reply, StepFault>
+    requires reserved { history.old.reserved ≡ true }
+    requires few_entries { length history.old.entries < 1000000 }
+    requires number { call.number ≤ 1000000 }
+    requires shown { length (S.sets shelf.old) ≡ register.old.state.version + 1 }
+    requires kept { IsKept (set_at (S.sets shelf.old) register.old.state.version) register.old }
+    requires keeps { KeepsPlaces (set_at (S.sets shelf.old) register.old.state.version) set }
+    requires known { AreKnown set register.old.rows known.now }
+    ensures place { S.place shelf.new ≡ S.place shelf.old }
+    ensures switched { IfOk result (λ reply.
+        IsSwitched (S.sets shelf.old) (S.sets shelf.new) register.old register.new set reply) }
+    ensures entry { IfOk result (λ reply.
+        let request = recorded (Switch set) reply in
+        history.new.entries ≡ history.old.entries ++ entry call.session call.number request reply ∷ []) }
+    ensures fault { IfErr result (λ fault. fault ≡ StepFault.Memory) }
+    ensures same_register { OnErr result (register.new ≡ register.old) }
+    ensures same_history { OnErr result (history.new.entries ≡ history.old.entries) }
+    ensures same_sets { OnErr result (S.sets shelf.new ≡ S.sets shelf.old) }
+    ensures idle { AreAllKnown register.old.rows known.now → work.new ≡ work.old }
+{
+    let Some(old) = shelf.get(register.version()) else {
+        unreachable!();
+    };
+    match register.amounts_under(alloc, old, &set, known, work) {
+        Ok(amounts) => {
+            let rows = NewRows::Kept(amounts);
+            let mut spent = Vec::new(alloc);
+            enter_set(register, history, call, set, rows, &mut spent, shelf)
+        }
         Err(StepFault::Refused(why)) => refuse_set(history, call, set, why),
         Err(StepFault::Memory) => Err(StepFault::Memory),
     }

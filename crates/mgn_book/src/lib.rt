@@ -5,6 +5,7 @@ pub mod book;
 mod by_desks;
 mod history;
 mod in_force;
+mod known_switch;
 pub mod laws;
 mod names;
 mod numbers;

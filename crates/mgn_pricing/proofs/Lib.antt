@@ -6,3 +6,5 @@ pub mod Numbered
 pub mod Fitting
 -- Desks that move as a plan says.
 pub mod Planned
+-- Desks that are marked anew.
+pub mod Marked

@@ -1,4 +1,6 @@
-ghost use Rattle.std.specs.Prelude.{◌≡◌, ◌<◌, ◌≤◌, ◌+◌, [], ℕ, IfOk, IsOk, OnErr, OnOk, None, length, false, true};
+ghost use Rattle.std.specs.Prelude.{◌≡◌, ◌<◌, ◌≤◌, ◌+◌, [], ℕ, IfOk, IfSome, IsOk, OnErr, OnOk, None, length, slice_index_or, false, true};
+ghost use Rattle.mgn_nets.specs.Portfolios.{AreUnitNets};
+ghost use Rattle.mgn_unit.specs.Amounts.{AreKnown, AreRequired};
 ghost use Rattle.mgn_unit.specs.Rows.{IsChange, IsRoomy, IsRow, Prices, nets_in};
 ghost use Rattle.mgn_unit.specs.declared.row.Row.{Row as UnitRow};
 ghost use Rattle.mgn_plan.specs.Plans.{CanChange, Foresees, IsPossible, moved_nets, row_at};
@@ -30,6 +32,30 @@ impl Model for Desks {
     ghost view = { λ d. d.desks.items };
 
     ghost invariant = { λ d. AreNumbered d.desks.items };
+}
+
+// Marks a desk anew with the nets of a row, if it is marked, and tells what these require. Where memory is refused it is
+// emptied.
+fn mark_again(
+    desk: &mut Desk,
+    alloc: Global,
+    version: Version,
+    set: &ParamSet,
+    row: &Row,
+) -> Option<Priced>
+    requires { AreUnitNets set.now (nets_in row.now) }
+    ensures known { IfSome result (AreRequired set.now row.now) }
+    ensures rests { Rests set.now version (nets_in row.now) desk.new.marked }
+    ensures number { desk.new.unit ≡ desk.old.unit }
+{
+    desk.version()?;
+    if desk.mark(alloc, version, set, &row.nets()).is_err() {
+        // Dropped by one call: after an assignment a proof goes through each field of a desk.
+        let unit = desk.unit();
+        drop(mem::replace(desk, Desk::empty(unit)));
+        return None;
+    }
+    Some(desk.requirements())
 }
 
 /// What a change of a unit's row moves in the nets of its desk.
@@ -283,6 +309,38 @@ impl Desks {
             self.forget(plan);
         }
         known
+    }
+
+    /// Marks each desk that is marked anew, under the set of a version with the nets of its unit's row, and tells what
+    /// the unit requires there, by the units' numbers. Of a unit whose desk is empty nothing is told, nor of one for
+    /// whose mark memory is refused: its desk is emptied. The only error is that memory was refused for the list; then
+    /// nothing has changed.
+    pub fn mark_all(
+        &mut self,
+        alloc: Global,
+        version: Version,
+        set: &ParamSet,
+        rows: &[Row],
+    ) -> Result<Vec<Option<Priced>>, AllocError>
+        requires nets { (u : ℕ) (d : UnitRow) → u < length rows.now → AreUnitNets set.now (nets_in (slice_index_or rows.now u d)) }
+        requires few { length self.old ≤ length rows.now }
+        ensures known { IfOk result (λ known. AreKnown set.now rows.now known.items) }
+        ensures desks { OnOk result (AreDesks set.now version Nothing rows.now self.new) }
+        ensures same { OnErr result (self.new ≡ self.old) }
+    {
+        let mut known = Vec::with_capacity(alloc, self.desks.len())?;
+        for unit in 0..self.desks.len() {
+            let priced = mark_again(&mut self.desks[unit], alloc, version, set, &rows[unit]);
+            known.push_reserved(priced);
+        }
+        Ok(known)
+    }
+
+    /// Empties all desks.
+    pub fn empty_all(&mut self)
+        ensures { self.new ≡ [] }
+    {
+        self.desks.clear();
     }
 
     /// Moves the desks of a plan's units back, after a plan that came to nothing. No other desk moves.

@@ -4,6 +4,7 @@
 
 mod changes;
 mod holds;
+mod known_rows;
 mod origins;
 mod plans;
 mod register;

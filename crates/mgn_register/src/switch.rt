@@ -59,7 +59,7 @@ fn is_current(current: &[bool], unit: usize) -> bool
 }
 
 // What the accounts of a unit gain.
-fn gain_of(gains: &[Cents], unit: usize) -> Cents
+pub(crate) fn gain_of(gains: &[Cents], unit: usize) -> Cents
     requires { unit < length gains.now }
     ensures { result ≡ value_at gains.now unit }
 {
@@ -166,9 +166,9 @@ impl Register {
         self.has_contracts(old, new) && self.has_classes(new)
     }
 
-    // Whether a set may come into force.
+    /// Whether another set may come into force, and why not. Nothing changes.
     #[tactic(auto, unfolding(mgn_machine::specs::NewSet::set_fits))]
-    fn set_fits(&self, old: &ParamSet, new: &ParamSet) -> Result<(), Refusal>
+    pub fn set_fits(&self, old: &ParamSet, new: &ParamSet) -> Result<(), Refusal>
         requires kept { IsKept old.now self.now }
         ensures fits { result ≡ set_fits new.now self.now.state }
         ensures covers { OnOk result (covers new.now self.now.state.accounts ≡ true) }

@@ -3,3 +3,4 @@ pub mod DeskCommits
 pub mod DeskFacts
 pub mod PlainFacts
 pub mod ScriptFacts
+pub mod SwitchFacts

@@ -39,3 +39,31 @@ abbrev pub is_done : Outcome → Bool
 is_done (Done place reply) = is_settled reply
 is_done Full = false
 is_done Memory = false
+
+-- a set has come into force
+abbrev pub is_new_set : Reply → Bool
+is_new_set (NewSet told) = true
+is_new_set Settled = false
+is_new_set (Figures figures) = false
+is_new_set (Totals totals) = false
+is_new_set (Statement told) = false
+is_new_set (Refused why) = false
+
+abbrev pub is_in_force : Outcome → Bool
+is_in_force (Done place reply) = is_new_set reply
+is_in_force Full = false
+is_in_force Memory = false
+
+-- a call was refused, and that was entered
+abbrev pub is_refusal : Reply → Bool
+is_refusal (Refused why) = true
+is_refusal Settled = false
+is_refusal (Figures figures) = false
+is_refusal (Totals totals) = false
+is_refusal (NewSet told) = false
+is_refusal (Statement told) = false
+
+abbrev pub is_refused : Outcome → Bool
+is_refused (Done place reply) = is_refusal reply
+is_refused Full = false
+is_refused Memory = false

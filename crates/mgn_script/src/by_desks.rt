@@ -1,18 +1,23 @@
 //! Commands whose units are priced by desks.
 
-ghost use Rattle.std.specs.Prelude.{◌≡◌, ◌+◌, ◌⊎◌, true, false};
-ghost use Rattle.mgn_machine.specs.declared.request.Request.TheVariants.{Do};
+ghost use Rattle.std.specs.Prelude.{◌≡◌, ◌+◌, ◌⊎◌, IfSome, IsSome, IsTrue, None, Ok, true, false};
+ghost use Rattle.mgn_machine.specs.NewSet.{set_fits};
+ghost use Rattle.mgn_machine.specs.declared.request.Request.TheVariants.{Do, Switch as AnySwitch};
 ghost use Rattle.mgn_machine.specs.History.{calls};
-ghost use Rattle.mgn_book.specs.BookViews.{Committed, Stands};
-ghost use Rattle.mgn_pricing.specs.Desks.{AreEmpty, KeepsUnplanned};
-ghost use Rattle.mgn_script.specs.Desks.{AreAtRest, is_done, is_settled, plan_in};
+ghost use Rattle.mgn_unit.specs.Amounts.{AreKnown, KeepsPlaces};
+ghost use Rattle.mgn_register.specs.BookStates.{IsKept};
+ghost use Rattle.mgn_plan.specs.declared.plans.Plan.TheVariants.{Nothing};
+ghost use Rattle.mgn_book.specs.BookViews.{Committed, Shelves, Stands};
+ghost use Rattle.mgn_pricing.specs.Desks.{AreDesks, AreEmpty, KeepsUnplanned};
+ghost use Rattle.mgn_script.specs.Desks.{AreAtRest, is_done, is_in_force, is_new_set, is_refused, is_settled, plan_in};
 
 use mgn_book::{Book, Outcome};
 use mgn_ids::SessionNo;
 use mgn_machine::{Command, Reply};
-use mgn_params::{SetList, Shelf, Work};
+use mgn_params::{ParamSet, SetList, Shelf, Version, Work};
 use mgn_pricing::Desks;
-use std::alloc::Global;
+use mgn_unit::{PreparedUnits, Priced, Switch};
+use std::alloc::{AllocError, Global};
 
 fn is_settled(reply: &Reply) -> bool
     ensures { result ≡ is_settled reply.now }
@@ -71,6 +76,101 @@ pub(crate) fn commit_command(
     let outcome = book.commit_known(alloc, session, number, command, shelf, &plan, &known, work);
     if !is_done(&outcome) {
         desks.take_back(version, set, book.rows(), &plan);
+    }
+    outcome
+}
+
+// Whether each contract of a set keeps its place in another one. Where memory for the answer is refused it is no.
+fn keeps_places(alloc: Global, old: &ParamSet, set: &ParamSet) -> bool
+    ensures { IsTrue result → KeepsPlaces old.now set.now }
+{
+    match Switch::new(alloc, old, set) {
+        Ok(switch) => switch.keeps_places(),
+        Err(AllocError) => false,
+    }
+}
+
+// Marks the desks under a set that is to come into force, and tells what units require there, where their desks are
+// marked. Where the set would be refused or a contract changes its place nothing is told, and no desk is touched.
+fn mark_all(
+    alloc: Global,
+    book: &Book,
+    desks: &mut Desks,
+    old: &ParamSet,
+    set: &ParamSet,
+) -> Option<Vec<Option<Priced>>>
+    requires kept { IsKept old.now book.now.book }
+    requires desks { let book = book.now.book in AreDesks old.now book.state.version Nothing book.rows desks.old }
+    ensures known { IfSome result (λ known. AreKnown set.now book.now.book.rows known.items) }
+    ensures keeps { IsSome result → KeepsPlaces old.now set.now }
+    ensures fits { IsSome result → set_fits set.now book.now.book.state ≡ Ok tt }
+    ensures desks { let book = book.now.book in
+        IsSome result → AreDesks set.now (book.state.version + 1) Nothing book.rows desks.new }
+    ensures same { result ≡ None → desks.new ≡ desks.old }
+{
+    if !book.takes(old, set) || !keeps_places(alloc, old, set) {
+        return None;
+    }
+    let version = Version::new(book.version().number() + 1);
+    desks.mark_all(alloc, version, set, book.rows()).ok()
+}
+
+// Whether a set has come into force.
+fn is_in_force(outcome: &Outcome) -> bool
+    ensures { result ≡ is_in_force outcome.now }
+{
+    match outcome {
+        Outcome::Done(_, reply) => is_new_set(reply),
+        Outcome::Full | Outcome::Memory => false,
+    }
+}
+
+fn is_new_set(reply: &Reply) -> bool
+    ensures { result ≡ is_new_set reply.now }
+{
+    match reply {
+        Reply::NewSet(_) => true,
+        Reply::Done
+        | Reply::Figures(_)
+        | Reply::Totals(_)
+        | Reply::Statement(_)
+        | Reply::Refused(_) => false,
+    }
+}
+
+/// One switch in session 1, as `Book::commit_switch` commits it. Where each contract keeps its place the desks are
+/// marked under the new set, and units require what these tell; else they stay as they are, and one of an older version
+/// is marked anew when it is next asked for. So they do where the set is refused.
+#[inline(never)]
+pub(crate) fn commit_switch(
+    alloc: Global,
+    book: &mut Book,
+    desks: &mut Desks,
+    shelf: &mut SetList,
+    number: u64,
+    set: ParamSet,
+    work: &mut Work,
+) -> Outcome
+    requires stands { Stands shelf.old book.old }
+    requires number { number ≡ calls 1 book.old.history + 1 }
+    requires desks { AreAtRest shelf.old book.old.book desks.old }
+    ensures stands { Stands shelf.new book.new }
+    ensures committed { Committed shelf.new book.old 1 number (AnySwitch set) result book.new }
+    ensures sets { Shelves shelf.old (AnySwitch set) result shelf.new }
+    ensures desks { AreAtRest shelf.new book.new.book desks.new }
+    ensures kept { is_refused result ≡ true → desks.new ≡ desks.old }
+{
+    let session = SessionNo::new(1);
+    let Some(old) = shelf.get(book.version()) else {
+        unreachable!();
+    };
+    let Some(known) = mark_all(alloc, book, desks, old, &set) else {
+        let mut none = PreparedUnits::none(alloc);
+        return book.commit_switch(alloc, session, number, set, shelf, &mut none, work);
+    };
+    let outcome = book.commit_known_switch(alloc, session, number, set, shelf, &known, work);
+    if !is_in_force(&outcome) {
+        desks.empty_all();
     }
     outcome
 }

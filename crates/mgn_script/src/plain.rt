@@ -1,16 +1,15 @@
 ghost use Rattle.std.specs.Prelude.{◌≡◌, ◌+◌, ◌∷◌, [], length, IfOk};
 ghost use Rattle.mgn_machine.specs.History.{Legal, calls, items_of};
-ghost use Rattle.mgn_book.specs.BookViews.{Committed, Shelves, opening};
+ghost use Rattle.mgn_book.specs.BookViews.{opening};
 ghost use Rattle.mgn_script.specs.Plain.{answer_of};
 
-use crate::by_desks::commit_command;
+use crate::by_desks::{commit_command, commit_switch};
 use mgn_book::{Book, Outcome};
 use mgn_ids::SessionNo;
 use mgn_machine::{Answer, Command, Refusal};
 use mgn_params::{ParamSet, SetList, Work};
 use mgn_pricing::Desks;
 use mgn_session::Exec;
-use mgn_unit::PreparedUnits;
 use std::alloc::{AllocError, Global};
 use std::marker::Model;
 
@@ -75,34 +74,12 @@ fn answer_of(outcome: Outcome) -> Answer
 }
 
 impl Plain {
-    ghost use Rattle.mgn_machine.specs.declared.request.Request.TheVariants.{Switch};
-
     // The number of the next call, which comes from session 1 as all others did.
     fn next_number(&self) -> u64
         ensures number { result ≡ calls 1 self.now.day.history + 1 }
         ensures place { result ≡ length self.now.day.history + 1 }
     {
         self.book.calls(SessionNo::new(1)) + 1
-    }
-
-    // One switch in session 1. The desks stay as they are: one of an older version is marked anew when it is next asked
-    // for.
-    #[inline(never)]
-    fn commit_switch(&mut self, number: u64, set: ParamSet) -> Outcome
-        requires { number ≡ calls 1 self.old.day.history + 1 }
-        ensures committed { Committed self.new.sets self.old.day 1 number (Switch set) result self.new.day }
-        ensures sets { Shelves self.old.sets (Switch set) result self.new.sets }
-    {
-        let session = SessionNo::new(1);
-        self.book.commit_switch(
-            self.alloc,
-            session,
-            number,
-            set,
-            &mut self.shelf,
-            &mut PreparedUnits::none(self.alloc),
-            &mut Work::new(),
-        )
     }
 }
 
@@ -132,6 +109,14 @@ impl Exec for Plain {
 
     fn switch(&mut self, set: ParamSet) -> Answer {
         let number = self.next_number();
-        answer_of(self.commit_switch(number, set))
+        answer_of(commit_switch(
+            self.alloc,
+            &mut self.book,
+            &mut self.desks,
+            &mut self.shelf,
+            number,
+            set,
+            &mut Work::new(),
+        ))
     }
 }

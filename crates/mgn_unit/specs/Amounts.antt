@@ -1,5 +1,5 @@
 -- Rows of margin units under another set in which each contract keeps its place: nets and sizes stay, amounts are new.
-use Rattle.std.specs.Prelude.{ℕ, ◌≡◌, ◌<◌, ℤ, pos, ◌+ℤ◌, List, length, slice_index_or}
+use Rattle.std.specs.Prelude.{ℕ, ◌≡◌, ◌<◌, ℤ, pos, ◌+ℤ◌, IsSome, List, None, Option, Some, length, slice_index_or}
 use Rattle.mgn_params.specs.Tables.{Tables}
 use Rattle.mgn_nets.specs.declared.portfolios.Portfolios.{Portfolios}
 use Rattle.mgn_unit.specs.declared.amounts.Amounts.{Amounts}
@@ -38,6 +38,16 @@ pub record AreRequired (set : Tables) (row : Row) (priced : Priced) : Type 0 whe
   pub buys : IsRequired set row.buys.nets priced.buys
   pub sales : IsRequired set row.sales.nets priced.sales
   pub all : IsRequired set row.all.nets priced.all
+
+-- what is known of units' requirements under a set is that of their rows, by the units' numbers
+abbrev pub AreKnown : Tables → List Row → List (Option Priced) → Type 0
+AreKnown set rows known =
+    (u : ℕ) (d : Row) (priced : Priced) → u < length rows → slice_index_or known u None ≡ Some priced →
+    AreRequired set (slice_index_or rows u d) priced
+
+-- something is known of each unit's
+abbrev pub AreAllKnown : List Row → List (Option Priced) → Type 0
+AreAllKnown rows known = (u : ℕ) → u < length rows → IsSome (slice_index_or known u None)
 
 -- the amounts of a row with an amount more in worth, and with these requirements
 abbrev pub amounts_with : ℤ → Priced → Row → UnitAmounts

@@ -126,8 +126,8 @@ impl PortfolioRow {
 }
 
 impl Row {
-    // The amounts of the portfolios with an amount more in worth, and these requirements.
-    fn amounts(&self, gain: Cents, priced: &Priced) -> UnitAmounts
+    /// The amounts of the portfolios with an amount more in worth, and these requirements.
+    pub fn amounts(&self, gain: Cents, priced: &Priced) -> UnitAmounts
         requires { AreWorths (row_with_worth gain self.now) }
         ensures { result ≡ amounts_with gain priced.now self.now }
     {
