@@ -1,12 +1,12 @@
 ghost use Rattle.std.specs.Prelude.{◌≡◌, ℕ, ◌+◌, ◌-◌, ◌*◌, ◌<◌, ◌≤◌, ◌^◌, ℤ, pos, ◌+ℤ◌, ◌*ℤ◌, ◌≤ℤ◌, unsigned_abs, length, min, replicate, slice_index, slice_set, false, IfOk, IsTrue, ◌↔◌, List, All, if◌then◌else◌};
-ghost use Rattle.mgn_inter.specs.Credited.{AreCreditsOf, AreFormed};
+ghost use Rattle.mgn_inter.specs.Credited.{AreCreditsOf};
 ghost use Rattle.mgn_inter.specs.Rows.{named, names};
 ghost use Rattle.mgn_span.specs.Words.{net_delta};
 ghost use Rattle.mgn_params.specs.Tables.{Tables, credit_spread_at, legs_of};
 ghost use Rattle.mgn_span.specs.Positions.{IsNet, positions};
 ghost use Rattle.mgn_span.specs.Requirement.{requirement, scan_of};
 ghost use Rattle.mgn_span.specs.Scan.{price_risk2, scenario_total, value_at};
-ghost use Rattle.mgn_desk.specs.WorkedPortfolios.{AreParts, ArePortfolioRows, AreUnformed, charge_of, IsBehind, IsBrought, IsPortfolio, IsReady, KeepsParts, KeepsRest, with_charges, with_credits, with_risks, worked_risk};
+ghost use Rattle.mgn_desk.specs.WorkedPortfolios.{AreParts, ArePortfolioRows, charge_of, IsBehind, IsPortfolio, IsReady, KeepsParts, KeepsRest, with_charges, with_credits, with_risks, worked_risk};
 ghost use Rattle.mgn_desk.specs.Moved.{arrays_of_quantity, counted, more_of};
 ghost use Rattle.mgn_desk.specs.Risks.{IsRisk};
 
@@ -45,7 +45,6 @@ impl Portfolio {
     pub fn new(alloc: Global, set: &ParamSet) -> Result<Portfolio, AllocError>
         ensures portfolio { IfOk result (IsPortfolio set.now) }
         ensures flat { IfOk result (λ p. p.nets ≡ replicate (length set.now.contracts) (pos 0)) }
-        ensures unformed { IfOk result (λ p. AreFormed set.now 0 p.credits) }
     {
         Ok(Portfolio {
             nets: Nets::flat(alloc, set.contract_count())?,
@@ -79,7 +78,6 @@ impl Portfolio {
         requires { ArePortfolioRows set.now self.old }
         ensures portfolio { IsPortfolio set.now self.new }
         ensures flat { self.new.nets ≡ replicate (length set.now.contracts) (pos 0) }
-        ensures unformed { AreFormed set.now 0 self.new.credits }
     {
         self.nets.clear();
         self.kept.flatten();
@@ -98,12 +96,10 @@ impl Portfolio {
         self.bring_to(set, nets);
     }
 
-    // Brings nets of 0 to these: first the nets, with the numbers of each commodity once its neighbours are brought, then the
-    // spreads, and then the risks.
+    // Brings nets of 0 to these.
     fn bring_to(&mut self, set: &ParamSet, nets: &Nets)
         requires portfolio { IsPortfolio set.now self.old }
         requires flat { self.old.nets ≡ replicate (length set.now.contracts) (pos 0) }
-        requires unformed { AreFormed set.now 0 self.old.credits }
         requires one_each { length nets.now ≡ length set.now.contracts }
         requires nets { All IsNet nets.now }
         ensures portfolio { IsPortfolio set.now self.new }
@@ -120,9 +116,7 @@ impl Portfolio {
             behind = self.bring_net(set, i, nets.at(i), behind, &mut work);
             from = i + 1;
         }
-        self.write_numbers(set, behind);
-        self.form_credits(set);
-        self.mend_all(set);
+        self.settle(set, behind);
     }
 
     // Brings a net of 0 to this one, while what hangs on the nets of a commodity waits. Tells the commodity of which it
@@ -136,13 +130,16 @@ impl Portfolio {
         work: &mut Work,
     ) -> usize
         requires commodity { g < length set.now.commodities }
-        requires brought { IsBrought set.now g self.old }
+        requires behind { IsBehind set.now g self.old }
         requires contract { i < length set.now.contracts }
         requires net { IsNet (value_at self.old.nets i +ℤ net) }
         ensures commodity { result < length set.now.commodities }
-        ensures brought { IsBrought set.now result self.new }
+        ensures behind { IsBehind set.now result self.new }
         ensures nets { self.new.nets ≡ more_of self.old.nets i net }
     {
+        if net.size() == 0 {
+            return g;
+        }
         set.limits();
         let commodity = set.contract_at(i).commodity;
         self.turn_to(set, g, commodity);
@@ -150,69 +147,15 @@ impl Portfolio {
         commodity
     }
 
-    // Writes the numbers of a commodity, unless they are to wait for more nets of the same one.
+    // Brings what hangs on the nets of a commodity after them, unless it is to wait for those of the same one.
     fn turn_to(&mut self, set: &ParamSet, g: usize, next: usize)
         requires commodity { g < length set.now.commodities }
-        requires brought { IsBrought set.now g self.old }
-        ensures brought { IsBrought set.now next self.new }
+        requires behind { IsBehind set.now g self.old }
+        ensures behind { IsBehind set.now next self.new }
         ensures nets { self.new.nets ≡ self.old.nets }
     {
         if next != g {
-            self.write_numbers(set, g);
-        }
-    }
-
-    // Writes what a commodity risks before credits, and its numbers for the credits, by its nets.
-    fn write_numbers(&mut self, set: &ParamSet, g: usize)
-        requires commodity { g < length set.now.commodities }
-        requires brought { IsBrought set.now g self.old }
-        ensures parts { AreParts set.now self.new }
-        ensures unformed { AreUnformed set.now self.new.nets self.new }
-        ensures nets { self.new.nets ≡ self.old.nets }
-    {
-        let scanned = self.kept.risks(g);
-        self.write_charge(set, g, scanned.scan);
-        self.write_for_credits(set, g, scanned.price_risk2);
-    }
-
-    // Writes the numbers of the commodity at a place for the credits.
-    fn write_for_credits(&mut self, set: &ParamSet, g: usize, doubled_risk: Cents)
-        requires parts { AreParts set.now self.old }
-        requires commodity { g < length set.now.commodities }
-        requires credits { AreFormed set.now 0 self.old.credits }
-        requires doubled_risk { doubled_risk ≡ price_risk2 (scenario_total g (positions set.now.contracts self.old.nets)) }
-        requires not_negative { pos 0 ≤ℤ doubled_risk }
-        requires small { unsigned_abs doubled_risk ≤ 11 * 10 ^ 17 }
-        ensures written { self.new ≡ with_credits self.old self.new.credits }
-        ensures credits { AreFormed set.now 0 self.new.credits }
-        ensures net_deltas { self.new.credits.deltas ≡ slice_set self.old.credits.deltas g
-            (net_delta set.now.months (positions set.now.contracts self.old.nets) g) }
-        ensures price_risks { self.new.credits.risks ≡ slice_set self.old.credits.risks g
-            (unsigned_abs (price_risk2 (scenario_total g (positions set.now.contracts self.old.nets)))) }
-    {
-        let net_delta = self.kept.row(g).tier.net_delta();
-        self.credits.write(set, g, net_delta, doubled_risk);
-    }
-
-    // Forms the spreads, once the numbers of all commodities are written.
-    fn form_credits(&mut self, set: &ParamSet)
-        requires parts { AreParts set.now self.old }
-        requires unformed { AreUnformed set.now self.old.nets self.old }
-        ensures written { self.new ≡ with_credits self.old self.new.credits }
-        ensures ready { IsReady set.now self.new }
-    {
-        self.credits.form_all(set);
-    }
-
-    // Writes the risks of all commodities.
-    fn mend_all(&mut self, set: &ParamSet)
-        requires ready { IsReady set.now self.old }
-        requires risks { length self.old.risks ≡ length set.now.commodities }
-        ensures portfolio { IsPortfolio set.now self.new }
-        ensures nets { self.new.nets ≡ self.old.nets }
-    {
-        for g in 0..set.commodity_count() {
-            self.mend(g);
+            self.settle(set, g);
         }
     }
 

@@ -1,7 +1,7 @@
 ghost use Rattle.std.specs.Prelude.{◌≡◌, ◌≢◌, ◌↔◌, ℕ, ◌+◌, ◌*◌, ◌^◌, ◌<◌, ◌≤◌, ◌≤ℤ◌, true, false, pos, unsigned_abs, [], ◌∷◌, ◌++◌, if◌then◌else◌, length, replicate, slice_index, slice_set, All, IfOk, IsTrue, min};
 ghost use Rattle.std.specs.List.{Contains};
 ghost use Rattle.std.specs.List.Sorted.{IsStrictlyIncreasing};
-ghost use Rattle.mgn_inter.specs.Credited.{AreCreditRows, AreCreditsOf, AreFormed, IsAtTurn};
+ghost use Rattle.mgn_inter.specs.Credited.{AreCreditRows, AreCreditsOf, IsAtTurn};
 ghost use Rattle.mgn_inter.specs.Rows.{Credited, IsNextOf, AreWaiting, KeepsNumbers, kept_at, moved_at, named, names};
 ghost use Rattle.mgn_inter.specs.Quiet.{AreAlike, IsMoved, NoneForms};
 ghost use Rattle.mgn_inter.specs.Sizes.{IsRisk};
@@ -18,7 +18,7 @@ use crate::numbers::{numbers_at, write_numbers};
 use crate::reworked::Reworked;
 use crate::rows::{
     bring_rests, change_credits, form_spread, have_same_sign, kept_forms, mark_moved, move_rest,
-    state_of_spread, use_state, write_rests,
+    write_rests,
 };
 use crate::spread_state::SpreadState;
 use mgn_num::{Cents, TenThousandths};
@@ -57,7 +57,6 @@ impl InterCredits {
     /// Nothing held: each net delta and each price risk is 0. The only error is that memory was refused.
     pub fn new(alloc: Global, set: &ParamSet) -> Result<InterCredits, AllocError>
         ensures of_set { IfOk result (AreCreditsOf set.now) }
-        ensures unformed { IfOk result (AreFormed set.now 0) }
         ensures net_deltas { IfOk result (λ c. c.deltas ≡ replicate (length set.now.commodities) (pos 0)) }
         ensures price_risks { IfOk result (λ c. c.risks ≡ replicate (length set.now.commodities) 0) }
     {
@@ -80,7 +79,6 @@ impl InterCredits {
     pub fn flatten(&mut self, set: &ParamSet)
         requires { AreCreditRows set.now self.old }
         ensures of_set { AreCreditsOf set.now self.new }
-        ensures unformed { AreFormed set.now 0 self.new }
         ensures net_deltas { self.new.deltas ≡ replicate (length set.now.commodities) (pos 0) }
         ensures price_risks { self.new.risks ≡ replicate (length set.now.commodities) 0 }
     {
@@ -285,51 +283,6 @@ impl InterCredits {
             return Reworked::none();
         }
         self.rework_reached(set, g, naming)
-    }
-
-    /// Writes the numbers of the commodity at a place, as `refresh` takes them, where nothing was held. The spreads wait
-    /// until those of all commodities are written, for `form_all`.
-    pub fn write(&mut self, set: &ParamSet, g: usize, net_delta: TenThousandths, price_risk2: Cents)
-        requires unformed { AreFormed set.now 0 self.old }
-        requires commodity { g < length set.now.commodities }
-        requires net_delta { IsDelta net_delta }
-        requires not_negative { pos 0 ≤ℤ price_risk2 }
-        requires price_risk2 { IsRisk (unsigned_abs price_risk2) }
-        ensures net_deltas { self.new.deltas ≡ slice_set self.old.deltas g net_delta }
-        ensures price_risks { self.new.risks ≡ slice_set self.old.risks g (unsigned_abs price_risk2) }
-        ensures unformed { AreFormed set.now 0 self.new }
-    {
-        self.write_numbers(g, Delta::new(net_delta), price_risk2.size() as u64);
-    }
-
-    // Forms the spread at a place, once those before it are formed.
-    fn form(&mut self, set: &ParamSet, i: usize)
-        requires inside { i < length set.now.credits }
-        requires formed { AreFormed set.now i self.old }
-        ensures formed { AreFormed set.now (i + 1) self.new }
-        ensures numbers { KeepsNumbers self.old self.new }
-    {
-        set.limits();
-        let spread = spread_at(set.credits(), i);
-        let own = state_of_spread(&self.numbers, spread);
-        if own == SpreadState::NOTHING {
-            return;
-        }
-        use_state(&mut self.numbers, &spread.legs[..spread.count], &own);
-        *self.kept.row_mut(i) = own;
-    }
-
-    /// Forms all spreads of the numbers that were written, each once. One that names only commodities with a net delta of
-    /// 0 costs a look.
-    pub fn form_all(&mut self, set: &ParamSet)
-        requires unformed { AreFormed set.now 0 self.old }
-        ensures of_set { AreCreditsOf set.now self.new }
-        ensures numbers { KeepsNumbers self.old self.new }
-    {
-        set.limits();
-        for i in 0..set.credits().len() {
-            self.form(set, i);
-        }
     }
 
     /// Takes over what is kept for a set that the rows fit. Takes no memory.

@@ -4,8 +4,7 @@ use Rattle.std.proofs.lemmas.List.{ext_get_or}
 use Rattle.mgn_params.specs.Tables.{no_contract}
 use Rattle.mgn_span.specs.Scan.{value_at}
 use Rattle.mgn_tiers.proofs.StartLemmas.{none_at}
-use Rattle.mgn_desk.specs.WorkedPortfolios.{WorkedPortfolio}
-use Rattle.mgn_desk.proofs.BringLemmas.{brought_none}
+use Rattle.mgn_desk.proofs.WorkedLemmas.{behind_none}
 use Rattle.mgn_desk.proofs.portfolio.Portfolio.bring_to.Goals as goal
 
 -- nets of 0
@@ -28,7 +27,7 @@ loop-i-init c =
     let inside : c.in-Some.first < n = omega (arith, c.requires.one_each, found.found.1) in
     record {
       commodity = rw c.contract_at.ensures (c.limits.ensures.contracts c.in-Some.first no_contract inside).commodity;
-      brought = brought_none set' c.contract_at.result.now.commodity c.args.self.now c.requires.portfolio c.requires.unformed;
+      behind = behind_none set' c.contract_at.result.now.commodity c.args.self.now c.requires.portfolio;
       done = λ k h. flat_at old n k c.requires.flat ∙ sym (found.before k (omega arith) h);
       rest = λ k h. flat_at old n k c.requires.flat;
     }
@@ -36,9 +35,8 @@ loop-i-init c =
 pub returns-clause-nets : goal.returns-clause-nets
 returns-clause-nets c =
     let now = c.loop-i.self.nets in
-    let long : length now ≡ length c.args.nets.now = c.loop-i.invariant.brought.parts.totals.one_each ∙ sym c.requires.one_each in
-    let last = c.mend_all.ensures.nets ∙ ap (λ (p : WorkedPortfolio). p.nets) c.form_credits.ensures.written ∙ c.write_numbers.ensures.nets in
-    last
+    let long : length now ≡ length c.args.nets.now = c.loop-i.invariant.behind.parts.totals.one_each ∙ sym c.requires.one_each in
+    c.settle.ensures.nets
     ∙ ext_get_or (pos 0) now c.args.nets.now long
     (λ k h.
     ⊎_elim

@@ -6,7 +6,6 @@ use Rattle.mgn_inter.specs.CreditRows.{credited_of}
 use Rattle.mgn_inter.specs.Credited.{AreCreditRows}
 use Rattle.mgn_inter.specs.Rows.{nothing_kept}
 use Rattle.mgn_inter.proofs.ColumnLemmas.{AreFlat, rows_flat}
-use Rattle.mgn_inter.proofs.FormLemmas.{formed_none}
 use Rattle.mgn_inter.proofs.TurnLemmas.{credits_none}
 use Rattle.mgn_inter.proofs.inter.InterCredits.flatten.Goals as goal
 use Rattle.mgn_inter.proofs.inter.InterCredits.flatten.Goals.{After-flatten-2}
@@ -22,10 +21,6 @@ flat c =
 pub returns-clause-of_set : goal.returns-clause-of_set
 returns-clause-of_set c =
     credits_none c.args.set.now _ c.limits.ensures (flat c).deltas (flat c).risks (flat c).rests (flat c).credits (c.flatten-2.ensures ∙ ap (λ (n : ℕ). replicate n nothing_kept) (fits c).kept)
-
-pub returns-clause-unformed : goal.returns-clause-unformed
-returns-clause-unformed c =
-    formed_none c.args.set.now _ c.limits.ensures (flat c).deltas (flat c).risks (flat c).rests (flat c).credits (c.flatten-2.ensures ∙ ap (λ (n : ℕ). replicate n nothing_kept) (fits c).kept)
 
 pub returns-clause-net_deltas : goal.returns-clause-net_deltas
 returns-clause-net_deltas c = (flat c).deltas
