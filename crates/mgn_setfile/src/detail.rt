@@ -4,6 +4,7 @@ ghost use Rattle.std.specs.Prelude.{◌≡◌, [], slice_index_or, Some};
 ghost use Rattle.csv.specs.Records.{fields_of};
 ghost use Rattle.mgn_setfile.specs.Words.{count_words, detail_words, has_whole_legs, kind_of, kind_words, misfit, misfit_of, other_side, side_words};
 
+use crate::fields::is_letter;
 use csv::ByteRecord;
 use mgn_params::LegSide;
 use std::fmt;
@@ -37,19 +38,19 @@ pub enum Detail {
 fn kind_of(letter: &[u8]) -> Option<RecordKind>
     ensures { result ≡ kind_of letter.now }
 {
-    if letter == b"G".as_slice() {
+    if is_letter(letter, b'G') {
         Some(RecordKind::Commodity)
-    } else if letter == b"M".as_slice() {
+    } else if is_letter(letter, b'M') {
         Some(RecordKind::Month)
-    } else if letter == b"K".as_slice() {
+    } else if is_letter(letter, b'K') {
         Some(RecordKind::Contract)
-    } else if letter == b"S".as_slice() {
+    } else if is_letter(letter, b'S') {
         Some(RecordKind::Spread)
-    } else if letter == b"I".as_slice() {
+    } else if is_letter(letter, b'I') {
         Some(RecordKind::CreditSpread)
-    } else if letter == b"V".as_slice() {
+    } else if is_letter(letter, b'V') {
         Some(RecordKind::Class)
-    } else if letter == b"T".as_slice() {
+    } else if is_letter(letter, b'T') {
         Some(RecordKind::Spot)
     } else {
         None
@@ -60,7 +61,7 @@ fn kind_of(letter: &[u8]) -> Option<RecordKind>
 fn other_side(first: &[u8]) -> LegSide
     ensures { result ≡ other_side first.now }
 {
-    if first == b"A".as_slice() {
+    if is_letter(first, b'A') {
         LegSide::B
     } else {
         LegSide::A

@@ -1,6 +1,7 @@
 //! One field of a record, which a fault names.
 
-ghost use Rattle.std.specs.Prelude.{◌≡◌, ◌≤◌, ◌^◌, IfOk, unsigned_abs};
+ghost use Rattle.std.specs.Prelude.{◌≡◌, ◌≤◌, ◌^◌, ◌∷◌, [], IfOk, unsigned_abs};
+ghost use Rattle.std.specs.Str.{bytes_eq};
 ghost use Rattle.mgn_setfile.specs.Fields.{field_kind, field_name, field_number, field_side, field_signed, field_style, in_field};
 
 use crate::fault::{Cause, RecordFault};
@@ -8,6 +9,16 @@ use crate::place::Field;
 use mgn_ids::{ClassName, CommodityName, ContractName, IdFault, SetName};
 use mgn_num::{NumFault, read_signed, read_unsigned};
 use mgn_params::{Kind, LegSide, Style};
+
+// Whether a word is this letter alone.
+pub(crate) fn is_letter(word: &[u8], letter: u8) -> bool
+    ensures { result ≡ bytes_eq word.now (letter ∷ []) }
+{
+    match word {
+        [only] => *only == letter,
+        _ => false,
+    }
+}
 
 #[tactic(auto, unfolding(crate::specs::Fields::field_name, crate::specs::Fields::in_field))]
 pub(crate) fn read_commodity_name(field: Field, word: &[u8]) -> Result<CommodityName, RecordFault>
@@ -89,11 +100,11 @@ pub(crate) fn read_number_of_size(field: Field, word: &[u8], high: u64) -> Resul
 pub(crate) fn read_kind(field: Field, word: &[u8]) -> Result<Kind, RecordFault>
     ensures { result ≡ in_field field (field_kind word.now) }
 {
-    if word == b"F".as_slice() {
+    if is_letter(word, b'F') {
         Ok(Kind::Future)
-    } else if word == b"C".as_slice() {
+    } else if is_letter(word, b'C') {
         Ok(Kind::Call)
-    } else if word == b"P".as_slice() {
+    } else if is_letter(word, b'P') {
         Ok(Kind::Put)
     } else {
         Err(RecordFault::at(field, Cause::Name))
@@ -104,12 +115,12 @@ pub(crate) fn read_kind(field: Field, word: &[u8]) -> Result<Kind, RecordFault>
 pub(crate) fn read_style(field: Field, kind: Kind, word: &[u8]) -> Result<Style, RecordFault>
     ensures { result ≡ in_field field (field_style kind word.now) }
 {
-    if word == b"P".as_slice() {
+    if is_letter(word, b'P') {
         match kind {
             Kind::Future => Err(RecordFault::at(field, Cause::Range)),
             Kind::Call | Kind::Put => Ok(Style::Premium),
         }
-    } else if word == b"F".as_slice() {
+    } else if is_letter(word, b'F') {
         Ok(Style::Other)
     } else {
         Err(RecordFault::at(field, Cause::Name))
@@ -120,9 +131,9 @@ pub(crate) fn read_style(field: Field, kind: Kind, word: &[u8]) -> Result<Style,
 pub(crate) fn read_side(field: Field, word: &[u8]) -> Result<LegSide, RecordFault>
     ensures { result ≡ in_field field (field_side word.now) }
 {
-    if word == b"A".as_slice() {
+    if is_letter(word, b'A') {
         Ok(LegSide::A)
-    } else if word == b"B".as_slice() {
+    } else if is_letter(word, b'B') {
         Ok(LegSide::B)
     } else {
         Err(RecordFault::at(field, Cause::Name))
