@@ -8,7 +8,6 @@ pub mod AddLemmas
 pub mod MoveLemmas
 pub mod CreditLemmas
 pub mod WorkedLemmas
-pub mod BringLemmas
 pub mod StartLemmas
 pub mod MovedLemmas
 pub mod BranchLemmas

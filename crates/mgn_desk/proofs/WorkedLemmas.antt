@@ -48,14 +48,6 @@ worked_risk_is t p g is h =
 
 -- Nothing is behind, and then the nets of one commodity change.
 
-pub same_but_none : (t : Tables) (g : ℕ) (nets : List ℤ) → SameBut t g nets nets
-same_but_none t g nets = record {
-  charges = λ k other. refl;
-  net_deltas = λ k other. refl;
-  price_risks = λ k other. refl;
-  minimums = λ k other. refl;
-}
-
 pub behind_none : (t : Tables) (g : ℕ) (p : WorkedPortfolio) → IsPortfolio t p → IsBehind t g p
 behind_none t g p is = record {
   was = p.nets;
@@ -63,34 +55,35 @@ behind_none t g p is = record {
   credits = is.ready.credits;
   charges = is.ready.charges;
   risks = is.risks;
-  others = same_but_none t g p.nets;
+  others = record {
+    charges = λ k other. refl;
+    net_deltas = λ k other. refl;
+    price_risks = λ k other. refl;
+    minimums = λ k other. refl;
+  };
 }
-
--- the nets of that commodity change once more
-pub same_but_moved : (t : Tables) (was nets now : List ℤ) (i : ℕ) (q : ℤ) → IsWithinLimits t → i < length t.contracts → length nets ≡ length t.contracts → SameBut t (contract_at t.contracts i).commodity was nets → now ≡ changed nets i q → SameBut t (contract_at t.contracts i).commodity was now
-same_but_moved t was nets now i q limits h long same is =
-    let step = same_but_changed t nets i q limits h long in
-    record {
-      charges = λ k other. rw is (step.charges k other) ∙ same.charges k other;
-      net_deltas = λ k other. rw is (step.net_deltas k other) ∙ same.net_deltas k other;
-      price_risks = λ k other. rw is (step.price_risks k other) ∙ same.price_risks k other;
-      minimums = λ k other. rw is (step.minimums k other) ∙ same.minimums k other;
-    }
 
 pub behind_moved : (t : Tables) (old p : WorkedPortfolio) (i : ℕ) (q : ℤ) → IsWithinLimits t → i < length t.contracts → IsBehind t (contract_at t.contracts i).commodity old → p.nets ≡ changed old.nets i q → AreParts t p → KeepsRest old p → IsBehind t (contract_at t.contracts i).commodity p
-behind_moved t old p i q limits h behind nets parts rest = record {
-  was = behind.was;
-  parts = parts;
-  credits = rw rest.0 behind.credits;
-  charges = rw rest.1 behind.charges;
-  risks = rw rest.2 behind.risks;
-  others = same_but_moved t behind.was old.nets p.nets i q limits h behind.parts.totals.one_each behind.others nets;
-}
+behind_moved t old p i q limits h behind nets parts rest =
+    let step = same_but_changed t old.nets i q limits h behind.parts.totals.one_each in
+    record {
+      was = behind.was;
+      parts = parts;
+      credits = rw rest.0 behind.credits;
+      charges = rw rest.1 behind.charges;
+      risks = rw rest.2 behind.risks;
+      others = record {
+        charges = λ k other. rw nets (step.charges k other) ∙ behind.others.charges k other;
+        net_deltas = λ k other. rw nets (step.net_deltas k other) ∙ behind.others.net_deltas k other;
+        price_risks = λ k other. rw nets (step.price_risks k other) ∙ behind.others.price_risks k other;
+        minimums = λ k other. rw nets (step.minimums k other) ∙ behind.others.minimums k other;
+      };
+    }
 
 -- What is written of the commodity.
 
 -- the risks before credits
-pub charges_settled : (t : Tables) (old new charges : List ℤ) (g : ℕ) (x : ℤ) → g < length t.commodities → AreCharges t old charges → SameBut t g old new → IsRisk x → x ≡ charge_of t (positions t.contracts new) g → AreCharges t new (slice_set charges g x)
+charges_settled : (t : Tables) (old new charges : List ℤ) (g : ℕ) (x : ℤ) → g < length t.commodities → AreCharges t old charges → SameBut t g old new → IsRisk x → x ≡ charge_of t (positions t.contracts new) g → AreCharges t new (slice_set charges g x)
 charges_settled t old new charges g x low are same small is = record {
   one_each = length-set charges g x ∙ are.one_each;
   small = All-set IsRisk charges g x small are.small;
@@ -105,11 +98,11 @@ charges_settled t old new charges g x low are same small is = record {
 }
 
 -- the rows of net deltas and price risks
-pub net_deltas_settled : (t : Tables) (old new : List ℤ) (g : ℕ) → g < length t.commodities → SameBut t g old new → slice_set (net_deltas_of t (positions t.contracts old)) g (net_delta t.months (positions t.contracts new) g) ≡ net_deltas_of t (positions t.contracts new)
+net_deltas_settled : (t : Tables) (old new : List ℤ) (g : ℕ) → g < length t.commodities → SameBut t g old new → slice_set (net_deltas_of t (positions t.contracts old)) g (net_delta t.months (positions t.contracts new) g) ≡ net_deltas_of t (positions t.contracts new)
 net_deltas_settled t old new g low same =
     row-set (pos 0) (net_delta t.months (positions t.contracts old)) (net_delta t.months (positions t.contracts new)) (length t.commodities) g low (λ k inside other. same.net_deltas k other)
 
-pub price_risks_settled : (t : Tables) (old new : List ℤ) (g : ℕ) → g < length t.commodities → SameBut t g old new → slice_set (price_risks_of t (positions t.contracts old)) g (unsigned_abs (price_risk2 (scenario_total g (positions t.contracts new)))) ≡ price_risks_of t (positions t.contracts new)
+price_risks_settled : (t : Tables) (old new : List ℤ) (g : ℕ) → g < length t.commodities → SameBut t g old new → slice_set (price_risks_of t (positions t.contracts old)) g (unsigned_abs (price_risk2 (scenario_total g (positions t.contracts new)))) ≡ price_risks_of t (positions t.contracts new)
 price_risks_settled t old new g low same =
     row-set 0 (λ k. unsigned_abs (price_risk2 (scenario_total k (positions t.contracts old)))) (λ k. unsigned_abs (price_risk2 (scenario_total k (positions t.contracts new)))) (length t.commodities) g low (λ k inside other. ap unsigned_abs (same.price_risks k other))
 
@@ -123,7 +116,7 @@ risk_kept t old p places g k behind is nets same inside other none =
     behind.risks.each k inside ∙ sym (rw (charge_now, credit_now, minimum_now) refl)
 
 -- a choice of which both sides are right
-pub either_right : (b : Bool) (mine other right : ℤ) → mine ≡ right → (b ≡ false → other ≡ right) → (if b then mine else other) ≡ right
+either_right : (b : Bool) (mine other right : ℤ) → mine ≡ right → (b ≡ false → other ≡ right) → (if b then mine else other) ≡ right
 either_right true mine other right first second = first
 either_right false mine other right first second = second refl
 

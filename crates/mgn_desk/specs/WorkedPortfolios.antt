@@ -11,7 +11,7 @@ use Rattle.mgn_span.specs.Scan.{price_risk2, scenario_total, value_at}
 use Rattle.mgn_scan.specs.Totals.{AreTotals}
 use Rattle.mgn_option.specs.Sums.{AreSums, Sums}
 use Rattle.mgn_tiers.specs.Tiers.{AreTierRows, AreTiersOf, Tiers}
-use Rattle.mgn_inter.specs.Credited.{AreCreditRows, AreCreditsOf, AreFormed}
+use Rattle.mgn_inter.specs.Credited.{AreCreditRows, AreCreditsOf}
 use Rattle.mgn_inter.specs.Rows.{Credited}
 use Rattle.mgn_desk.specs.Risks.{IsRisk}
 
@@ -105,22 +105,6 @@ pub record IsBehind (set : Tables) (g : ℕ) (p : WorkedPortfolio) : Type 0 wher
 -- the risk of a commodity by what is kept: at least the minimum
 abbrev pub worked_risk : WorkedPortfolio → ℕ → ℤ
 worked_risk p g = int_max (value_at p.charges g -ℤ pos (slice_index p.credits.credits g)) (pos (slice_index p.sums.minimums g))
-
--- charges and the numbers for the credits are those of some nets, and no spread is formed of these yet
-pub record AreUnformed (set : Tables) (nets : List ℤ) (p : WorkedPortfolio) : Type 0 where
-  pub credits : AreFormed set 0 p.credits
-  pub net_deltas : p.credits.deltas ≡ net_deltas_of set (positions set.contracts nets)
-  pub price_risks : p.credits.risks ≡ price_risks_of set (positions set.contracts nets)
-  pub charges : AreCharges set nets p.charges
-  pub one_risk_each : length p.risks ≡ length set.commodities
-
--- these nets are those of what is kept, but for the nets of one commodity, and its risk
-pub record IsBrought (set : Tables) (g : ℕ) (p : WorkedPortfolio) : Type 0 where
-  pub was : List ℤ
-  pub parts : AreParts set p
-  pub unformed : AreUnformed set was p
-  pub others : SameBut set g was p.nets
-  pub risks : (k : ℕ) → k < length set.commodities → k ≢ g → value_at p.risks k ≡ worked_risk p k
 
 -- For the steps of a change.
 

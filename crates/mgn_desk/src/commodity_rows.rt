@@ -137,7 +137,6 @@ impl CommodityRows {
 
     /// The scan risk of the commodity at a place, 0 to 256 * 10^15, and twice its price risk, 0 to 1.1 * 10^18, in cents
     /// (CME SPAN; own profile, after SPAN).
-    #[inline(always)]
     pub fn risks(&self, g: usize) -> ScanRisks
         requires { g < length self.now.totals }
         ensures scan { (set : Tables) (nets : List ℤ) → AreTotals set nets self.now.totals →

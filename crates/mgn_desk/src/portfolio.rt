@@ -1,12 +1,12 @@
 ghost use Rattle.std.specs.Prelude.{◌≡◌, ℕ, ◌+◌, ◌-◌, ◌*◌, ◌<◌, ◌≤◌, ◌^◌, ℤ, pos, ◌+ℤ◌, ◌*ℤ◌, ◌≤ℤ◌, unsigned_abs, length, min, replicate, slice_index, slice_set, false, IfOk, IsTrue, ◌↔◌, List, All, if◌then◌else◌};
-ghost use Rattle.mgn_inter.specs.Credited.{AreCreditsOf, AreFormed};
+ghost use Rattle.mgn_inter.specs.Credited.{AreCreditsOf};
 ghost use Rattle.mgn_inter.specs.Rows.{named, names};
 ghost use Rattle.mgn_span.specs.Words.{net_delta};
 ghost use Rattle.mgn_params.specs.Tables.{Tables, credit_spread_at, legs_of};
 ghost use Rattle.mgn_span.specs.Positions.{IsNet, positions};
 ghost use Rattle.mgn_span.specs.Requirement.{requirement, scan_of};
 ghost use Rattle.mgn_span.specs.Scan.{price_risk2, scenario_total, value_at};
-ghost use Rattle.mgn_desk.specs.WorkedPortfolios.{AreParts, ArePortfolioRows, AreUnformed, charge_of, IsBehind, IsBrought, IsPortfolio, IsReady, KeepsParts, KeepsRest, with_charges, with_credits, with_risks, worked_risk};
+ghost use Rattle.mgn_desk.specs.WorkedPortfolios.{AreParts, ArePortfolioRows, charge_of, IsBehind, IsPortfolio, IsReady, KeepsParts, KeepsRest, with_charges, with_credits, with_risks, worked_risk};
 ghost use Rattle.mgn_desk.specs.Moved.{arrays_of_quantity, counted, more_of};
 ghost use Rattle.mgn_desk.specs.Risks.{IsRisk};
 
@@ -45,7 +45,6 @@ impl Portfolio {
     pub fn new(alloc: Global, set: &ParamSet) -> Result<Portfolio, AllocError>
         ensures portfolio { IfOk result (IsPortfolio set.now) }
         ensures flat { IfOk result (λ p. p.nets ≡ replicate (length set.now.contracts) (pos 0)) }
-        ensures unformed { IfOk result (λ p. AreFormed set.now 0 p.credits) }
     {
         Ok(Portfolio {
             nets: Nets::flat(alloc, set.contract_count())?,
@@ -79,7 +78,6 @@ impl Portfolio {
         requires { ArePortfolioRows set.now self.old }
         ensures portfolio { IsPortfolio set.now self.new }
         ensures flat { self.new.nets ≡ replicate (length set.now.contracts) (pos 0) }
-        ensures unformed { AreFormed set.now 0 self.new.credits }
     {
         self.nets.clear();
         self.kept.flatten();
@@ -98,12 +96,10 @@ impl Portfolio {
         self.bring_to(set, nets);
     }
 
-    // Brings nets of 0 to these, and the numbers of each commodity once its neighbours are brought. The spreads are formed
-    // at the end.
+    // Brings nets of 0 to these.
     fn bring_to(&mut self, set: &ParamSet, nets: &Nets)
         requires portfolio { IsPortfolio set.now self.old }
         requires flat { self.old.nets ≡ replicate (length set.now.contracts) (pos 0) }
-        requires unformed { AreFormed set.now 0 self.old.credits }
         requires one_each { length nets.now ≡ length set.now.contracts }
         requires nets { All IsNet nets.now }
         ensures portfolio { IsPortfolio set.now self.new }
@@ -115,14 +111,12 @@ impl Portfolio {
         set.limits();
         let mut work = Work::new();
         let mut behind = set.contract_at(first).commodity;
-        self.move_net(set, first, nets.at(first), &mut work);
-        let mut from = first + 1;
+        let mut from = first;
         while let Some(i) = nets.next_held(from) {
             behind = self.bring_net(set, i, nets.at(i), behind, &mut work);
             from = i + 1;
         }
-        self.write_numbers(set, behind);
-        self.settle_all(set);
+        self.settle(set, behind);
     }
 
     // Brings a net of 0 to this one, while what hangs on the nets of a commodity waits. Tells the commodity of which it
@@ -136,13 +130,16 @@ impl Portfolio {
         work: &mut Work,
     ) -> usize
         requires commodity { g < length set.now.commodities }
-        requires brought { IsBrought set.now g self.old }
+        requires behind { IsBehind set.now g self.old }
         requires contract { i < length set.now.contracts }
         requires net { IsNet (value_at self.old.nets i +ℤ net) }
         ensures commodity { result < length set.now.commodities }
-        ensures brought { IsBrought set.now result self.new }
+        ensures behind { IsBehind set.now result self.new }
         ensures nets { self.new.nets ≡ more_of self.old.nets i net }
     {
+        if net.size() == 0 {
+            return g;
+        }
         set.limits();
         let commodity = set.contract_at(i).commodity;
         self.turn_to(set, g, commodity);
@@ -150,89 +147,16 @@ impl Portfolio {
         commodity
     }
 
-    // Writes the numbers of a commodity, unless they are to wait for more nets of the same one.
+    // Brings what hangs on the nets of a commodity after them, unless it is to wait for those of the same one.
     fn turn_to(&mut self, set: &ParamSet, g: usize, next: usize)
         requires commodity { g < length set.now.commodities }
-        requires brought { IsBrought set.now g self.old }
-        ensures brought { IsBrought set.now next self.new }
+        requires behind { IsBehind set.now g self.old }
+        ensures behind { IsBehind set.now next self.new }
         ensures nets { self.new.nets ≡ self.old.nets }
     {
         if next != g {
-            self.write_numbers(set, g);
+            self.settle(set, g);
         }
-    }
-
-    // Writes what a commodity risks before credits and as long as there are none, and its numbers for the credits, by its
-    // nets.
-    fn write_numbers(&mut self, set: &ParamSet, g: usize)
-        requires commodity { g < length set.now.commodities }
-        requires brought { IsBrought set.now g self.old }
-        ensures parts { AreParts set.now self.new }
-        ensures unformed { AreUnformed set.now self.new.nets self.new }
-        ensures risks { (k : ℕ) → k < length set.now.commodities → value_at self.new.risks k ≡ worked_risk self.new k }
-        ensures nets { self.new.nets ≡ self.old.nets }
-    {
-        let numbers = self.kept.risks(g);
-        self.write_charge(set, g, numbers.scan);
-        self.write_for_credits(set, g, numbers.price_risk2);
-        self.mend_uncredited(set, g);
-    }
-
-    // Writes the risk of the commodity at a place, while no spread credits anything.
-    fn mend_uncredited(&mut self, set: &ParamSet, g: usize)
-        requires unformed { AreUnformed set.now self.old.nets self.old }
-        requires parts { AreParts set.now self.old }
-        requires commodity { g < length set.now.commodities }
-        ensures { self.new ≡ with_risks self.old (slice_set self.old.risks g (worked_risk self.old g)) }
-    {
-        set.limits();
-        let row = self.kept.row(g);
-        let risk = row.charge.larger(row.minimum.cents());
-        self.kept.write_risk(g, risk);
-    }
-
-    // Writes the numbers of the commodity at a place for the credits.
-    fn write_for_credits(&mut self, set: &ParamSet, g: usize, doubled_risk: Cents)
-        requires parts { AreParts set.now self.old }
-        requires commodity { g < length set.now.commodities }
-        requires credits { AreFormed set.now 0 self.old.credits }
-        requires doubled_risk { doubled_risk ≡ price_risk2 (scenario_total g (positions set.now.contracts self.old.nets)) }
-        requires not_negative { pos 0 ≤ℤ doubled_risk }
-        requires small { unsigned_abs doubled_risk ≤ 11 * 10 ^ 17 }
-        ensures written { self.new ≡ with_credits self.old self.new.credits }
-        ensures credits { AreFormed set.now 0 self.new.credits }
-        ensures net_deltas { self.new.credits.deltas ≡ slice_set self.old.credits.deltas g
-            (net_delta set.now.months (positions set.now.contracts self.old.nets) g) }
-        ensures price_risks { self.new.credits.risks ≡ slice_set self.old.credits.risks g
-            (unsigned_abs (price_risk2 (scenario_total g (positions set.now.contracts self.old.nets)))) }
-    {
-        let delta = self.kept.row(g).tier.net_delta();
-        self.credits.write(set, g, delta, doubled_risk);
-    }
-
-    // Forms the spreads, once the numbers of all commodities are written, and tells which of them credit something.
-    fn form_credits(&mut self, set: &ParamSet) -> Reworked
-        requires parts { AreParts set.now self.old }
-        requires unformed { AreUnformed set.now self.old.nets self.old }
-        ensures written { self.new ≡ with_credits self.old self.new.credits }
-        ensures ready { IsReady set.now self.new }
-        ensures places { All (λ i. i < length set.now.credits) result }
-        ensures others { (k : ℕ) → named k set.now.credits result ≡ false →
-            slice_index self.new.credits.credits k ≡ slice_index self.old.credits.credits k }
-    {
-        self.credits.form_all(set)
-    }
-
-    // Brings credits and risks after the numbers that were written.
-    fn settle_all(&mut self, set: &ParamSet)
-        requires parts { AreParts set.now self.old }
-        requires unformed { AreUnformed set.now self.old.nets self.old }
-        requires risks { (k : ℕ) → k < length set.now.commodities → value_at self.old.risks k ≡ worked_risk self.old k }
-        ensures portfolio { IsPortfolio set.now self.new }
-        ensures nets { self.new.nets ≡ self.old.nets }
-    {
-        let credited = self.form_credits(set);
-        self.mend_spreads(set, credited);
     }
 
     // Changes a net, and the totals, sums and stages after it.
@@ -377,8 +301,6 @@ impl Portfolio {
     }
 
     // Writes the risks of the commodities that the spreads at some places name.
-    // (mostly there is none)
-    #[inline(always)]
     fn mend_spreads(&mut self, set: &ParamSet, places: Reworked)
         requires ready { IsReady set.now self.old }
         requires risks { length self.old.risks ≡ length set.now.commodities }

@@ -5,7 +5,6 @@ pub mod GatherLemmas
 pub mod SpreadLemmas
 pub mod StateLemmas
 pub mod TurnLemmas
-pub mod FormLemmas
 pub mod ReworkedLemmas
 pub mod ToldLemmas
 pub mod PlacesLemmas

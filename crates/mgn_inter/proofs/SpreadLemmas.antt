@@ -194,12 +194,11 @@ kept_small deltas risks rests s k n g numbers are count limits is =
 fits_none : (a_long : Bool) (rests : List ℤ) (leg : Leg) → value_at rests leg.commodity ≡ pos 0 → fits a_long rests leg ≡ false
 fits_none a_long rests leg h = rw h (either_is (is_long a_long leg.side) false false false (λ e. refl) (λ e. refl))
 
-pub forms_none : (rests : List ℤ) (legs : List Leg) → list_any (λ leg. is_side_a leg.side) legs ≡ true → ((j : ℕ) → j < length legs → value_at rests (leg_at legs j).commodity ≡ pos 0) → forms rests legs ≡ false
+forms_none : (rests : List ℤ) (legs : List Leg) → list_any (λ leg. is_side_a leg.side) legs ≡ true → ((g : ℕ) → value_at rests g ≡ pos 0) → forms rests legs ≡ false
 forms_none rests [] some none = absurd (false≢true some)
 forms_none rests (leg ∷ legs) some none =
-    let first : value_at rests leg.commodity ≡ pos 0 = none 0 (omega arith) in
-    rw (fits_none true rests leg first, fits_none false rests leg first) refl
+    rw (fits_none true rests leg (none leg.commodity), fits_none false rests leg (none leg.commodity)) refl
 
 pub formed_none : (deltas : List ℤ) (risks : List ℕ) (now : List ℤ × List ℕ) (s : CreditSpread) → list_any (λ leg. is_side_a leg.side) (legs_of s) ≡ true → ((g : ℕ) → value_at now.0 g ≡ pos 0) → formed deltas risks now s ≡ now
 formed_none deltas risks now s some none =
-    formed_no deltas risks now s (forms_none now.0 (legs_of s) some (λ j low. none (leg_at (legs_of s) j).commodity))
+    formed_no deltas risks now s (forms_none now.0 (legs_of s) some none)

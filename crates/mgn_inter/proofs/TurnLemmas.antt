@@ -22,7 +22,7 @@ use Rattle.mgn_inter.specs.declared.spread_state.SpreadState.{SpreadState}
 use Rattle.mgn_inter.specs.Sizes.{IsRisk}
 use Rattle.mgn_inter.specs.Credited.{AreCreditsOf, IsAtTurn}
 use Rattle.mgn_inter.specs.Rows.{AreBrought, AreMarked, AreRestsOf, AreWritten, Credited, AreWaiting, IsKept, kept_at, Misses, moved_at, names, nothing_kept, reached, rests_at, share_at, share_of, state_of}
-use Rattle.mgn_span.specs.Words.{AreNear, AreNumbers, leg_at}
+use Rattle.mgn_span.specs.Words.{AreNear, leg_at}
 use Rattle.mgn_inter.specs.Shares.{shares}
 use Rattle.mgn_inter.proofs.LegLemmas.{Agree, AgreeOn, named_all, share_out}
 use Rattle.mgn_inter.proofs.SpreadLemmas.{formed_out, formed_same, kept_same, kept_small}
@@ -218,7 +218,7 @@ pub turn_others : (legs : List Leg) (old own credits was : List ℕ) (k : ℕ) �
 turn_others legs old own credits was k sum out = omega (arith, sum, share_out k legs old out, share_out k legs own out)
 
 -- the credits of the definition are those of all spreads
-pub all_spreads : (deltas : List ℤ) (risks : List ℕ) (spreads : List CreditSpread) → (state_of deltas risks (take (length spreads) spreads)).1 ≡ credits_of deltas risks spreads
+all_spreads : (deltas : List ℤ) (risks : List ℕ) (spreads : List CreditSpread) → (state_of deltas risks (take (length spreads) spreads)).1 ≡ credits_of deltas risks spreads
 all_spreads deltas risks spreads =
     ap (λ (ss : List CreditSpread). (state_of deltas risks ss).1) (take_all (length spreads) spreads (omega arith))
 
@@ -239,24 +239,21 @@ mark_other g k other =
     (λ (past : 256 ≤ k). get_or_past {X = Bool} (replicate {A = Bool} 256 false) k false (omega (arith, length-replicate {A = Bool} 256 false)))
     (cases_lt k 256)
 
--- the numbers of a commodity are written
-pub numbers_written : (deltas : List ℤ) (risks : List ℕ) (g : ℕ) (d : ℤ) (x : ℕ) → AreNumbers deltas risks → g < length deltas → IsDelta d → IsRisk x → AreNumbers (slice_set deltas g d) (slice_set risks g x)
-numbers_written deltas risks g d x are low small risk = record {
-  one_each = length-set risks g x ∙ are.one_each ∙ sym (length-set deltas g d);
-  small_deltas = All-set IsDelta deltas g d small are.small_deltas;
-  small_risks = λ k.
-      ⊎_elim
-      (λ (here : k ≡ g). rw (here, get_or-set_same risks g x 0 (omega (arith, are.one_each, low))) risk)
-      (λ (other : k ≢ g). rw (get_or-set_other risks g k x 0 other) (are.small_risks k))
-      (cases_eq k g);
-}
-
 pub turn_first : (set : Tables) (g : ℕ) (was : Credited) (d : ℤ) (x : ℕ) → IsWithinLimits set → AreCreditsOf set was → g < length set.commodities → IsDelta d → IsRisk x → IsAtTurn set g was (slice_set (replicate 256 false) g true) 0 (record was { deltas = slice_set was.deltas g d; risks = slice_set was.risks g x; rests = slice_set was.rests g d })
 turn_first set g was d x limits are low small risk = record {
   fewer = omega arith;
   one_each = length-set was.deltas g d ∙ are.one_each;
   one_was_each = are.one_each;
-  numbers = numbers_written was.deltas was.risks g d x are.numbers (omega (arith, are.one_each, low)) small risk;
+  numbers = record {
+    one_each = length-set was.risks g x ∙ are.numbers.one_each ∙ sym (length-set was.deltas g d);
+    small_deltas = All-set IsDelta was.deltas g d small are.numbers.small_deltas;
+    small_risks = λ k.
+        ⊎_elim
+        (λ (here : k ≡ g).
+        rw (here, get_or-set_same was.risks g x 0 (omega (arith, are.numbers.one_each, are.one_each, low))) risk)
+        (λ (other : k ≢ g). rw (get_or-set_other was.risks g k x 0 other) (are.numbers.small_risks k))
+        (cases_eq k g);
+  };
   were = are.numbers;
   deltas = λ k other. get_or-set_other was.deltas g k d (pos 0) other;
   risks = λ k other. get_or-set_other was.risks g k x 0 other;

@@ -10,5 +10,4 @@ credited_of c = record {
   rests = rests_in c.numbers;
   credits = credits_in c.numbers;
   kept = c.kept;
-  waiting = c.waiting;
 }

@@ -1,9 +1,9 @@
 -- Credits for a set.
-use Rattle.std.specs.Prelude.{ℕ, ◌≡◌, ◌≢◌, ◌<◌, ◌≤◌, ◌*◌, ◌^◌, if◌then◌else◌, Bool, List, length, pos, slice_index, take}
+use Rattle.std.specs.Prelude.{ℕ, ◌≡◌, ◌≢◌, ◌<◌, ◌≤◌, ◌*◌, ◌^◌, if◌then◌else◌, Bool, List, length, slice_index}
 use Rattle.mgn_params.specs.Tables.{Tables, credit_spread_at}
 use Rattle.mgn_span.specs.Credits.{credits_of}
 use Rattle.mgn_span.specs.Scan.{value_at}
-use Rattle.mgn_inter.specs.Rows.{Credited, IsKept, Misses, kept_at, moved_at, nothing_kept, rests_at, state_of}
+use Rattle.mgn_inter.specs.Rows.{Credited, IsKept, kept_at, moved_at, rests_at}
 use Rattle.mgn_span.specs.Words.{AreNumbers}
 use Rattle.mgn_inter.specs.Shares.{shares}
 
@@ -25,18 +25,6 @@ pub record AreCreditsOf (set : Tables) (c : Credited) : Type 0 where
   pub one_kept_each : length c.kept ≡ length set.credits
   pub kept : (i : ℕ) → i < length set.credits → IsKept c.deltas c.risks (rests_at c.deltas c.risks set.credits i) (credit_spread_at set.credits i) (kept_at c.kept i)
   pub small : (g : ℕ) → slice_index c.credits g ≤ 256 * 10 ^ 33
-
--- of numbers that were written where nothing was held, so many spreads are formed: rests and credits are those after them,
--- and nothing is kept of the others; those that name a commodity with a net delta wait
-pub record AreFormed (set : Tables) (i : ℕ) (c : Credited) : Type 0 where
-  pub fewer : i ≤ length set.credits
-  pub one_each : length c.deltas ≡ length set.commodities
-  pub numbers : AreNumbers c.deltas c.risks
-  pub state : state_of c.deltas c.risks (take i set.credits) ≡ (c.rests, c.credits)
-  pub one_kept_each : length c.kept ≡ length set.credits
-  pub done : (j : ℕ) → j < i → IsKept c.deltas c.risks (rests_at c.deltas c.risks set.credits j) (credit_spread_at set.credits j) (kept_at c.kept j)
-  pub left : (j : ℕ) → i ≤ j → kept_at c.kept j ≡ nothing_kept
-  pub waits : (g : ℕ) → value_at c.deltas g ≢ pos 0 → Misses set.credits c.waiting g
 
 -- at the turn of the spread at a place, while the numbers of one commodity change: what is kept of the spreads before it is
 -- that of the new numbers, what is kept of the others is that of the old ones, and a rest at the turn is the old one where

@@ -80,15 +80,13 @@ pub record IsKept (deltas : List ℤ) (risks : List ℕ) (rests : List ℤ) (s :
 abbrev pub share_at : List CreditSpread → List SpreadState → ℕ → ℕ → ℕ
 share_at spreads kept g i = share_of g (legs_of (credit_spread_at spreads i)) (kept_at kept i).credits
 
--- the net deltas and doubled price risks, and what is kept by them; by the bits of `waiting`, the spreads that are to be
--- formed of numbers that are written where nothing was held
+-- the net deltas and doubled price risks, and what is kept by them
 pub record Credited : Type 0 where
   pub deltas : List ℤ
   pub risks : List ℕ
   pub rests : List ℤ
   pub credits : List ℕ
   pub kept : List SpreadState
-  pub waiting : ℕ
 
 -- no spread but those at some places, by their bits, names the commodity
 abbrev pub Misses : List CreditSpread → ℕ → ℕ → Type 0

@@ -1,9 +1,8 @@
 ghost use Rattle.std.specs.Prelude.{◌≡◌, ◌≢◌, ◌↔◌, ℕ, ◌+◌, ◌*◌, ◌^◌, ◌<◌, ◌≤◌, ◌≤ℤ◌, true, false, pos, unsigned_abs, [], ◌∷◌, ◌++◌, if◌then◌else◌, length, replicate, slice_index, slice_set, All, IfOk, IsTrue, min};
-ghost use Rattle.std.specs.Int.{bit_at};
 ghost use Rattle.std.specs.List.{Contains};
 ghost use Rattle.std.specs.List.Sorted.{IsStrictlyIncreasing};
-ghost use Rattle.mgn_inter.specs.Credited.{AreCreditRows, AreCreditsOf, AreFormed, IsAtTurn};
-ghost use Rattle.mgn_inter.specs.Rows.{Credited, IsNextOf, AreWaiting, KeepsNumbers, kept_at, Misses, moved_at, named, names};
+ghost use Rattle.mgn_inter.specs.Credited.{AreCreditRows, AreCreditsOf, IsAtTurn};
+ghost use Rattle.mgn_inter.specs.Rows.{Credited, IsNextOf, AreWaiting, KeepsNumbers, kept_at, moved_at, named, names};
 ghost use Rattle.mgn_inter.specs.Quiet.{AreAlike, IsMoved, NoneForms};
 ghost use Rattle.mgn_inter.specs.Sizes.{IsRisk};
 ghost use Rattle.mgn_inter.specs.Told.{credits_at, credits_else, told_of};
@@ -14,12 +13,12 @@ ghost use Rattle.mgn_span.specs.Scan.{value_at};
 ghost use Rattle.mgn_span.specs.Sizes.{IsDelta};
 
 use crate::commodity_numbers::CommodityNumbers;
-use crate::naming::{and_named, await_moved, first_place, next_place, spread_at};
+use crate::naming::{await_moved, first_place, next_place, spread_at};
 use crate::numbers::{numbers_at, write_numbers};
 use crate::reworked::Reworked;
 use crate::rows::{
-    bring_rests, change_credits, form_spread, form_state, have_same_sign, kept_forms, mark_moved,
-    move_rest, use_state, write_rests,
+    bring_rests, change_credits, form_spread, have_same_sign, kept_forms, mark_moved, move_rest,
+    write_rests,
 };
 use crate::spread_state::SpreadState;
 use mgn_num::{Cents, TenThousandths};
@@ -42,8 +41,6 @@ pub struct InterCredits {
     numbers: SparseRows<CommodityNumbers>,
     // Kept are the states of spreads that name a commodity which was refreshed.
     kept: SparseRows<SpreadState>,
-    // Bit `i` stands for the spread at place `i`: whether it is to be formed of numbers that `write` has written.
-    waiting: u64,
 }
 
 impl Model for InterCredits {
@@ -60,7 +57,6 @@ impl InterCredits {
     /// Nothing held: each net delta and each price risk is 0. The only error is that memory was refused.
     pub fn new(alloc: Global, set: &ParamSet) -> Result<InterCredits, AllocError>
         ensures of_set { IfOk result (AreCreditsOf set.now) }
-        ensures unformed { IfOk result (AreFormed set.now 0) }
         ensures net_deltas { IfOk result (λ c. c.deltas ≡ replicate (length set.now.commodities) (pos 0)) }
         ensures price_risks { IfOk result (λ c. c.risks ≡ replicate (length set.now.commodities) 0) }
     {
@@ -69,7 +65,6 @@ impl InterCredits {
         Ok(InterCredits {
             numbers: SparseRows::new(alloc, count, CommodityNumbers::NOTHING)?,
             kept: SparseRows::new(alloc, set.credits().len(), SpreadState::NOTHING)?,
-            waiting: 0,
         })
     }
 
@@ -84,14 +79,12 @@ impl InterCredits {
     pub fn flatten(&mut self, set: &ParamSet)
         requires { AreCreditRows set.now self.old }
         ensures of_set { AreCreditsOf set.now self.new }
-        ensures unformed { AreFormed set.now 0 self.new }
         ensures net_deltas { self.new.deltas ≡ replicate (length set.now.commodities) (pos 0) }
         ensures price_risks { self.new.risks ≡ replicate (length set.now.commodities) 0 }
     {
         set.limits();
         self.numbers.flatten(CommodityNumbers::NOTHING);
         self.kept.flatten(SpreadState::NOTHING);
-        self.waiting = 0;
     }
 
     // Writes the numbers of a commodity, and its net delta as its rest.
@@ -292,97 +285,6 @@ impl InterCredits {
         self.rework_reached(set, g, naming)
     }
 
-    /// Writes the numbers of the commodity at a place, as `refresh` takes them, where nothing was held. The spreads wait
-    /// until those of all commodities are written, for `form_all`.
-    pub fn write(&mut self, set: &ParamSet, g: usize, net_delta: TenThousandths, price_risk2: Cents)
-        requires unformed { AreFormed set.now 0 self.old }
-        requires commodity { g < length set.now.commodities }
-        requires net_delta { IsDelta net_delta }
-        requires not_negative { pos 0 ≤ℤ price_risk2 }
-        requires price_risk2 { IsRisk (unsigned_abs price_risk2) }
-        ensures net_deltas { self.new.deltas ≡ slice_set self.old.deltas g net_delta }
-        ensures price_risks { self.new.risks ≡ slice_set self.old.risks g (unsigned_abs price_risk2) }
-        ensures unformed { AreFormed set.now 0 self.new }
-    {
-        self.write_numbers(g, Delta::new(net_delta), price_risk2.size() as u64);
-        self.await_named(set, g);
-    }
-
-    // Has the spreads that name a commodity wait, beside those that do.
-    fn await_named(&mut self, set: &ParamSet, g: usize)
-        requires commodity { g < length set.now.commodities }
-        ensures written { self.new ≡ record self.old { waiting = self.new.waiting } }
-        ensures kept { (i : ℕ) → bit_at self.new.waiting i ≡ 0 → bit_at self.old.waiting i ≡ 0 }
-        ensures named { Misses set.now.credits self.new.waiting g }
-    {
-        self.waiting = and_named(self.waiting, set, g);
-    }
-
-    // The spreads that wait.
-    fn waiting(&self) -> u64
-        ensures { result ≡ self.now.waiting }
-    {
-        self.waiting
-    }
-
-    // Forms the spread at a place, once those before it are formed, and tells whether it credits something.
-    fn form(&mut self, set: &ParamSet, i: usize) -> bool
-        requires inside { i < length set.now.credits }
-        requires formed { AreFormed set.now i self.old }
-        ensures formed { AreFormed set.now (i + 1) self.new }
-        ensures numbers { KeepsNumbers self.old self.new }
-        ensures waiting { self.new.waiting ≡ self.old.waiting }
-        ensures others { (k : ℕ) → names k (legs_of (credit_spread_at set.now.credits i)) ≡ false →
-            slice_index self.new.credits k ≡ slice_index self.old.credits k }
-        ensures same { result ≡ false → (k : ℕ) → slice_index self.new.credits k ≡ slice_index self.old.credits k }
-    {
-        set.limits();
-        let spread = spread_at(set.credits(), i);
-        let kept = self.kept.row_mut(i);
-        form_state(&self.numbers, spread, kept);
-        use_state(&mut self.numbers, &spread.legs[..spread.count], kept)
-    }
-
-    // The same, and notes it.
-    fn form_next(&mut self, set: &ParamSet, i: usize, credited: &mut Reworked)
-        requires inside { i < length set.now.credits }
-        requires formed { AreFormed set.now i self.old }
-        requires behind { All (λ k. k < i) credited.old }
-        ensures formed { AreFormed set.now (i + 1) self.new }
-        ensures numbers { KeepsNumbers self.old self.new }
-        ensures waiting { self.new.waiting ≡ self.old.waiting }
-        ensures places { IsNextOf credited.old i credited.new }
-        ensures others { (k : ℕ) → named k set.now.credits credited.new ≡ false →
-            slice_index self.new.credits k ≡ slice_index self.old.credits k }
-    {
-        set.limits();
-        let is_told = self.form(set, i);
-        credited.tell(is_told, i);
-    }
-
-    /// Forms each spread of the numbers that were written, once and in order. Those that name no commodity with a net
-    /// delta cost nothing. The answer has the places of those that credit something: a commodity that none of them names
-    /// has no credit.
-    pub fn form_all(&mut self, set: &ParamSet) -> Reworked
-        requires unformed { AreFormed set.now 0 self.old }
-        ensures of_set { AreCreditsOf set.now self.new }
-        ensures numbers { KeepsNumbers self.old self.new }
-        ensures places { All (λ i. i < length set.now.credits) result }
-        ensures others { (k : ℕ) → named k set.now.credits result ≡ false →
-            slice_index self.new.credits k ≡ slice_index self.old.credits k }
-    {
-        set.limits();
-        let waiting = self.waiting();
-        let mut credited = Reworked::none();
-        let count = set.credits().len();
-        let mut place = first_place(waiting).min(count);
-        while place < count {
-            self.form_next(set, place, &mut credited);
-            place = next_place(waiting, place).min(count);
-        }
-        credited
-    }
-
     /// Takes over what is kept for a set that the rows fit. Takes no memory.
     pub fn copy_from(&mut self, others: &InterCredits)
         requires { (set : Tables) × AreCreditRows set self.old × AreCreditRows set others.now }
@@ -390,7 +292,6 @@ impl InterCredits {
     {
         self.numbers.copy_from(&others.numbers);
         self.kept.copy_from(&others.kept);
-        self.waiting = others.waiting;
     }
 
     /// What the intercommodity spreads credit to the commodity at a place, in cents.

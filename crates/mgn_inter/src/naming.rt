@@ -35,16 +35,7 @@ pub(crate) fn next_place(places: u64, place: usize) -> usize
     place + 1 + first_place(places >> place >> 1)
 }
 
-/// Some places with those of the spreads that name a commodity.
-pub(crate) fn and_named(places: u64, set: &ParamSet, g: usize) -> u64
-    requires { g < length set.now.commodities }
-    ensures kept { (i : ℕ) → bit_at result i ≡ 0 → bit_at places i ≡ 0 }
-    ensures named { (i : ℕ) → bit_at result i ≡ 0 → names g (legs_of (credit_spread_at set.now.credits i)) ≡ false }
-{
-    places | set.naming(g)
-}
-
-// The same, if its rest has moved.
+// Some places with those of the spreads that name a commodity, if its rest has moved.
 fn with_named(places: u64, set: &ParamSet, moved: &[bool], g: usize) -> u64
     requires mark { g < length moved.now }
     requires commodity { g < length set.now.commodities }
@@ -55,7 +46,7 @@ fn with_named(places: u64, set: &ParamSet, moved: &[bool], g: usize) -> u64
     if !moved[g] {
         return places;
     }
-    and_named(places, set, g)
+    places | set.naming(g)
 }
 
 /// Adds the spreads that name a leg's commodity whose rest has moved.

@@ -1,13 +1,13 @@
 //! The rows of the commodities while spreads are formed.
 
-ghost use Rattle.std.specs.Prelude.{◌≡◌, ℕ, ℤ, ◌+◌, ◌<◌, ◌≤◌, ◌^◌, ◌==◌, if◌then◌else◌, length, map, All, IsTrue, false, not, slice_index, List};
+ghost use Rattle.std.specs.Prelude.{◌≡◌, ℕ, ℤ, ◌+◌, ◌<◌, ◌≤◌, ◌^◌, ◌==◌, if◌then◌else◌, length, map, All, IsTrue, not, slice_index, List};
 ghost use Rattle.std.specs.List.{IsDistinct, list_all};
 ghost use Rattle.std.specs.Str.{bytes_eq};
 ghost use Rattle.mgn_inter.specs.Columns.{credits_in, deltas_in, KeepsRisks, rests_in, risks_in};
 ghost use Rattle.mgn_inter.specs.Gathered.{IsGathered};
 ghost use Rattle.mgn_inter.specs.Quiet.{AreAlike, IsMoved};
-ghost use Rattle.mgn_inter.specs.Rows.{AreBrought, AreMarked, AreRestsOf, AreWritten, IsKept, moved_at, names, share_of};
-ghost use Rattle.mgn_span.specs.Words.{AreNear, AreNumbers, AreRests};
+ghost use Rattle.mgn_inter.specs.Rows.{AreBrought, AreMarked, AreRestsOf, AreWritten, IsKept, moved_at, share_of};
+ghost use Rattle.mgn_span.specs.Words.{AreNear, AreNumbers};
 ghost use Rattle.mgn_span.specs.Credits.{fits, forms};
 ghost use Rattle.mgn_params.specs.Limits.{IsCreditSpread};
 ghost use Rattle.mgn_span.specs.Scan.{value_at};
@@ -81,8 +81,6 @@ fn gather(numbers: &SparseRows<CommodityNumbers>, spread: &CreditSpread) -> Gath
 }
 
 /// Forms a spread, if it can be: takes what it uses off its legs' rests, and tells what its legs are credited.
-// (most cannot, and then a call would cost more than the look)
-#[inline(always)]
 pub(crate) fn form_spread(
     numbers: &SparseRows<CommodityNumbers>,
     rests: &mut [Delta; 4],
@@ -104,76 +102,6 @@ pub(crate) fn form_spread(
     let credits = credits_of_legs(&own.deltas, &own.risks, &spread.rate, &amount, legs);
     use_rests(rests, &amount, legs);
     credits
-}
-
-/// Forms a spread of the rests of its legs' rows, and keeps what comes of it where nothing was kept.
-pub(crate) fn form_state(
-    numbers: &SparseRows<CommodityNumbers>,
-    spread: &CreditSpread,
-    state: &mut SpreadState,
-)
-    requires few { length numbers.now ≤ 256 }
-    requires spread { IsCreditSpread (length numbers.now) spread.now }
-    requires numbers { AreNumbers (deltas_in numbers.now) (risks_in numbers.now) }
-    requires near { AreRests (deltas_in numbers.now) (rests_in numbers.now) }
-    ensures { IsKept (deltas_in numbers.now) (risks_in numbers.now) (rests_in numbers.now) spread.now state.new }
-{
-    let legs = &spread.legs[..spread.count];
-    bring_rests(&[true; 256], numbers, legs, &mut state.rests);
-    state.after = state.rests;
-    state.credits = form_spread(numbers, &mut state.after, spread);
-}
-
-// Gives the legs' commodities other rests. Where these are the same no row is touched.
-fn change_rests(
-    numbers: &mut SparseRows<CommodityNumbers>,
-    legs: &[Leg],
-    old: &[Delta; 4],
-    new: &[Delta; 4],
-)
-    requires few { length numbers.old ≤ 256 }
-    requires four { length legs.now ≤ 4 }
-    requires legs { All (λ leg. leg.commodity < length numbers.old) legs.now }
-    requires apart { IsDistinct (λ g h. g == h) (map (λ leg. leg.commodity) legs.now) }
-    requires old { AreRestsOf legs.now (rests_in numbers.old) old.now }
-    ensures long { length numbers.new ≡ length numbers.old }
-    ensures numbers { KeepsRisks numbers.old numbers.new }
-    ensures credits { credits_in numbers.new ≡ credits_in numbers.old }
-    ensures rests { AreRestsOf legs.now (rests_in numbers.new) new.now }
-    ensures others { (g : ℕ) → names g legs.now ≡ false →
-        value_at (rests_in numbers.new) g ≡ value_at (rests_in numbers.old) g }
-{
-    if *old != *new {
-        write_rests(numbers, &[true; 256], legs, new);
-    }
-}
-
-/// Brings the rests and the credits of the legs' rows after a spread that is formed for the first time, and tells
-/// whether it credits something.
-pub(crate) fn use_state(
-    numbers: &mut SparseRows<CommodityNumbers>,
-    legs: &[Leg],
-    state: &SpreadState,
-) -> bool
-    requires few { length numbers.old ≤ 256 }
-    requires four { length legs.now ≤ 4 }
-    requires legs { All (λ leg. leg.commodity < length numbers.old) legs.now }
-    requires apart { IsDistinct (λ g h. g == h) (map (λ leg. leg.commodity) legs.now) }
-    requires rests { AreRestsOf legs.now (rests_in numbers.old) state.now.rests }
-    requires small { (g : ℕ) → share_of g legs.now state.now.credits ≤ 10 ^ 36 }
-    requires room { (g : ℕ) → slice_index (credits_in numbers.old) g ≤ 10 ^ 36 }
-    ensures long { length numbers.new ≡ length numbers.old }
-    ensures numbers { KeepsRisks numbers.old numbers.new }
-    ensures rests { AreRestsOf legs.now (rests_in numbers.new) state.now.after }
-    ensures others { (g : ℕ) → names g legs.now ≡ false →
-        value_at (rests_in numbers.new) g ≡ value_at (rests_in numbers.old) g }
-    ensures credits { (g : ℕ) → slice_index (credits_in numbers.new) g ≡
-        slice_index (credits_in numbers.old) g + share_of g legs.now state.now.credits }
-    ensures same { result ≡ false → (g : ℕ) →
-        slice_index (credits_in numbers.new) g ≡ slice_index (credits_in numbers.old) g }
-{
-    change_rests(numbers, legs, &state.rests, &state.after);
-    change_credits(numbers, legs, &mut [0; 4], &state.credits)
 }
 
 // Takes the legs' old credits off, and adds the new ones.

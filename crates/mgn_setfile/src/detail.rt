@@ -4,7 +4,6 @@ ghost use Rattle.std.specs.Prelude.{◌≡◌, [], slice_index_or, Some};
 ghost use Rattle.csv.specs.Records.{fields_of};
 ghost use Rattle.mgn_setfile.specs.Words.{count_words, detail_words, has_whole_legs, kind_of, kind_words, misfit, misfit_of, other_side, side_words};
 
-use crate::fields::is_letter;
 use csv::ByteRecord;
 use mgn_params::LegSide;
 use std::fmt;
@@ -38,19 +37,19 @@ pub enum Detail {
 fn kind_of(letter: &[u8]) -> Option<RecordKind>
     ensures { result ≡ kind_of letter.now }
 {
-    if is_letter(letter, b'G') {
+    if letter == b"G".as_slice() {
         Some(RecordKind::Commodity)
-    } else if is_letter(letter, b'M') {
+    } else if letter == b"M".as_slice() {
         Some(RecordKind::Month)
-    } else if is_letter(letter, b'K') {
+    } else if letter == b"K".as_slice() {
         Some(RecordKind::Contract)
-    } else if is_letter(letter, b'S') {
+    } else if letter == b"S".as_slice() {
         Some(RecordKind::Spread)
-    } else if is_letter(letter, b'I') {
+    } else if letter == b"I".as_slice() {
         Some(RecordKind::CreditSpread)
-    } else if is_letter(letter, b'V') {
+    } else if letter == b"V".as_slice() {
         Some(RecordKind::Class)
-    } else if is_letter(letter, b'T') {
+    } else if letter == b"T".as_slice() {
         Some(RecordKind::Spot)
     } else {
         None
@@ -61,7 +60,7 @@ fn kind_of(letter: &[u8]) -> Option<RecordKind>
 fn other_side(first: &[u8]) -> LegSide
     ensures { result ≡ other_side first.now }
 {
-    if is_letter(first, b'A') {
+    if first == b"A".as_slice() {
         LegSide::B
     } else {
         LegSide::A

@@ -1,7 +1,6 @@
 //! One field of a record, which a fault names.
 
-ghost use Rattle.std.specs.Prelude.{◌≡◌, ◌≤◌, ◌^◌, ◌∷◌, [], IfOk, unsigned_abs};
-ghost use Rattle.std.specs.Str.{bytes_eq};
+ghost use Rattle.std.specs.Prelude.{◌≡◌, ◌≤◌, ◌^◌, IfOk, unsigned_abs};
 ghost use Rattle.mgn_setfile.specs.Fields.{field_kind, field_name, field_number, field_side, field_signed, field_style, in_field};
 
 use crate::fault::{Cause, RecordFault};
@@ -9,16 +8,6 @@ use crate::place::Field;
 use mgn_ids::{ClassName, CommodityName, ContractName, IdFault, SetName};
 use mgn_num::{NumFault, read_signed, read_unsigned};
 use mgn_params::{Kind, LegSide, Style};
-
-// Whether a word is this letter alone.
-pub(crate) fn is_letter(word: &[u8], letter: u8) -> bool
-    ensures { result ≡ bytes_eq word.now (letter ∷ []) }
-{
-    match word {
-        [only] => *only == letter,
-        _ => false,
-    }
-}
 
 #[tactic(auto, unfolding(crate::specs::Fields::field_name, crate::specs::Fields::in_field))]
 pub(crate) fn read_commodity_name(field: Field, word: &[u8]) -> Result<CommodityName, RecordFault>
@@ -100,11 +89,11 @@ pub(crate) fn read_number_of_size(field: Field, word: &[u8], high: u64) -> Resul
 pub(crate) fn read_kind(field: Field, word: &[u8]) -> Result<Kind, RecordFault>
     ensures { result ≡ in_field field (field_kind word.now) }
 {
-    if is_letter(word, b'F') {
+    if word == b"F".as_slice() {
         Ok(Kind::Future)
-    } else if is_letter(word, b'C') {
+    } else if word == b"C".as_slice() {
         Ok(Kind::Call)
-    } else if is_letter(word, b'P') {
+    } else if word == b"P".as_slice() {
         Ok(Kind::Put)
     } else {
         Err(RecordFault::at(field, Cause::Name))
@@ -115,12 +104,12 @@ pub(crate) fn read_kind(field: Field, word: &[u8]) -> Result<Kind, RecordFault>
 pub(crate) fn read_style(field: Field, kind: Kind, word: &[u8]) -> Result<Style, RecordFault>
     ensures { result ≡ in_field field (field_style kind word.now) }
 {
-    if is_letter(word, b'P') {
+    if word == b"P".as_slice() {
         match kind {
             Kind::Future => Err(RecordFault::at(field, Cause::Range)),
             Kind::Call | Kind::Put => Ok(Style::Premium),
         }
-    } else if is_letter(word, b'F') {
+    } else if word == b"F".as_slice() {
         Ok(Style::Other)
     } else {
         Err(RecordFault::at(field, Cause::Name))
@@ -131,9 +120,9 @@ pub(crate) fn read_style(field: Field, kind: Kind, word: &[u8]) -> Result<Style,
 pub(crate) fn read_side(field: Field, word: &[u8]) -> Result<LegSide, RecordFault>
     ensures { result ≡ in_field field (field_side word.now) }
 {
-    if is_letter(word, b'A') {
+    if word == b"A".as_slice() {
         Ok(LegSide::A)
-    } else if is_letter(word, b'B') {
+    } else if word == b"B".as_slice() {
         Ok(LegSide::B)
     } else {
         Err(RecordFault::at(field, Cause::Name))

@@ -11,7 +11,7 @@ use crate::credits::read_credit_spread;
 use crate::detail::{Detail, misfit_of};
 use crate::draft::{Draft, SetFile};
 use crate::fault::{Cause, RecordFault, SetFault};
-use crate::fields::{is_letter, read_set_name};
+use crate::fields::read_set_name;
 use crate::line::{SHORT_RECORD, fields, short_fields};
 use crate::place::Field;
 use crate::plain::is_plain;
@@ -118,13 +118,13 @@ fn add_other(
     ensures ok { OnOk result (with_other version rows.old kind.now (map (λ s. s.now) args.now) ≡ Ok rows.new) }
     ensures err { IfErr result (λ e. (e.cause ≡ Cause.Memory) ⊎ (with_other version rows.old kind.now (map (λ s. s.now) args.now) ≡ Err e)) }
 {
-    if is_letter(kind, b'I') {
+    if kind == b"I".as_slice() {
         add_credit_spread(alloc, rows, args)
-    } else if is_letter(kind, b'V') {
+    } else if kind == b"V".as_slice() {
         add_class(rows, args)
-    } else if is_letter(kind, b'T') {
+    } else if kind == b"T".as_slice() {
         add_spot_of(version, rows, args)
-    } else if is_letter(kind, b'H') {
+    } else if kind == b"H".as_slice() {
         Err(RecordFault::whole(Cause::Header))
     } else {
         Err(RecordFault::at(Field::Kind, Cause::Fields))
@@ -142,13 +142,13 @@ fn add_record(
     ensures ok { OnOk result (with_record version rows.old kind.now (map (λ s. s.now) args.now) ≡ Ok rows.new) }
     ensures err { IfErr result (λ e. (e.cause ≡ Cause.Memory) ⊎ (with_record version rows.old kind.now (map (λ s. s.now) args.now) ≡ Err e)) }
 {
-    if is_letter(kind, b'G') {
+    if kind == b"G".as_slice() {
         add_commodity(rows, args)
-    } else if is_letter(kind, b'M') {
+    } else if kind == b"M".as_slice() {
         add_month(rows, args)
-    } else if is_letter(kind, b'K') {
+    } else if kind == b"K".as_slice() {
         add_contract(rows, args)
-    } else if is_letter(kind, b'S') {
+    } else if kind == b"S".as_slice() {
         add_spread(rows, args)
     } else {
         add_other(alloc, version, rows, kind, args)
@@ -176,9 +176,9 @@ fn add_later(
 fn read_version(field: Field, word: &[u8]) -> Result<u64, RecordFault>
     ensures { result ≡ in_field field (version_of word.now) }
 {
-    if is_letter(word, b'1') {
+    if word == b"1".as_slice() {
         Ok(1)
-    } else if is_letter(word, b'2') {
+    } else if word == b"2".as_slice() {
         Ok(2)
     } else {
         Err(RecordFault::at(field, Cause::Header))
@@ -189,7 +189,7 @@ fn read_version(field: Field, word: &[u8]) -> Result<u64, RecordFault>
 fn head_from(alloc: Global, kind: &[u8], version: &[u8], name: &[u8]) -> Result<Draft, RecordFault>
     ensures { result ≡ head_from kind.now version.now name.now }
 {
-    if !is_letter(kind, b'H') {
+    if kind != b"H".as_slice() {
         return Err(RecordFault::whole(Cause::Header));
     }
     let version = read_version(Field::Header(2), version)?;

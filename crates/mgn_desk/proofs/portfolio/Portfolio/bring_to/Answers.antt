@@ -1,12 +1,10 @@
-use Rattle.std.proofs.Common.{◌≡◌, ◌≢◌, ◌<◌, ◌≤◌, ◌∙◌, ℕ, ℤ, List, ap, get_or-set_other, get_or-set_same, length, pos, replicate, arith, rules, sym, ⊎_elim}
-use Rattle.std.specs.Prelude.{◌+ℤ◌}
-use Rattle.std.proofs.lemmas.Bool.{cases_eq, cases_lt}
-use Rattle.std.proofs.lemmas.Int.{ints}
+use Rattle.std.proofs.Common.{◌≡◌, ◌<◌, ◌≤◌, ◌∙◌, ℕ, ℤ, List, ap, length, pos, replicate, arith, rules, sym, ⊎_elim}
+use Rattle.std.proofs.lemmas.Bool.{cases_lt}
 use Rattle.std.proofs.lemmas.List.{ext_get_or}
-use Rattle.mgn_params.specs.Tables.{contract_at, no_contract}
+use Rattle.mgn_params.specs.Tables.{no_contract}
 use Rattle.mgn_span.specs.Scan.{value_at}
 use Rattle.mgn_tiers.proofs.StartLemmas.{none_at}
-use Rattle.mgn_desk.proofs.BringLemmas.{brought_moved, brought_none}
+use Rattle.mgn_desk.proofs.WorkedLemmas.{behind_none}
 use Rattle.mgn_desk.proofs.portfolio.Portfolio.bring_to.Goals as goal
 
 -- nets of 0
@@ -23,36 +21,22 @@ returns-in_default-clause-nets c =
 pub loop-i-init : goal.loop-i-init
 loop-i-init c =
     let set' = c.args.set.now in
-    let old = c.args.self.now in
-    let nets = c.args.nets.now in
+    let old = c.args.self.now.nets in
     let n = length set'.contracts in
     let found = c.in-Some.ensures in
-    let first = c.in-Some.first in
-    let g = (contract_at set'.contracts first).commodity in
-    let inside : first < n = omega (arith, c.requires.one_each, found.found.1) in
-    let there : first < length old.nets = omega (arith, inside, c.requires.portfolio.ready.parts.totals.one_each) in
-    let moved = c.move_net.ensures in
-    let x = value_at old.nets first +ℤ c.at.result in
-    let net : x ≡ value_at nets first = omega (arith, ints, c.at.ensures, flat_at old.nets n first c.requires.flat) in
-    let row = λ (k : ℕ). ap (λ (xs : List ℤ). value_at xs k) moved.nets in
-    let other = λ (k : ℕ) (apart : k ≢ first). row k ∙ get_or-set_other old.nets first k x (pos 0) apart ∙ flat_at old.nets n k c.requires.flat in
+    let inside : c.in-Some.first < n = omega (arith, c.requires.one_each, found.found.1) in
     record {
-      commodity = rw c.contract_at.ensures (c.limits.ensures.contracts first no_contract inside).commodity;
-      brought = rw c.contract_at.ensures (brought_moved set' old c.move_net.new.self first c.at.result c.limits.ensures inside (brought_none set' g old c.requires.portfolio c.requires.unformed) moved.nets moved.parts moved.rest);
-      done = λ k h.
-          ⊎_elim
-          (λ (here : k ≡ first). rw here (row first ∙ get_or-set_same old.nets first x (pos 0) there ∙ net))
-          (λ (apart : k ≢ first). other k apart ∙ sym (found.before k (omega arith) (omega (arith, h, apart))))
-          (cases_eq k first);
-      rest = λ k h. other k (λ e. omega (arith, e, h));
+      commodity = rw c.contract_at.ensures (c.limits.ensures.contracts c.in-Some.first no_contract inside).commodity;
+      behind = behind_none set' c.contract_at.result.now.commodity c.args.self.now c.requires.portfolio;
+      done = λ k h. flat_at old n k c.requires.flat ∙ sym (found.before k (omega arith) h);
+      rest = λ k h. flat_at old n k c.requires.flat;
     }
 
 pub returns-clause-nets : goal.returns-clause-nets
 returns-clause-nets c =
     let now = c.loop-i.self.nets in
-    let long : length now ≡ length c.args.nets.now = c.loop-i.invariant.brought.parts.totals.one_each ∙ sym c.requires.one_each in
-    let last = c.settle_all.ensures.nets ∙ c.write_numbers.ensures.nets in
-    last
+    let long : length now ≡ length c.args.nets.now = c.loop-i.invariant.behind.parts.totals.one_each ∙ sym c.requires.one_each in
+    c.settle.ensures.nets
     ∙ ext_get_or (pos 0) now c.args.nets.now long
     (λ k h.
     ⊎_elim

@@ -1,12 +1,12 @@
 use Rattle.std.proofs.Common.{◌≡◌, ◌-◌, ◌<◌, ◌≤◌, ℕ, length, pos}
 use Rattle.mgn_span.specs.Scan.{value_at}
-use Rattle.mgn_desk.specs.WorkedPortfolios.{IsBrought}
+use Rattle.mgn_desk.specs.WorkedPortfolios.{IsBehind}
 use Rattle.mgn_desk.proofs.portfolio.Portfolio.bring_to.Given as goal
 
 abbrev pub invariant-loop-i : goal.invariant-loop-i
 invariant-loop-i l = record {
   commodity : l.behind < length l.set.commodities;
-  brought : IsBrought l.set l.behind l.self;
+  behind : IsBehind l.set l.behind l.self;
   done : (k : ℕ) → k < l.from → value_at l.self.nets k ≡ value_at l.nets k;
   rest : (k : ℕ) → l.from ≤ k → value_at l.self.nets k ≡ pos 0;
 }

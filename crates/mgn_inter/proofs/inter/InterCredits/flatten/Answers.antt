@@ -6,7 +6,6 @@ use Rattle.mgn_inter.specs.CreditRows.{credited_of}
 use Rattle.mgn_inter.specs.Credited.{AreCreditRows}
 use Rattle.mgn_inter.specs.Rows.{nothing_kept}
 use Rattle.mgn_inter.proofs.ColumnLemmas.{AreFlat, rows_flat}
-use Rattle.mgn_inter.proofs.FormLemmas.{formed_flat}
 use Rattle.mgn_inter.proofs.TurnLemmas.{credits_none}
 use Rattle.mgn_inter.proofs.inter.InterCredits.flatten.Goals as goal
 use Rattle.mgn_inter.proofs.inter.InterCredits.flatten.Goals.{After-flatten-2}
@@ -21,20 +20,10 @@ flat c =
 
 pub returns-clause-of_set : goal.returns-clause-of_set
 returns-clause-of_set c =
-    let at = (goal.at.returns-clause-of_set c).After-flatten-2 in
-    credits_none c.args.set.now _ c.limits.ensures (flat at).deltas (flat at).risks (flat at).rests (flat at).credits (c.flatten-2.ensures ∙ ap (λ (n : ℕ). replicate n nothing_kept) (fits at).kept)
-
-pub returns-clause-unformed : goal.returns-clause-unformed
-returns-clause-unformed c =
-    let at = (goal.at.returns-clause-unformed c).After-flatten-2 in
-    formed_flat c.args.set.now _ c.limits.ensures (flat at).deltas (flat at).risks (flat at).rests (flat at).credits (c.flatten-2.ensures ∙ ap (λ (n : ℕ). replicate n nothing_kept) (fits at).kept)
+    credits_none c.args.set.now _ c.limits.ensures (flat c).deltas (flat c).risks (flat c).rests (flat c).credits (c.flatten-2.ensures ∙ ap (λ (n : ℕ). replicate n nothing_kept) (fits c).kept)
 
 pub returns-clause-net_deltas : goal.returns-clause-net_deltas
-returns-clause-net_deltas c =
-    let at = (goal.at.returns-clause-net_deltas c).After-flatten-2 in
-    (flat at).deltas
+returns-clause-net_deltas c = (flat c).deltas
 
 pub returns-clause-price_risks : goal.returns-clause-price_risks
-returns-clause-price_risks c =
-    let at = (goal.at.returns-clause-price_risks c).After-flatten-2 in
-    (flat at).risks
+returns-clause-price_risks c = (flat c).risks

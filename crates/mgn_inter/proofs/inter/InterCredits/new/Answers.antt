@@ -3,7 +3,6 @@ use Rattle.mgn_params.specs.declared.tables.CreditSpread.{CreditSpread}
 use Rattle.mgn_inter.specs.Columns.{no_numbers}
 use Rattle.mgn_inter.specs.Rows.{nothing_kept}
 use Rattle.mgn_inter.proofs.ColumnLemmas.{AreFlat, rows_flat}
-use Rattle.mgn_inter.proofs.FormLemmas.{formed_flat}
 use Rattle.mgn_inter.proofs.TurnLemmas.{credits_none}
 use Rattle.mgn_inter.proofs.inter.InterCredits.new.Goals as goal
 use Rattle.mgn_inter.proofs.inter.InterCredits.new.Goals.{In_ok-new-2}
@@ -16,11 +15,6 @@ pub returns-clause-of_set : goal.returns-clause-of_set
 returns-clause-of_set c =
     let spreads = ap (λ (ss : List CreditSpread). length ss) c.credits.ensures in
     credits_none c.args.set.now _ c.limits.ensures (flat c).deltas (flat c).risks (flat c).rests (flat c).credits (c.in_ok-new-2.ensures ∙ ap (λ (n : ℕ). replicate n nothing_kept) spreads)
-
-pub returns-clause-unformed : goal.returns-clause-unformed
-returns-clause-unformed c =
-    let spreads = ap (λ (ss : List CreditSpread). length ss) c.credits.ensures in
-    formed_flat c.args.set.now _ c.limits.ensures (flat c).deltas (flat c).risks (flat c).rests (flat c).credits (c.in_ok-new-2.ensures ∙ ap (λ (n : ℕ). replicate n nothing_kept) spreads)
 
 pub returns-clause-net_deltas : goal.returns-clause-net_deltas
 returns-clause-net_deltas c = (flat c).deltas
