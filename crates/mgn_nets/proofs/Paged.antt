@@ -407,3 +407,39 @@ page-within count starts cells row room is are page inside =
     let own : (page * 16) / 16 ≡ page = page-of page (page * 16) (omega arith) (omega arith) in
     let there = page-inside count starts are.pages (page * 16) (row-within count starts cells row is (page * 16) inside) in
     omega (arith, own, there)
+
+-- Two lists, page by page.
+
+pub same-in-page : (row row' : List ℤ) (at k : ℕ) → at ≤ k → value_at row ((at / 16) * 16 + (k - (at / 16) * 16)) ≡ value_at row' ((at / 16) * 16 + (k - (at / 16) * 16)) → value_at row k ≡ value_at row' k
+same-in-page row row' at k after same =
+    let here : (at / 16) * 16 + (k - (at / 16) * 16) ≡ k = omega (arith, after, div-add-mod' at 16) in
+    sym (ap (value_at row) here) ∙ same ∙ ap (value_at row') here
+
+-- what is different in a page is different in the lists, and stands before their end
+pub different-in : (row row' : List ℤ) (page : ℕ) (here there : ℕ → ℤ) → ((i : ℕ) → i < 16 → value_at row (page * 16 + i) ≡ here i) → ((i : ℕ) → i < 16 → value_at row' (page * 16 + i) ≡ there i) → (from : ℕ) (r : Option ℕ)
+    → IfSome r (λ place. (from ≤ place) × (place < 16)) → IfSome r (λ place. here place ≢ there place) → IfSome r (λ place. value_at row (page * 16 + place) ≢ value_at row' (page * 16 + place))
+different-in row row' page here there is is' from None found different = tt
+different-in row row' page here there is is' from (Some place) found different =
+    λ same. different (sym (is place found.1) ∙ same ∙ is' place found.1)
+
+pub before-in : (row row' : List ℤ) (page : ℕ) (here there : ℕ → ℤ) → ((i : ℕ) → i < 16 → value_at row (page * 16 + i) ≡ here i) → ((i : ℕ) → i < 16 → value_at row' (page * 16 + i) ≡ there i) → (from : ℕ) (r : Option ℕ)
+    → IfSome r (λ place. (from ≤ place) × (place < 16)) → IfSome r (λ place. (i : ℕ) → from ≤ i → i < place → here i ≡ there i) → IfSome r (λ place. (i : ℕ) → from ≤ i → i < place → value_at row (page * 16 + i) ≡ value_at row' (page * 16 + i))
+before-in row row' page here there is is' from None found before = tt
+before-in row row' page here there is is' from (Some place) found before =
+    λ i low less.
+    let small : i < 16 = omega (arith, less, found.1) in
+    is i small ∙ before i low less ∙ sym (is' i small)
+
+pub found-different : (row row' : List ℤ) → length row ≡ length row' → (page from : ℕ) (r : Option ℕ) → IfSome r (λ place. (from ≤ place) × (place < 16)) → IfSome r (λ place. value_at row (page * 16 + place) ≢ value_at row' (page * 16 + place))
+    → IfSome r (λ place. (from ≤ place) × (place < 16) × (page * 16 + place < length row))
+found-different row row' long page from None found different = tt
+found-different row row' long page from (Some place) found different =
+    (found.0, found.1, within)
+  where
+    within : page * 16 + place < length row
+    within =
+        ⊎_elim
+        (λ (inside : page * 16 + place < length row). inside)
+        (λ (past : length row ≤ page * 16 + place).
+        absurd (different (get_or_past row (page * 16 + place) (pos 0) past ∙ sym (get_or_past row' (page * 16 + place) (pos 0) (omega (arith, past, long))))))
+        (cases_lt (page * 16 + place) (length row))

@@ -5,7 +5,8 @@ ghost use Rattle.mgn_span.specs.Scan.{value_at};
 ghost use Rattle.mgn_nets.specs.Numbers.{number_at};
 
 use crate::pages::{
-    PAGE, add_to, are_same, cell_at, cell_count, held_from, next_kept, page_count, with_room,
+    PAGE, add_to, are_same, cell_at, cell_count, different_from, held_from, next_kept,
+    next_kept_in_one, page_count, with_room,
 };
 use mgn_num::Quantity;
 use std::alloc::{AllocError, Global};
@@ -184,6 +185,53 @@ impl Nets {
             return None;
         }
         held_from(&self.cells, start, from)
+    }
+
+    /// The first contract from one on with another quantity than a list that is as long.
+    pub fn next_different(&self, other: &Nets, from: usize) -> Option<usize>
+        requires { length self.now ≡ length other.now }
+        ensures found { IfSome result (λ c. (from ≤ c) × (c < length self.now)) }
+        ensures different { IfSome result (λ c. value_at self.now c ≢ value_at other.now c) }
+        ensures before { IfSome result (λ c. (k : ℕ) → from ≤ k → k < c → value_at self.now k ≡ value_at other.now k) }
+        ensures none { result ≡ None → (k : ℕ) → from ≤ k → value_at self.now k ≡ value_at other.now k }
+    {
+        let mut contract = from;
+        while contract < self.len() {
+            let page = contract / PAGE;
+            if let Some(place) = self.different_in(other, page, contract % PAGE) {
+                return Some(page * PAGE + place);
+            }
+            contract = self.kept_in_one_from(other, page + 1) * PAGE;
+        }
+        None
+    }
+
+    // The first page from one on that is kept in one of two lists at least, or how many pages there are.
+    fn kept_in_one_from(&self, other: &Nets, page: usize) -> usize
+        requires long { length self.now ≡ length other.now }
+        requires page { page * 16 < length self.now + 16 }
+        ensures from { page ≤ result }
+        ensures few { result ≤ 256 }
+        ensures passed { (k : ℕ) → page * 16 ≤ k → k < result * 16 → value_at self.now k ≡ value_at other.now k }
+    {
+        next_kept_in_one(&self.starts, &other.starts, page)
+    }
+
+    // The first place of a page from one on with another quantity than a list that is as long.
+    fn different_in(&self, other: &Nets, page: usize, from: usize) -> Option<usize>
+        requires long { length self.now ≡ length other.now }
+        requires page { page * 16 < length self.now }
+        ensures found { IfSome result (λ place. (from ≤ place) × (place < 16) × (page * 16 + place < length self.now)) }
+        ensures different { IfSome result (λ place. value_at self.now (page * 16 + place) ≢ value_at other.now (page * 16 + place)) }
+        ensures before { IfSome result (λ place. (i : ℕ) → from ≤ i → i < place →
+            value_at self.now (page * 16 + i) ≡ value_at other.now (page * 16 + i)) }
+        ensures none { result ≡ None → (i : ℕ) → from ≤ i → i < 16 →
+            value_at self.now (page * 16 + i) ≡ value_at other.now (page * 16 + i) }
+        ensures few { page < 256 }
+    {
+        let start = usize::from(self.starts[page]);
+        let other_start = usize::from(other.starts[page]);
+        different_from(&self.cells, start, &other.cells, other_start, from)
     }
 
     /// The quantity at a place, with another added. One of 0 is not looked for, and has no page kept.

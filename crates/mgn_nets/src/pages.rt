@@ -138,7 +138,7 @@ pub(crate) fn next_kept(starts: &[u16], from: usize) -> usize
 }
 
 // The first page from one on that is kept in one of two lists at least, or how many pages there are.
-fn next_kept_in_one(starts: &[u16], others: &[u16], from: usize) -> usize
+pub(crate) fn next_kept_in_one(starts: &[u16], others: &[u16], from: usize) -> usize
     requires long { length starts.now ≡ length others.now }
     requires inside { from ≤ length starts.now }
     ensures from { from ≤ result }
@@ -166,6 +166,31 @@ pub(crate) fn held_from(cells: &[Quantity], start: usize, from: usize) -> Option
 {
     for place in from..PAGE {
         if cells[start + place] != Quantity::ZERO {
+            return Some(place);
+        }
+    }
+    None
+}
+
+// The first place of a page from one on with another quantity than a page of another list.
+pub(crate) fn different_from(
+    cells: &[Quantity],
+    start: usize,
+    others: &[Quantity],
+    other_start: usize,
+    from: usize,
+) -> Option<usize>
+    requires inside { start + 16 ≤ length cells.now }
+    requires other_inside { other_start + 16 ≤ length others.now }
+    ensures found { IfSome result (λ place. (from ≤ place) × (place < 16)) }
+    ensures different { IfSome result (λ place. value_at cells.now (start + place) ≢ value_at others.now (other_start + place)) }
+    ensures before { IfSome result (λ place. (i : ℕ) → from ≤ i → i < place →
+        value_at cells.now (start + i) ≡ value_at others.now (other_start + i)) }
+    ensures none { result ≡ None → (i : ℕ) → from ≤ i → i < 16 →
+        value_at cells.now (start + i) ≡ value_at others.now (other_start + i) }
+{
+    for place in from..PAGE {
+        if cells[start + place] != others[other_start + place] {
             return Some(place);
         }
     }

@@ -1,4 +1,4 @@
-use Rattle.std.proofs.Common.{◌≡◌, ◌<◌, List, ap, arith, pos, rules, ℤ, ℕ}
+use Rattle.std.proofs.Common.{List, ap, arith, pos, rules, ℤ}
 use Rattle.std.proofs.lemmas.Bool.{true_from_ne_false}
 use Rattle.std.proofs.lemmas.List.{ext_get_or}
 use Rattle.mgn_span.specs.Scan.{value_at}

@@ -1,4 +1,4 @@
-use Rattle.std.proofs.Common.{◌≡◌, ◌≢◌, ◌<◌, ℕ, false, get_or, length, true}
+use Rattle.std.proofs.Common.{◌≡◌, ◌≢◌, ◌<◌, ℕ, false, get_or, true}
 use Rattle.mgn_nets.proofs.pages.are_same_starts.Given as goal
 
 abbrev pub invariant-loop-i : goal.invariant-loop-i
