@@ -1,5 +1,5 @@
 -- The four portfolios of a margin unit under one set.
-use Rattle.std.specs.Prelude.{ℕ, ◌≡◌, ◌≤◌, ◌+◌, ◌^◌, if◌then◌else◌, true, false, ℤ, neg_ℤ, ◌+ℤ◌, unsigned_abs, List}
+use Rattle.std.specs.Prelude.{ℕ, ◌≡◌, ◌≤◌, ◌+◌, ◌^◌, if◌then◌else◌, true, false, ℤ, neg_ℤ, ◌+ℤ◌, unsigned_abs}
 use Rattle.mgn_params.specs.Tables.{Tables}
 use Rattle.mgn_span.specs.Positions.{IsNet}
 use Rattle.mgn_span.specs.Requirement.{requirement}
@@ -42,17 +42,6 @@ pub record ArePortfolios (set : Tables) (p : UnitPortfolios) : Type 0 where
   pub buys : IsUnder set p.buys
   pub sales : IsUnder set p.sales
   pub all : IsUnder set p.all
-
--- a branch beside lots: under this set, and with these nets wherever the lots have theirs
-pub record IsBranch (set : Tables) (lots row : List ℤ) (b : Branch) : Type 0 where
-  pub under : IsUnder set b
-  pub nets : (p : WorkedPortfolio) → p.nets ≡ lots → (branch_of p b).nets ≡ row
-
--- the branches with buys, sales and all of these nets
-pub record AreBranches (set : Tables) (n : UnitNets) (three : Branch × Branch × Branch) : Type 0 where
-  pub buys : IsBranch set n.lots n.buys three.0
-  pub sales : IsBranch set n.lots n.sales three.1
-  pub all : IsBranch set n.lots n.all three.2
 
 -- those that are not apart move as the lots
 pub record AreParted (m : Moves) (p : UnitPortfolios) : Type 0 where

@@ -2,7 +2,7 @@ ghost use Rattle.std.specs.Prelude.{◌≡◌, ◌<◌, ◌+ℤ◌, length, true
 ghost use Rattle.mgn_params.specs.Tables.{Tables};
 ghost use Rattle.mgn_span.specs.Positions.{IsNet};
 ghost use Rattle.mgn_span.specs.Scan.{value_at};
-ghost use Rattle.mgn_desk.specs.WorkedPortfolios.{ArePortfolioRows, IsPortfolio, WorkedPortfolio};
+ghost use Rattle.mgn_desk.specs.WorkedPortfolios.{ArePortfolioRows, IsPortfolio};
 ghost use Rattle.mgn_desk.specs.Moved.{arrays_of_quantity, counted, more_of};
 
 use crate::portfolio::Portfolio;
@@ -22,42 +22,42 @@ pub(crate) struct Branch {
 impl Branch {
     ghost use Rattle.mgn_desk.specs.Portfolios.{IsUnder, branch_of};
 
-    // A branch with these nets beside those of the lots. The only error is that memory was refused.
+    // A branch with these nets beside the lots, as by `renew`. The only error is that memory was refused.
     pub fn of_nets(
         alloc: Global,
         set: &ParamSet,
-        lots: &Nets,
+        lots: &Portfolio,
+        near: &Portfolio,
         nets: &Nets,
     ) -> Result<Branch, AllocError>
+        requires near { IsPortfolio set.now near.now }
         requires one_each { length nets.now ≡ length set.now.contracts }
         requires nets { All IsNet nets.now }
         ensures portfolio { IfOk result (IsUnder set.now) }
-        ensures nets { IfOk result (λ b. (p : WorkedPortfolio) → p.nets ≡ lots.now → (branch_of p b).nets ≡ nets.now) }
-        ensures together { IfOk result (λ b. nets.now ≡ lots.now → b.apart ≡ false) }
+        ensures nets { IfOk result (λ b. (branch_of lots.now b).nets ≡ nets.now) }
+        ensures together { IfOk result (λ b. nets.now ≡ lots.now.nets → b.apart ≡ false) }
     {
-        if nets.is_same(lots) {
-            let own = Portfolio::new(alloc, set)?;
-            return Ok(Branch { own, apart: false });
-        }
-        let own = Portfolio::of_nets(alloc, set, nets)?;
-        Ok(Branch { own, apart: true })
+        let own = Portfolio::new(alloc, set)?;
+        let mut branch = Branch { own, apart: false };
+        branch.renew(set, lots, near, nets);
+        Ok(branch)
     }
 
-    // These nets beside those of the lots in place of its own, under a set that its rows fit. Takes no memory.
-    pub fn renew(&mut self, set: &ParamSet, lots: &Nets, nets: &Nets)
+    // These nets beside the lots in place of its own, by way of a portfolio that is near to them, under a set that its
+    // rows fit. Takes no memory.
+    pub fn renew(&mut self, set: &ParamSet, lots: &Portfolio, near: &Portfolio, nets: &Nets)
         requires rows { ArePortfolioRows set.now self.old.own }
+        requires near { IsPortfolio set.now near.now }
         requires one_each { length nets.now ≡ length set.now.contracts }
         requires nets { All IsNet nets.now }
         ensures portfolio { IsUnder set.now self.new }
-        ensures nets { (p : WorkedPortfolio) → p.nets ≡ lots.now → (branch_of p self.new).nets ≡ nets.now }
-        ensures together { nets.now ≡ lots.now → self.new.apart ≡ false }
+        ensures nets { (branch_of lots.now self.new).nets ≡ nets.now }
+        ensures together { nets.now ≡ lots.now.nets → self.new.apart ≡ false }
     {
-        if nets.is_same(lots) {
-            self.apart = false;
-            return;
+        self.apart = !nets.is_same(lots.nets());
+        if self.apart {
+            self.own.renew_from(set, near, nets);
         }
-        self.own.renew(set, nets);
-        self.apart = true;
     }
 
     // What is kept of it.

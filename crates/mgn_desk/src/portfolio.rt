@@ -96,30 +96,42 @@ impl Portfolio {
         self.bring_to(set, nets);
     }
 
-    // Brings nets of 0 to these.
-    fn bring_to(&mut self, set: &ParamSet, nets: &Nets)
-        requires portfolio { IsPortfolio set.now self.old }
-        requires flat { self.old.nets ≡ replicate (length set.now.contracts) (pos 0) }
+    // The same, by way of another portfolio: its nets that are these too are not brought anew.
+    pub(crate) fn renew_from(&mut self, set: &ParamSet, near: &Portfolio, nets: &Nets)
+        requires rows { ArePortfolioRows set.now self.old }
+        requires near { IsPortfolio set.now near.now }
         requires one_each { length nets.now ≡ length set.now.contracts }
         requires nets { All IsNet nets.now }
         ensures portfolio { IsPortfolio set.now self.new }
         ensures nets { self.new.nets ≡ nets.now }
     {
-        let Some(first) = nets.next_held(0) else {
+        self.copy_from(near);
+        self.bring_to(set, nets);
+    }
+
+    // Brings its nets to these.
+    fn bring_to(&mut self, set: &ParamSet, nets: &Nets)
+        requires portfolio { IsPortfolio set.now self.old }
+        requires one_each { length nets.now ≡ length set.now.contracts }
+        requires nets { All IsNet nets.now }
+        ensures portfolio { IsPortfolio set.now self.new }
+        ensures nets { self.new.nets ≡ nets.now }
+    {
+        let Some(first) = self.nets.next_different(nets, 0) else {
             return;
         };
         set.limits();
         let mut work = Work::new();
         let mut behind = set.contract_at(first).commodity;
         let mut from = first;
-        while let Some(i) = nets.next_held(from) {
+        while let Some(i) = self.nets.next_different(nets, from) {
             behind = self.bring_net(set, i, nets.at(i), behind, &mut work);
             from = i + 1;
         }
         self.settle(set, behind);
     }
 
-    // Brings a net of 0 to this one, while what hangs on the nets of a commodity waits. Tells the commodity of which it
+    // Brings a net to this one, while what hangs on the nets of a commodity waits. Tells the commodity of which it
     // waits then: neighbours are mostly of one commodity, and their nets are brought before what hangs on them.
     fn bring_net(
         &mut self,
@@ -132,18 +144,16 @@ impl Portfolio {
         requires commodity { g < length set.now.commodities }
         requires behind { IsBehind set.now g self.old }
         requires contract { i < length set.now.contracts }
-        requires net { IsNet (value_at self.old.nets i +ℤ net) }
+        requires net { IsNet net }
         ensures commodity { result < length set.now.commodities }
         ensures behind { IsBehind set.now result self.new }
-        ensures nets { self.new.nets ≡ more_of self.old.nets i net }
+        ensures nets { self.new.nets ≡ slice_set self.old.nets i net }
     {
-        if net.size() == 0 {
-            return g;
-        }
         set.limits();
         let commodity = set.contract_at(i).commodity;
         self.turn_to(set, g, commodity);
-        self.move_net(set, i, net, work);
+        let more = net.plus(self.nets.at(i).negated());
+        self.move_net(set, i, more, work);
         commodity
     }
 

@@ -1,6 +1,8 @@
 ghost use Rattle.std.specs.Prelude.{◌≡◌, ◌<◌, length, false, IfOk, IsTrue, ◌↔◌};
 ghost use Rattle.mgn_params.specs.Tables.{Tables};
 ghost use Rattle.mgn_desk.specs.Moved.{counted};
+ghost use Rattle.mgn_desk.specs.Portfolios.{IsUnder};
+ghost use Rattle.mgn_desk.specs.WorkedPortfolios.{IsPortfolio};
 
 use crate::branch::Branch;
 use crate::moves::Moves;
@@ -21,7 +23,7 @@ pub(crate) struct UnitPortfolios {
 
 impl UnitPortfolios {
     ghost use Rattle.mgn_nets.specs.Portfolios.{AreUnitNets, behind};
-    ghost use Rattle.mgn_desk.specs.Portfolios.{AreBranches, AreParted, ArePortfolios, AreRows, AreSmall, AreTogether, CanMove, KeepsTogether, StaysApart, arrays_of, moved_by, nets_of, requirements_of};
+    ghost use Rattle.mgn_desk.specs.Portfolios.{AreParted, ArePortfolios, AreRows, AreSmall, AreTogether, CanMove, KeepsTogether, StaysApart, arrays_of, moved_by, nets_of, requirements_of};
 
     // These nets. The only error is that memory was refused.
     pub fn of_nets(
@@ -35,29 +37,15 @@ impl UnitPortfolios {
         ensures together { IfOk result (λ p. AreTogether (behind nets.now) (p.buys, p.sales, p.all)) }
     {
         let lots = Portfolio::of_nets(alloc, set, nets.lots)?;
-        let (buys, sales, all) = Self::branches(alloc, set, nets)?;
+        let buys = Branch::of_nets(alloc, set, &lots, &lots, nets.buys)?;
+        let sales = Branch::of_nets(alloc, set, &lots, &lots, nets.sales)?;
+        let all = Branch::of_nets(alloc, set, &lots, nearest(&lots, &buys, &sales), nets.all)?;
         Ok(UnitPortfolios {
             lots,
             buys,
             sales,
             all,
         })
-    }
-
-    // The branches with buys, sales and all of these nets.
-    fn branches(
-        alloc: Global,
-        set: &ParamSet,
-        nets: &Portfolios<&Nets>,
-    ) -> Result<(Branch, Branch, Branch), AllocError>
-        requires { AreUnitNets set.now (behind nets.now) }
-        ensures branches { IfOk result (AreBranches set.now (behind nets.now)) }
-        ensures together { IfOk result (AreTogether (behind nets.now)) }
-    {
-        let buys = Branch::of_nets(alloc, set, nets.lots, nets.buys)?;
-        let sales = Branch::of_nets(alloc, set, nets.lots, nets.sales)?;
-        let all = Branch::of_nets(alloc, set, nets.lots, nets.all)?;
-        Ok((buys, sales, all))
     }
 
     // Whether all that is kept is as long as a set asks for.
@@ -79,9 +67,10 @@ impl UnitPortfolios {
         ensures together { AreTogether (behind nets.now) (self.new.buys, self.new.sales, self.new.all) }
     {
         self.lots.renew(set, nets.lots);
-        self.buys.renew(set, nets.lots, nets.buys);
-        self.sales.renew(set, nets.lots, nets.sales);
-        self.all.renew(set, nets.lots, nets.all);
+        self.buys.renew(set, &self.lots, &self.lots, nets.buys);
+        self.sales.renew(set, &self.lots, &self.lots, nets.sales);
+        let near = nearest(&self.lots, &self.buys, &self.sales);
+        self.all.renew(set, &self.lots, near, nets.all);
     }
 
     // Keeps those apart that are to move by something else than the lots.
@@ -158,4 +147,16 @@ fn differ(a: Quantity, b: Quantity) -> bool
     ensures other { a ≡ b → result ≡ false }
 {
     a.contracts() != b.contracts()
+}
+
+// What is kept that is nearest to all nets: of the branches with buys and with sales one that is apart, else the lots.
+fn nearest<'a>(lots: &'a Portfolio, buys: &'a Branch, sales: &'a Branch) -> &'a Portfolio
+    ensures { (set : Tables) → IsPortfolio set lots.now → IsUnder set buys.now → IsUnder set sales.now →
+        IsPortfolio set result.now }
+{
+    if buys.apart {
+        &buys.own
+    } else {
+        sales.kept(lots)
+    }
 }

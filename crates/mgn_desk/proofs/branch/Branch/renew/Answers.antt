@@ -1,5 +1,5 @@
 use Rattle.mgn_desk.proofs.BranchLemmas.{under_own}
 use Rattle.mgn_desk.proofs.branch.Branch.renew.Goals as goal
 
-pub returns-clause-portfolio : goal.returns-clause-portfolio
-returns-clause-portfolio c = under_own c.args.set.now _ c.renew.ensures.portfolio
+pub returns-then-self-clause-portfolio : goal.returns-then-self-clause-portfolio
+returns-then-self-clause-portfolio c = under_own c.args.set.now _ c.renew_from.ensures.portfolio

@@ -1,4 +1,4 @@
-use Rattle.std.proofs.Common.{◌≡◌, ◌-◌, ◌<◌, ◌≤◌, ℕ, length, pos}
+use Rattle.std.proofs.Common.{◌≡◌, ◌-◌, ◌<◌, ℕ, length}
 use Rattle.mgn_span.specs.Scan.{value_at}
 use Rattle.mgn_desk.specs.WorkedPortfolios.{IsBehind}
 use Rattle.mgn_desk.proofs.portfolio.Portfolio.bring_to.Given as goal
@@ -8,7 +8,6 @@ invariant-loop-i l = record {
   commodity : l.behind < length l.set.commodities;
   behind : IsBehind l.set l.behind l.self;
   done : (k : ℕ) → k < l.from → value_at l.self.nets k ≡ value_at l.nets k;
-  rest : (k : ℕ) → l.from ≤ k → value_at l.self.nets k ≡ pos 0;
 }
 
 abbrev pub decreases-loop-i : goal.decreases-loop-i
