@@ -1,6 +1,7 @@
 -- A desk that moves as its row does: for `foresee` and `take_back`.
-use Rattle.std.proofs.Common.{◌≡◌, ◌<◌, ◌∙◌, ℕ, zero, suc, ℤ, pos, All, List, [], ◌∷◌, ◌++◌, length, get_or, sym, ap, subst, refl, arith, Option, Some, None}
-use Rattle.std.specs.Prelude.{◌+ℤ◌, neg_ℤ}
+use Rattle.std.proofs.Common.{◌≡◌, ◌<◌, ◌∙◌, ℕ, zero, suc, ℤ, pos, All, List, [], ◌∷◌, ◌++◌, length, get_or, sym, ap, subst, refl, arith, Option, Some, None, true, true≢false}
+use Rattle.std.specs.Prelude.{◌+ℤ◌, is_some, neg_ℤ}
+use Rattle.std.proofs.lemmas.Bool.Decides.{Decides-eqb}
 use Rattle.std.proofs.lemmas.Int.{ints}
 use Rattle.std.proofs.lemmas.List.{get_or-set_same, length-set}
 use Rattle.mgn_params.specs.Tables.{Tables}
@@ -15,7 +16,7 @@ use Rattle.mgn_unit.specs.declared.row.Row.{Row}
 use Rattle.mgn_unit.specs.Rows.{IsChange, IsRoomy, IsRow, Priced, Prices, more_at, nets_in}
 use Rattle.mgn_unit.proofs.RowNets.{row-nets}
 use Rattle.mgn_plan.specs.Plans.{moved_nets}
-use Rattle.mgn_pricing.specs.Desks.{CanGain, IsReady, moves_of}
+use Rattle.mgn_pricing.specs.Desks.{CanGain, IsReady, is_of, moves_of}
 
 -- a net that moves stays within its limit
 pub net-moved : (nets : List ℤ) (i : ℕ) (quantity : ℤ) → i < length nets → All IsNet (more_at nets i quantity) → IsNet (value_at nets i +ℤ quantity)
@@ -119,6 +120,13 @@ ready-shown set' version unit nets now of_set is = by now.marked of_set (ap (λ 
     by : (m : Option Marked) → IsMarkedBy set' m → marked_nets m ≡ Some record { version = version; nets = nets } → IsReady set' version nets m
     by None of same = of
     by (Some m) of same = record { under = ap (version_or 0) same; of_set = of; shows = ap (nets_or nets) same }
+
+pub of-version-shown : (version unit : ℕ) (nets : UnitNets) (now : DeskRows) → shown now ≡ marked_with unit version nets → is_of version now.marked ≡ true
+of-version-shown version unit nets now is = by now.marked (ap (λ (s : Shown). s.marked) is)
+  where
+    by : (m : Option Marked) → marked_nets m ≡ Some record { version = version; nets = nets } → is_of version m ≡ true
+    by None same = absurd (true≢false (sym (ap is_some same)))
+    by (Some m) same = (Decides-eqb m.version version).1 (ap (version_or 0) same)
 
 -- an empty desk more
 pub marked-pushed : (desks : List DeskRows) (x d : DeskRows) (k : ℕ) → x.marked ≡ None → d.marked ≡ None → (get_or (desks ++ x ∷ []) k d).marked ≡ (get_or desks k d).marked

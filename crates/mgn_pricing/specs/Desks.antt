@@ -1,5 +1,5 @@
 -- The desks of margin units beside the rows of a book (own profile).
-use Rattle.std.specs.Prelude.{ℕ, ◌≡◌, ◌≢◌, ◌<◌, ◌≤◌, ◌==◌, ◌||◌, Bool, false, true, List, length, slice_index_or, Option, Some, None}
+use Rattle.std.specs.Prelude.{ℕ, ◌≡◌, ◌≢◌, ◌<◌, ◌≤◌, ◌==◌, ◌||◌, Bool, false, true, List, length, slice_index_or, is_some, Option, Some, None}
 use Rattle.mgn_params.specs.Tables.{Tables}
 use Rattle.mgn_nets.specs.Portfolios.{AreUnitNets, UnitNets}
 use Rattle.mgn_desk.specs.declared.desk.Marked.{Marked}
@@ -8,7 +8,7 @@ use Rattle.mgn_desk.specs.Desks.{DeskRows}
 use Rattle.mgn_desk.specs.Portfolios.{ArePortfolios, nets_of}
 use Rattle.mgn_unit.specs.declared.change.Change.{Change}
 use Rattle.mgn_unit.specs.declared.row.Row.{Row}
-use Rattle.mgn_unit.specs.Rows.{nets_in}
+use Rattle.mgn_unit.specs.Rows.{Priced, nets_in}
 use Rattle.mgn_plan.specs.declared.plans.Plan.{Plan}
 use Rattle.mgn_plan.specs.declared.plans.Plan.TheVariants.{Nothing, One, Two}
 use Rattle.mgn_plan.specs.declared.plans.UnitChange.{UnitChange}
@@ -69,6 +69,14 @@ pub record AreDesks (set : Tables) (version : ℕ) (plan : Plan) (rows : List Ro
 -- the desks of all other units are as they were
 abbrev pub KeepsOthers : ℕ → List DeskRows → List DeskRows → Type 0
 KeepsOthers u old new = (k : ℕ) → k ≢ u → marked_at new k ≡ marked_at old k
+
+-- a requirement is told of each unit whose desk is marked under a version, and of no other
+abbrev pub AreTold : ℕ → List DeskRows → List (Option Priced) → Type 0
+AreTold version desks known = (u : ℕ) → is_some (slice_index_or known u None) ≡ is_of version (marked_at desks u)
+
+-- no desk is marked that was not
+abbrev pub StayEmpty : List DeskRows → List DeskRows → Type 0
+StayEmpty old new = (u : ℕ) → marked_at old u ≡ None → marked_at new u ≡ None
 
 -- the desks that are marked under a version still are
 abbrev pub KeepsMarked : ℕ → List DeskRows → List DeskRows → Type 0

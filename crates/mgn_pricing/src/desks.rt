@@ -1,4 +1,4 @@
-ghost use Rattle.std.specs.Prelude.{◌≡◌, ◌<◌, ◌≤◌, ◌+◌, [], ℕ, IfOk, IfSome, IsOk, OnErr, OnOk, None, length, slice_index_or, false, true};
+ghost use Rattle.std.specs.Prelude.{◌≡◌, ◌<◌, ◌≤◌, ◌+◌, [], ℕ, IfOk, IfSome, IsOk, OnErr, OnOk, None, is_some, length, slice_index_or, false, true};
 ghost use Rattle.mgn_nets.specs.Portfolios.{AreUnitNets};
 ghost use Rattle.mgn_unit.specs.Amounts.{AreKnown, AreRequired};
 ghost use Rattle.mgn_unit.specs.Rows.{IsChange, IsRoomy, IsRow, Prices, nets_in};
@@ -46,6 +46,8 @@ fn mark_again(
     requires { AreUnitNets set.now (nets_in row.now) }
     ensures known { IfSome result (AreRequired set.now row.now) }
     ensures rests { Rests set.now version (nets_in row.now) desk.new.marked }
+    ensures told { is_some result ≡ is_of version desk.new.marked }
+    ensures empty { desk.old.marked ≡ None → desk.new.marked ≡ None }
     ensures number { desk.new.unit ≡ desk.old.unit }
 {
     desk.version()?;
@@ -146,7 +148,7 @@ fn back(desk: &mut Desk, version: Version, set: &ParamSet, row: &Row, change: &C
 
 impl Desks {
     ghost use Rattle.mgn_plan.specs.Plans.{KnowsAll};
-    ghost use Rattle.mgn_pricing.specs.Desks.{AreDesks, AreEmpty, AreReady, IsReady, KeepsMarked, KeepsOthers, KeepsUnplanned, Rests, is_of, marked_at};
+    ghost use Rattle.mgn_pricing.specs.Desks.{AreDesks, AreEmpty, AreReady, AreTold, IsReady, KeepsMarked, KeepsOthers, KeepsUnplanned, Rests, StayEmpty, is_of, marked_at};
 
     /// No desks. Takes no memory.
     pub fn new(alloc: Global) -> Desks
@@ -326,6 +328,8 @@ impl Desks {
         requires few { length self.old ≤ length rows.now }
         ensures known { IfOk result (λ known. AreKnown set.now rows.now known.items) }
         ensures desks { OnOk result (AreDesks set.now version Nothing rows.now self.new) }
+        ensures told { IfOk result (λ known. AreTold version self.new known.items) }
+        ensures empty { OnOk result (StayEmpty self.old self.new) }
         ensures same { OnErr result (self.new ≡ self.old) }
     {
         let mut known = Vec::with_capacity(alloc, self.desks.len())?;

@@ -13,7 +13,7 @@ use std::io::{Read, Write};
 
 const MAX_BYTES: usize = 268_435_456;
 
-const CHUNK: usize = 65_536;
+const CHUNK: usize = 16_384;
 
 // Answers the lines that end in a chunk and sends the replies, also those before a fault.
 fn answer_chunk<R: Read, W: Write, E: Exec, S: SetSource>(

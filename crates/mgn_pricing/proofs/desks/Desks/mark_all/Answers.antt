@@ -1,4 +1,4 @@
-use Rattle.std.proofs.Common.{◌≡◌, ◌<◌, ◌∙◌, None, ap, get_or, length, rules, subst}
+use Rattle.std.proofs.Common.{◌≡◌, ◌<◌, ◌∙◌, ℕ, None, ap, get_or, length, rules, subst}
 use Rattle.std.specs.Prelude.{IfSome}
 use Rattle.std.proofs.lemmas.List.{get_or_default, length-set}
 use Rattle.mgn_desk.specs.Desks.{DeskRows}
@@ -7,7 +7,7 @@ use Rattle.mgn_unit.specs.Amounts.{AreRequired}
 use Rattle.mgn_unit.specs.Rows.{nets_in}
 use Rattle.mgn_plan.specs.Plans.{row_at}
 use Rattle.mgn_pricing.specs.Desks.{Rests}
-use Rattle.mgn_pricing.proofs.Marked.{known-pushed, numbered-set, rest-next}
+use Rattle.mgn_pricing.proofs.Marked.{ToldTo, empty-next, known-pushed, numbered-set, rest-next, told-all, told-next}
 use Rattle.mgn_pricing.proofs.desks.Desks.mark_all.Goals as goal
 
 pub loop-unit-preserved : goal.loop-unit-preserved
@@ -35,4 +35,15 @@ loop-unit-preserved c =
       known = rw c.push_reserved.ensures.items (known-pushed set' rows c.loop-unit.known.items c.mark_again-priced.result u (search rules) held.known
           (λ d. subst (λ (r : UnitRow). IfSome c.mark_again-priced.result (AreRequired set' r)) (is d) c.mark_again-priced.ensures.known));
       rest = rest-next set' c.args.version rows desks u x inside held.rest last;
+      told = rw c.push_reserved.ensures.items (told-next c.args.version desks c.loop-unit.known.items u x c.mark_again-priced.result inside (search rules) held.told c.mark_again-priced.ensures.told);
+      empty = empty-next c.args.self.now desks u x inside held.empty
+          (λ none. c.mark_again-priced.ensures.empty (ap (λ (d : DeskRows). d.marked) held-desk ∙ none));
     }
+
+pub returns-clause-told : goal.returns-clause-told
+returns-clause-told c =
+    let desks = c.loop-unit.self-inside.desks.items in
+    let all : c.loop-unit.unit ≡ length desks = search rules in
+    let long : length c.loop-unit.known.items ≡ length desks = search rules in
+    told-all c.args.version desks c.loop-unit.known.items long
+    (subst (λ (n : ℕ). ToldTo c.args.version desks c.loop-unit.known.items n) all c.loop-unit.invariant.told)

@@ -1,8 +1,8 @@
 use Rattle.std.proofs.Common.{◌≡◌, ◌≤◌, length, vec_len}
 use Rattle.std.specs.Vec.{vec_capacity}
 use Rattle.mgn_unit.specs.Amounts.{AreKnown}
-use Rattle.mgn_pricing.specs.Desks.{AreNumbered}
-use Rattle.mgn_pricing.proofs.Marked.{RestTo}
+use Rattle.mgn_pricing.specs.Desks.{AreNumbered, StayEmpty}
+use Rattle.mgn_pricing.proofs.Marked.{RestTo, ToldTo}
 use Rattle.mgn_pricing.proofs.desks.Desks.mark_all.Given as goal
 
 abbrev pub invariant-loop-unit : goal.invariant-loop-unit
@@ -13,4 +13,6 @@ invariant-loop-unit l = record {
   room : length l.fn.self ≤ vec_capacity l.known;
   known : AreKnown l.set l.rows l.known.items;
   rest : RestTo l.set l.version l.rows l.self-inside.desks.items l.unit;
+  told : ToldTo l.version l.self-inside.desks.items l.known.items l.unit;
+  empty : StayEmpty l.fn.self l.self-inside.desks.items;
 }
