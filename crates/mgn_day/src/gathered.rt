@@ -1,15 +1,12 @@
 //! What a switch is prepared from, and for which units it was prepared in vain.
 
-ghost use Rattle.std.specs.Prelude.{◌≡◌, map, IfOk};
-ghost use Rattle.mgn_unit.specs.Rows.{nets_in};
-
+use crate::copies::UnitCopy;
 use crate::shows::Shows;
 use mgn_nets::Nets;
 use mgn_num::Quantity;
 use mgn_params::ParamSet;
 use mgn_slots::{SlotNames, Stamp};
-use mgn_unit::{CopiedNets, PreparedUnit, PreparedUnits, Row};
-use std::alloc::{AllocError, Global};
+use mgn_unit::{PreparedUnit, PreparedUnits, Row};
 
 /// What a switch is prepared from.
 #[derive(Drop)]
@@ -17,20 +14,9 @@ pub struct Gathered<'a, T: Shows, J: SlotNames> {
     /// The set that was in force.
     pub set: &'a ParamSet,
     /// A copy of the nets of each unit under it, in order of the units' numbers.
-    pub nets: Vec<CopiedNets>,
+    pub nets: Vec<UnitCopy>,
     /// What shows since when each unit has these nets; none where that is not known.
     pub since: Vec<Stamp<'a, T, J>>,
-}
-
-/// A copy of the nets of each row. An error says that memory was refused.
-pub fn copies_of(alloc: Global, rows: &[Row]) -> Result<Vec<CopiedNets>, AllocError>
-    ensures { IfOk result (λ nets. nets.items ≡ map nets_in rows.now) }
-{
-    let mut nets = Vec::with_capacity(alloc, rows.len())?;
-    for row in rows {
-        nets.push_reserved(row.copy_nets(alloc)?);
-    }
-    Ok(nets)
 }
 
 /// How many units a switch from one set to another has to work out itself.

@@ -2,9 +2,11 @@
 //! set. It knows no book: what a day has is seen as a book is, whoever keeps it.
 #![tactic(auto)]
 
+mod copies;
 mod gathered;
 pub mod places;
 mod shows;
 
-pub use gathered::{Gathered, copies_of, late_units};
+pub use copies::{UnitCopy, copies_of, whole_nets};
+pub use gathered::{Gathered, late_units};
 pub use shows::Shows;

@@ -7,7 +7,7 @@ ghost use Rattle.mgn_day.specs.Gathering.{AreReady, AreSeen};
 
 use crate::gate::{Gate, SessionGate};
 use crate::workers::Workers;
-use mgn_day::{Gathered, Shows};
+use mgn_day::{Gathered, Shows, whole_nets};
 use mgn_ids::SessionNo;
 use mgn_params::ParamSet;
 use mgn_prepare::{mark_all, mark_alone};
@@ -70,6 +70,7 @@ impl<'a, T: Shows, J: SlotNames> Prepared<'a, T, J> {
             nets,
             since,
         } = gathered;
+        let nets = whole_nets(alloc, nets)?;
         let units = mark_all(rt, alloc, old, set, nets, workers, gate)?;
         Prepared::new(alloc, units, since)
     }
@@ -93,6 +94,7 @@ impl<'a, T: Shows, J: SlotNames> Prepared<'a, T, J> {
             nets,
             since,
         } = gathered;
+        let nets = whole_nets(alloc, nets)?;
         let units = workers.mark(session, old, set, nets)?;
         Prepared::new(alloc, units, since)
     }
@@ -115,6 +117,7 @@ impl<'a, T: Shows, J: SlotNames> Prepared<'a, T, J> {
             nets,
             since,
         } = gathered;
+        let nets = whole_nets(alloc, nets)?;
         let units = mark_alone(alloc, old, set, nets.as_slice(), gate)?;
         Prepared::new(alloc, units, since)
     }

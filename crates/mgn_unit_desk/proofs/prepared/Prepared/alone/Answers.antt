@@ -19,7 +19,7 @@ returns-clause-ready g c =
     let units = c.in_ok-units.units.items in
     let new = c.args.set.now in
     let ready = ready-marked g.T.Shows.shown gathered.set.now new gathered.nets.items gathered.since.items units c.requires.seen
-    (c.in_ok-units.ensures.marks ∙ ap (map (mark_of gathered.set.now new)) c.as_slice.ensures.value)
+    (c.in_ok-units.ensures.marks ∙ ap (map (mark_of gathered.set.now new)) (c.as_slice.ensures.value ∙ c.in_ok-nets.ensures))
     in
     IfOk-weaker c.new.result _ _
     (λ prepared are. subst (λ (list : List (Option PreparedUnit)). AreReady g.T.Shows.shown new list prepared.since.items) (sym are.0)

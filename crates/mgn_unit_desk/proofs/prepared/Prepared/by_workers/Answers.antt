@@ -1,7 +1,8 @@
-use Rattle.std.proofs.Common.{List, ℕ, refl, sym, subst}
+use Rattle.std.proofs.Common.{◌∙◌, List, ℕ, ap, map, refl, sym, subst}
 use Rattle.std.specs.Prelude.{Option}
 use Rattle.std.proofs.lemmas.Result.{IfOk-weaker}
 use Rattle.mgn_unit.specs.NewSets.{ArePrepared, PreparedUnit}
+use Rattle.mgn_prepare.specs.Marks.{mark_of}
 use Rattle.mgn_day.specs.Gathering.{AreReady}
 use Rattle.mgn_unit_desk.proofs.Prepares.{ready-marked}
 use Rattle.mgn_unit_desk.proofs.prepared.Prepared.by_workers.Goals as goal
@@ -17,7 +18,9 @@ returns-clause-ready g c =
     let gathered = c.args.gathered in
     let units = c.in_ok-units.units.items in
     let new = c.args.set.now in
-    let ready = ready-marked g.T.Shows.shown gathered.set.now new gathered.nets.items gathered.since.items units c.requires.seen (c.in_ok-units.ensures.marks c.in_ok-units.units refl) in
+    let ready = ready-marked g.T.Shows.shown gathered.set.now new gathered.nets.items gathered.since.items units c.requires.seen
+    (c.in_ok-units.ensures.marks c.in_ok-units.units refl ∙ ap (map (mark_of gathered.set.now new)) c.in_ok-nets.ensures)
+    in
     IfOk-weaker c.new.result _ _
     (λ prepared are. subst (λ (list : List (Option PreparedUnit)). AreReady g.T.Shows.shown new list prepared.since.items) (sym are.0)
     (subst (λ (since : List (ℕ × g.row.T.Denot)). AreReady g.T.Shows.shown new units since) (sym are.1) ready))

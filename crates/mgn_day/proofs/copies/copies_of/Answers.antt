@@ -1,7 +1,7 @@
 use Rattle.std.proofs.Common.{◌≡◌, ◌∙◌, ℕ, arith, ap, length, map, take}
 use Rattle.std.proofs.Math.Seq.{take-length}
 use Rattle.mgn_unit.specs.Rows.{nets_in}
-use Rattle.mgn_day.proofs.gathered.copies_of.Goals as goal
+use Rattle.mgn_day.proofs.copies.copies_of.Goals as goal
 
 pub returns : goal.returns
 returns c =
