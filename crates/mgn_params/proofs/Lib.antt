@@ -2,6 +2,5 @@
 pub mod LimitsLemmas
 pub mod NameLemmas
 pub mod RowGrowth
-pub mod Shelved
 pub mod NamingLemmas
 pub mod RowEquality
