@@ -2,5 +2,6 @@
 pub mod LimitsLemmas
 pub mod NameLemmas
 pub mod RowGrowth
+pub mod Shelved
 pub mod NamingLemmas
 pub mod RowEquality

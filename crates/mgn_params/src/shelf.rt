@@ -1,4 +1,4 @@
-ghost use Rattle.std.specs.Prelude.{◌≡◌, ◌<◌, ◌≤◌, ◌++◌, ◌∷◌, [], length, IfOk, IfErr, OnErr, OnOk, IsSomeAnd};
+ghost use Rattle.std.specs.Prelude.{◌≡◌, ◌<◌, ◌≤◌, ◌++◌, ◌∷◌, [], ℕ, length, IfOk, IfErr, IfSome, IsSome, OnErr, OnOk, IsSomeAnd};
 ghost use Rattle.mgn_params.specs.Shelves.{set_at};
 
 use crate::limits::MOST_SETS;
@@ -88,22 +88,37 @@ pub trait Shelf {
         ensures { version < length (sets self.now) → IsSomeAnd result (λ set. set.now ≡ set_at (sets self.now) version) };
 }
 
-/// The shelf of one thread.
+/// Where a list has a set.
+pub fn place_of_set(sets: &[ParamSet], set: &ParamSet) -> Option<usize>
+    ensures there { IfSome result (λ i. (i < length sets.now) × (set_at sets.now i ≡ set.now)) }
+    ensures absent { (i : ℕ) → i < length sets.now → set_at sets.now i ≡ set.now → IsSome result }
+{
+    for place in 0..sets.len() {
+        if sets[place].is_same(set) {
+            return Some(place);
+        }
+    }
+    None
+}
+
+/// The shelf of one thread. Equal sets stand once.
 #[derive(Drop)]
 pub struct SetList {
     sets: Vec<ParamSet>,
+    // For each version where its set stands.
+    places: Vec<u8>,
 }
 
 impl Model for SetList {
     ghost use Rattle.std.specs.Prelude.{List};
     ghost use Rattle.mgn_params.specs.Tables.{Tables};
-    ghost use Rattle.mgn_params.specs.Shelves.{IsShelf};
+    ghost use Rattle.mgn_params.specs.Shelves.{ArePlaces, shelved};
 
     ghost Value = { List Tables };
 
-    ghost view = { λ s. s.sets.items };
+    ghost view = { λ s. shelved s.sets.items s.places.items };
 
-    ghost invariant = { λ s. IsShelf s.sets.items };
+    ghost invariant = { λ s. ArePlaces s.sets.items s.places.items };
 }
 
 impl SetList {
@@ -113,7 +128,8 @@ impl SetList {
     {
         let mut sets = Vec::new(alloc);
         sets.push(first)?;
-        Ok(SetList { sets })
+        let places = vec![in alloc; 0; 1]?;
+        Ok(SetList { sets, places })
     }
 }
 
@@ -128,17 +144,29 @@ impl Shelf for SetList {
     }
 
     fn put(&mut self, set: ParamSet) -> Result<Version, (PutFault, ParamSet)> {
-        let number = self.sets.len();
+        let number = self.places.len();
         if number >= MOST_SETS {
             return Err((PutFault::Sets, set));
         }
+        if self.places.reserve(1).is_err() {
+            return Err((PutFault::Memory, set));
+        }
+        if let Some(place) = place_of_set(&self.sets, &set) {
+            self.places.push_reserved(place as u8);
+            return Ok(Version::new(number as u8));
+        }
+        let place = self.sets.len();
         match self.sets.push(set) {
-            Ok(()) => Ok(Version::new(number as u8)),
+            Ok(()) => {
+                self.places.push_reserved(place as u8);
+                Ok(Version::new(number as u8))
+            }
             Err(refused) => Err((PutFault::Memory, refused.value)),
         }
     }
 
     fn get(&self, version: Version) -> Option<&ParamSet> {
-        self.sets.get(version.number() as usize)
+        let place = *self.places.get(version.number() as usize)?;
+        Some(&self.sets[usize::from(place)])
     }
 }
