@@ -1,4 +1,4 @@
-ghost use Rattle.std.specs.Prelude.{◌≡◌, ◌<◌, ◌≤◌, ◌++◌, ◌∷◌, [], ℕ, length, slice_index_or, IfOk, IfSome, IsOk, IsSome, MatchOption, OnErr, OnOk, true};
+ghost use Rattle.std.specs.Prelude.{◌≡◌, ◌<◌, ◌≤◌, ◌++◌, ◌∷◌, [], ℕ, length, slice_index_or, IfOk, IsOk, MatchOption, OnErr, OnOk, true};
 ghost use Rattle.std.specs.List.{slice_get};
 ghost use Rattle.std.specs.Option.{option_flatten, option_map};
 ghost use Rattle.mgn_machine.specs.declared.entry.Entry.{Entry};
@@ -15,7 +15,7 @@ use crate::replies::{Replies, StoredReply};
 use crate::stored::{StoredEntry, StoredRequest, command_in, store_command};
 use mgn_ids::SessionNo;
 use mgn_machine::{Command, NewSet, Refusal, Reply};
-use mgn_params::{ParamSet, Version};
+use mgn_params::{ParamSet, Version, place_of_set};
 use std::alloc::{AllocError, Global};
 use std::marker::Model;
 
@@ -178,19 +178,6 @@ impl History {
     }
 }
 
-// Where a list has a set.
-fn place_of(sets: &[ParamSet], set: &ParamSet) -> Option<usize>
-    ensures there { IfSome result (λ i. (i < length sets.now) × (slice_index_or sets.now i (no_tables []) ≡ set.now)) }
-    ensures absent { (i : ℕ) → i < length sets.now → slice_index_or sets.now i (no_tables []) ≡ set.now → IsSome result }
-{
-    for place in 0..sets.len() {
-        if sets[place].is_same(set) {
-            return Some(place);
-        }
-    }
-    None
-}
-
 // Puts a set that was refused at the end of a list, unless the list has it, and returns its place. Without memory for
 // that the list is as it was. A set that the list has takes none.
 fn store_set(refused: &mut Vec<ParamSet>, set: ParamSet) -> Result<usize, AllocError>
@@ -201,7 +188,7 @@ fn store_set(refused: &mut Vec<ParamSet>, set: ParamSet) -> Result<usize, AllocE
     ensures once { (i : ℕ) → i < length refused.old.items → slice_index_or refused.old.items i (no_tables []) ≡ set →
         IsOk result × (refused.new.items ≡ refused.old.items) }
 {
-    if let Some(place) = place_of(refused.as_slice(), &set) {
+    if let Some(place) = place_of_set(refused.as_slice(), &set) {
         return Ok(place);
     }
     refused.push(set)?;
