@@ -242,7 +242,7 @@ listed-set count starts cells new_starts new_cells c v within here others =
 
 -- No page is kept.
 
-flat-start : (pages page : ℕ) → get_or (replicate pages zero) page 0 ≡ 0
+pub flat-start : (pages page : ℕ) → get_or (replicate pages zero) page 0 ≡ 0
 flat-start pages page =
     ⊎_elim
     (λ (inside : page < pages). get_or-replicate pages page 0 0 inside)

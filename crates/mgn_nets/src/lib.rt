@@ -2,6 +2,7 @@
 #![tactic(auto)]
 
 mod nets;
+mod page_set;
 mod pages;
 mod portfolios;
 

@@ -4,9 +4,9 @@ ghost use Rattle.mgn_num.specs.Amount.{IsQuantity};
 ghost use Rattle.mgn_span.specs.Scan.{value_at};
 ghost use Rattle.mgn_nets.specs.Numbers.{number_at};
 
+use crate::page_set::PageSet;
 use crate::pages::{
-    PAGE, add_to, are_same, cell_at, cell_count, different_from, held_from, next_kept,
-    next_kept_in_one, page_count, with_room,
+    PAGE, add_to, are_same, cell_at, cell_count, different_from, held_from, page_count, with_room,
 };
 use mgn_num::Quantity;
 use std::alloc::{AllocError, Global};
@@ -19,6 +19,8 @@ use std::marker::Model;
 #[derive(Drop)]
 pub struct Nets {
     count: usize,
+    // The pages that are kept.
+    kept: PageSet,
     // Where the page of each 16 contracts begins in `cells`; 0, where a page of zeros stands, for one that is not kept.
     starts: Vec<u16>,
     cells: Vec<Quantity>,
@@ -27,13 +29,14 @@ pub struct Nets {
 impl Model for Nets {
     ghost use Rattle.std.specs.Prelude.{List, ℤ};
     ghost use Rattle.std.specs.Vec.{vec_capacity};
-    ghost use Rattle.mgn_nets.specs.Pages.{ArePages, listed};
+    ghost use Rattle.mgn_nets.specs.Pages.{listed};
+    ghost use Rattle.mgn_nets.specs.PageSets.{AreKept};
 
     ghost Value = { List ℤ };
 
     ghost view = { λ n. listed n.count n.starts.items n.cells.items };
 
-    ghost invariant = { λ n. ArePages n.count n.starts.items n.cells.items (vec_capacity n.cells) };
+    ghost invariant = { λ n. AreKept n.kept.words n.count n.starts.items n.cells.items (vec_capacity n.cells) };
 }
 
 impl Nets {
@@ -55,6 +58,7 @@ impl Nets {
         let cells = with_room(alloc, &[Quantity::ZERO; PAGE], cell_count(pages))?;
         Ok(Nets {
             count,
+            kept: PageSet::NONE,
             starts,
             cells,
         })
@@ -83,6 +87,7 @@ impl Nets {
         let cells = with_room(alloc, &self.cells, cell_count(starts.len()))?;
         Ok(Nets {
             count: self.count,
+            kept: self.kept,
             starts,
             cells,
         })
@@ -111,10 +116,7 @@ impl Nets {
     {
         let mut nets = Nets::flat(alloc, places.len())?;
         for i in 0..places.len() {
-            let quantity = self.at_place(places[i]);
-            if quantity != Quantity::ZERO {
-                nets.add(i, quantity);
-            }
+            nets.add(i, self.at_place(places[i]));
         }
         Ok(nets)
     }
@@ -168,7 +170,7 @@ impl Nets {
         ensures few { result ≤ 256 }
         ensures passed { (k : ℕ) → page * 16 ≤ k → k < result * 16 → value_at self.now k ≡ pos 0 }
     {
-        next_kept(&self.starts, page)
+        self.kept.next(page)
     }
 
     // The first place of a page from one on with a quantity that is not 0.
@@ -214,7 +216,7 @@ impl Nets {
         ensures few { result ≤ 256 }
         ensures passed { (k : ℕ) → page * 16 ≤ k → k < result * 16 → value_at self.now k ≡ value_at other.now k }
     {
-        next_kept_in_one(&self.starts, &other.starts, page)
+        self.kept.union(&other.kept).next(page)
     }
 
     // The first place of a page from one on with another quantity than a list that is as long.
@@ -241,6 +243,7 @@ impl Nets {
         ensures { self.new ≡ slice_set self.old contract (value_at self.old contract +ℤ quantity) }
     {
         if quantity.size() != 0 {
+            self.kept.insert(contract / PAGE);
             add_to(&mut self.starts, &mut self.cells, contract, quantity);
         }
     }
@@ -249,6 +252,7 @@ impl Nets {
     pub fn clear(&mut self)
         ensures { self.new ≡ replicate (length self.old) (pos 0) }
     {
+        self.kept = PageSet::NONE;
         self.starts.fill(0);
         self.cells.truncate(PAGE);
     }
@@ -258,6 +262,7 @@ impl Nets {
         requires { length self.old ≡ length other.now }
         ensures { self.new ≡ other.now }
     {
+        self.kept = other.kept;
         self.starts.copy_from_slice(&other.starts);
         self.cells.clear();
         if self.cells.extend_from_slice(&other.cells).is_err() {
@@ -269,7 +274,14 @@ impl Nets {
     pub fn is_same(&self, other: &Nets) -> bool
         ensures { IsTrue result ↔ (self.now ≡ other.now) }
     {
+        let kept = self.kept.union(&other.kept);
         self.count == other.count
-            && are_same(&self.starts, &self.cells, &other.starts, &other.cells)
+            && are_same(
+                &kept,
+                &self.starts,
+                &self.cells,
+                &other.starts,
+                &other.cells,
+            )
     }
 }

@@ -6,15 +6,14 @@ ghost use Rattle.std.specs.Vec.{vec_capacity};
 ghost use Rattle.mgn_num.specs.Amount.{IsQuantity};
 ghost use Rattle.mgn_span.specs.Scan.{value_at};
 ghost use Rattle.mgn_nets.specs.Pages.{ArePages, cell};
+ghost use Rattle.mgn_nets.specs.PageSets.{AreAmong};
 
+use crate::page_set::PageSet;
 use mgn_num::Quantity;
 use std::alloc::{AllocError, Global};
 
 /// How many neighbouring quantities a page has.
 pub(crate) const PAGE: usize = 16;
-
-// How many pages are passed at once.
-const GROUP: usize = 8;
 
 // How many pages so many quantities stand in.
 pub(crate) fn page_count(count: usize) -> usize
@@ -76,6 +75,7 @@ fn keep(starts: &mut Vec<u16>, cells: &mut Vec<Quantity>, page: usize)
     ensures pages { (count : ℕ) → ArePages count starts.old.items cells.old.items (vec_capacity cells.old) →
         ArePages count starts.new.items cells.new.items (vec_capacity cells.new) }
     ensures kept { 0 < slice_index starts.new.items page }
+    ensures others { (other : ℕ) → other ≢ page → slice_index starts.new.items other ≡ slice_index starts.old.items other }
     ensures same { (c : ℕ) → cell starts.new.items cells.new.items c ≡ cell starts.old.items cells.old.items c }
     ensures long { length starts.new.items ≡ length starts.old.items }
 {
@@ -97,6 +97,7 @@ pub(crate) fn add_to(
     ensures pages { (count : ℕ) → contract < count →
         ArePages count starts.old.items cells.old.items (vec_capacity cells.old) →
         ArePages count starts.new.items cells.new.items (vec_capacity cells.new) }
+    ensures starts { (page : ℕ) → page ≢ contract / 16 → slice_index starts.new.items page ≡ slice_index starts.old.items page }
     ensures here { cell starts.new.items cells.new.items contract
         ≡ cell starts.old.items cells.old.items contract +ℤ quantity }
     ensures others { (other : ℕ) → other ≢ contract →
@@ -105,55 +106,6 @@ pub(crate) fn add_to(
     keep(starts, cells, contract / PAGE);
     let place = usize::from(starts[contract / PAGE]) + contract % PAGE;
     cells[place] = cells[place].plus(quantity);
-}
-
-// Whether none of so many neighbouring pages is kept. None ends the loop, so that all are looked at together.
-fn are_closed(starts: &[u16], from: usize) -> bool
-    requires inside { from + 8 ≤ length starts.now }
-    ensures { IsTrue result ↔ ((i : ℕ) → i < 8 → slice_index starts.now (from + i) ≡ 0) }
-{
-    let mut closed = true;
-    for i in 0..GROUP {
-        closed &= starts[from + i] == 0;
-    }
-    closed
-}
-
-// The first page from one on that is kept, or how many pages there are.
-pub(crate) fn next_kept(starts: &[u16], from: usize) -> usize
-    requires inside { from ≤ length starts.now }
-    ensures from { from ≤ result }
-    ensures inside { result ≤ length starts.now }
-    ensures kept { result < length starts.now → 0 < slice_index starts.now result }
-    ensures passed { (page : ℕ) → from ≤ page → page < result → slice_index starts.now page ≡ 0 }
-{
-    let mut page = from;
-    while page + GROUP <= starts.len() && are_closed(starts, page) {
-        page += GROUP;
-    }
-    while page < starts.len() && starts[page] == 0 {
-        page += 1;
-    }
-    page
-}
-
-// The first page from one on that is kept in one of two lists at least, or how many pages there are.
-pub(crate) fn next_kept_in_one(starts: &[u16], others: &[u16], from: usize) -> usize
-    requires long { length starts.now ≡ length others.now }
-    requires inside { from ≤ length starts.now }
-    ensures from { from ≤ result }
-    ensures inside { result ≤ length starts.now }
-    ensures passed { (page : ℕ) → from ≤ page → page < result →
-        (slice_index starts.now page ≡ 0) × (slice_index others.now page ≡ 0) }
-{
-    let mut page = from;
-    while page + GROUP <= starts.len() && are_closed(starts, page) && are_closed(others, page) {
-        page += GROUP;
-    }
-    while page < starts.len() && starts[page] == 0 && others[page] == 0 {
-        page += 1;
-    }
-    page
 }
 
 // The first place of a page from one on with a quantity that is not 0.
@@ -189,6 +141,9 @@ pub(crate) fn different_from(
     ensures none { result ≡ None → (i : ℕ) → from ≤ i → i < 16 →
         value_at cells.now (start + i) ≡ value_at others.now (other_start + i) }
 {
+    if is_same_page(cells, start, others, other_start) {
+        return None;
+    }
     for place in from..PAGE {
         if cells[start + place] != others[other_start + place] {
             return Some(place);
@@ -235,13 +190,17 @@ fn are_same_cells(cells: &[Quantity], others: &[Quantity]) -> bool
     same
 }
 
-// Whether all quantities are the same in both.
+// Whether all quantities are the same in both. The pages of neither are passed.
 pub(crate) fn are_same(
+    kept: &PageSet,
     starts: &[u16],
     cells: &[Quantity],
     other_starts: &[u16],
     others: &[Quantity],
 ) -> bool
+    requires kept { AreAmong kept.now.words starts.now }
+    requires other_kept { AreAmong kept.now.words other_starts.now }
+    requires few { length starts.now ≤ 256 }
     requires long { length starts.now ≡ length other_starts.now }
     requires inside { (page : ℕ) → slice_index starts.now page + 16 ≤ length cells.now }
     requires other_inside { (page : ℕ) → slice_index other_starts.now page + 16 ≤ length others.now }
@@ -255,13 +214,13 @@ pub(crate) fn are_same(
     if cells.len() == others.len() && are_same_starts(starts, other_starts) {
         return are_same_cells(cells, others);
     }
-    let mut page = next_kept_in_one(starts, other_starts, 0);
+    let mut page = kept.next(0);
     while page < starts.len() {
         let (start, other) = (usize::from(starts[page]), usize::from(other_starts[page]));
         if !is_same_page(cells, start, others, other) {
             return false;
         }
-        page = next_kept_in_one(starts, other_starts, page + 1);
+        page = kept.next(page + 1);
     }
     true
 }

@@ -1,9 +1,12 @@
-use Rattle.std.proofs.Common.{◌≡◌, ◌*◌, ◌+◌, ◌<◌, ◌/◌, ◌∙◌, ap, arith, refl, sym, length, ℕ}
+use Rattle.std.proofs.Common.{◌≡◌, ◌≢◌, ◌*◌, ◌+◌, ◌<◌, ◌≤◌, ◌/◌, ◌%◌, ◌∙◌, ap, arith, get_or, refl, sym, length, ℕ, ⊎_elim}
+use Rattle.std.proofs.lemmas.Bool.{cases_eq, cases_lt}
 use Rattle.std.proofs.lemmas.Nat.{div-mul-add}
 use Rattle.mgn_span.specs.Scan.{value_at}
 use Rattle.mgn_nets.specs.Pages.{cell}
-use Rattle.mgn_nets.proofs.Paged.{cell-as, cell-in, cells-one}
+use Rattle.mgn_nets.specs.PageSets.{has_page}
+use Rattle.mgn_nets.proofs.Paged.{cell-as, cell-in, cells-one, offset}
 use Rattle.mgn_nets.proofs.pages.are_same.Goals as goal
+use Rattle.mgn_nets.proofs.pages.are_same.Goals.{After-next-page}
 
 pub returns-then-are_same_starts : goal.returns-then-are_same_starts
 returns-then-are_same_starts c = (
@@ -32,3 +35,34 @@ returns-then-not-is_same_page c = (
         ∙ each (c.loop-page.page * 16 + i) (omega (arith, div-mul-add c.loop-page.page 16 i small, c.loop-page-test.true))
         ∙ cell-in c.args.other_starts.now c.args.others.now c.loop-page.page i small
         ∙ ap (λ (s : ℕ). value_at c.args.others.now (s + i)) (sym c.from-other.ensures)
+
+-- a page that neither keeps
+passed : (c : After-next-page) → (k : ℕ) → has_page c.args.kept.now.words (k / 16) ≡ 0 → cell c.args.starts.now c.args.cells.now k ≡ cell c.args.other_starts.now c.args.others.now k
+passed c k none =
+    ap (value_at c.args.cells.now) (omega (arith, c.requires.kept (k / 16) none))
+    ∙ c.requires.zero (k % 16) (offset k)
+    ∙ ap (value_at c.args.others.now) (omega (arith, c.requires.other_kept (k / 16) none))
+
+pub loop-page-init : goal.loop-page-init
+loop-page-init c = record {
+  few = c.next-page.ensures.few;
+  same = λ k less. passed c k (c.next-page.ensures.passed (k / 16) (omega arith) less);
+}
+
+pub loop-page-preserved : goal.loop-page-preserved
+loop-page-preserved c = record {
+  few = c.next-page-in-loop-page.ensures.few;
+  same = λ k less.
+      ⊎_elim
+      (λ (before : k / 16 < c.loop-page.page). c.loop-page.invariant.same k before)
+      (λ (from : c.loop-page.page ≤ k / 16).
+      ⊎_elim
+      (λ (own : k / 16 ≡ c.loop-page.page).
+      ap (λ (s : ℕ). value_at c.args.cells.now (s + k % 16)) (ap (λ (p : ℕ). get_or c.args.starts.now p 0) own ∙ sym c.from-start.ensures)
+      ∙ c.is_same_page.ensures.0 c.if-not-is_same_page.false (k % 16) (offset k)
+      ∙ ap (λ (s : ℕ). value_at c.args.others.now (s + k % 16)) (c.from-other.ensures ∙ ap (λ (p : ℕ). get_or c.args.other_starts.now p 0) (sym own)))
+      (λ (behind : k / 16 ≢ c.loop-page.page).
+      passed (goal.at.loop-page-preserved c).After-next-page k (c.next-page-in-loop-page.ensures.passed (k / 16) (omega (arith, from, behind)) less))
+      (cases_eq (k / 16) c.loop-page.page))
+      (cases_lt (k / 16) c.loop-page.page);
+}

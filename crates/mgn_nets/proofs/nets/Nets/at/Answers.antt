@@ -5,7 +5,7 @@ use Rattle.mgn_nets.proofs.nets.Nets.at.Goals as goal
 pub cell_at-requires-clause-page : goal.cell_at-requires-clause-page
 cell_at-requires-clause-page c =
     let within = row-within c.self.inside.count c.self.inside.starts.items c.self.inside.cells.items c.args.self.now c.self.view_is c.args.contract c.requires in
-    omega (arith, ap length c.deref.ensures.value, page-inside c.self.inside.count c.self.inside.starts.items c.self.invariant.pages c.args.contract within)
+    omega (arith, ap length c.deref.ensures.value, page-inside c.self.inside.count c.self.inside.starts.items c.self.invariant.pages.pages c.args.contract within)
 
 pub returns : goal.returns
 returns c =

@@ -1,4 +1,4 @@
-use Rattle.std.proofs.Common.{◌≡◌, ◌∙◌, ◌+◌, ◌*◌, ◌≤◌, ap, arith, length, refl, rules, subst, sym, vec_len, ℕ}
+use Rattle.std.proofs.Common.{◌≡◌, ◌∙◌, ◌+◌, ◌*◌, ◌≤◌, ap, arith, get_or, length, refl, rules, subst, sym, vec_len, List, ℕ}
 use Rattle.std.specs.Int.{div_ceil}
 use Rattle.std.specs.Prelude.{not}
 use Rattle.std.specs.Vec.{vec_capacity}
@@ -18,7 +18,7 @@ pub copy_from_slice-requires : goal.copy_from_slice-requires
 copy_from_slice-requires c =
     let own : vec_len c.self.inside.starts ≡ length c.self.inside.starts.items = search rules in
     let same = counts (goal.at.copy_from_slice-requires c).After-deref in
-    own ∙ c.self.invariant.pages ∙ ap (λ (n : ℕ). div_ceil n 16) same ∙ sym c.other.invariant.pages ∙ ap length (sym c.deref.ensures.value)
+    own ∙ c.self.invariant.pages.pages ∙ ap (λ (n : ℕ). div_ceil n 16) same ∙ sym c.other.invariant.pages.pages ∙ ap length (sym c.deref.ensures.value)
 
 starts : (c : Else-is_err) → c.copy_from_slice.new.self.items ≡ c.other.inside.starts.items
 starts c = c.copy_from_slice.ensures.items ∙ c.deref.ensures.value
@@ -36,12 +36,16 @@ invariant_of-self c =
     let kept : vec_capacity c.clear.new.self ≡ vec_capacity c.self.inside.cells = search rules in
     let room : vec_capacity c.self.inside.cells ≤ vec_capacity c.extend_from_slice.new.self = omega (arith, kept, c.extend_from_slice.ensures.capacity) in
     let from = starts (goal.at.invariant_of-self c).Else-is_err in
-    let are = pages-as c.other.inside.count c.other.inside.starts.items c.copy_from_slice.new.self.items c.other.inside.cells.items c.extend_from_slice.new.self.items _ _ from (cells (goal.at.invariant_of-self c).Else-is_err) refl c.other.invariant in
-    let long : length c.copy_from_slice.new.self.items ≡ length c.self.inside.starts.items = are.pages ∙ ap (λ (n : ℕ). div_ceil n 16) (sym same) ∙ sym c.self.invariant.pages in
-    let enough : 16 * length c.copy_from_slice.new.self.items + 16 ≤ vec_capacity c.extend_from_slice.new.self = omega (arith, long, room, c.self.invariant.room) in
-    subst (λ (n : ℕ). ArePages n c.copy_from_slice.new.self.items c.extend_from_slice.new.self.items (vec_capacity c.extend_from_slice.new.self)) (sym same) (
-    pages-with c.other.inside.count c.copy_from_slice.new.self.items c.extend_from_slice.new.self.items _ (vec_capacity c.extend_from_slice.new.self) are enough
-    )
+    let are = pages-as c.other.inside.count c.other.inside.starts.items c.copy_from_slice.new.self.items c.other.inside.cells.items c.extend_from_slice.new.self.items _ _ from (cells (goal.at.invariant_of-self c).Else-is_err) refl c.other.invariant.pages in
+    let long : length c.copy_from_slice.new.self.items ≡ length c.self.inside.starts.items = are.pages ∙ ap (λ (n : ℕ). div_ceil n 16) (sym same) ∙ sym c.self.invariant.pages.pages in
+    let enough : 16 * length c.copy_from_slice.new.self.items + 16 ≤ vec_capacity c.extend_from_slice.new.self = omega (arith, long, room, c.self.invariant.pages.room) in
+    record {
+      pages =
+          subst (λ (n : ℕ). ArePages n c.copy_from_slice.new.self.items c.extend_from_slice.new.self.items (vec_capacity c.extend_from_slice.new.self)) (sym same) (
+          pages-with c.other.inside.count c.copy_from_slice.new.self.items c.extend_from_slice.new.self.items _ (vec_capacity c.extend_from_slice.new.self) are enough
+          );
+      among = λ page none. ap (λ (xs : List ℕ). get_or xs page 0) from ∙ c.other.invariant.among page none;
+    }
 
 pub returns : goal.returns
 returns c =

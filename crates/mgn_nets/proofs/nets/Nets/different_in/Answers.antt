@@ -7,10 +7,10 @@ use Rattle.mgn_nets.proofs.nets.Nets.different_in.Goals.{After-deref-2}
 
 -- the page is one of both lists
 inside : (c : After-deref-2) → c.args.page < length c.self.inside.starts.items
-inside c = page-within c.self.inside.count c.self.inside.starts.items c.self.inside.cells.items c.args.self.now _ c.self.view_is c.self.invariant c.args.page c.requires.page
+inside c = page-within c.self.inside.count c.self.inside.starts.items c.self.inside.cells.items c.args.self.now _ c.self.view_is c.self.invariant.pages c.args.page c.requires.page
 
 other_inside : (c : After-deref-2) → c.args.page < length c.other.inside.starts.items
-other_inside c = page-within c.other.inside.count c.other.inside.starts.items c.other.inside.cells.items c.args.other.now _ c.other.view_is c.other.invariant c.args.page (omega (arith, c.requires.long, c.requires.page))
+other_inside c = page-within c.other.inside.count c.other.inside.starts.items c.other.inside.cells.items c.args.other.now _ c.other.view_is c.other.invariant.pages c.args.page (omega (arith, c.requires.long, c.requires.page))
 
 -- where it begins
 start : (c : After-deref-2) → c.from-start.result ≡ get_or c.self.inside.starts.items c.args.page 0
@@ -22,33 +22,33 @@ other_start c = omega (arith, c.from-other_start.ensures, c.index-2.ensures, get
 -- its quantities
 here : (c : After-deref-2) → (i : ℕ) → i < 16 → value_at c.args.self.now (c.args.page * 16 + i) ≡ value_at c.deref.result.now (c.from-start.result + i)
 here c i small =
-    page-cell c.self.inside.count c.self.inside.starts.items c.self.inside.cells.items c.args.self.now _ c.self.view_is c.self.invariant c.args.page i small
+    page-cell c.self.inside.count c.self.inside.starts.items c.self.inside.cells.items c.args.self.now _ c.self.view_is c.self.invariant.pages c.args.page i small
     ∙ (λ j. value_at (sym c.deref.ensures.value j) (sym (start c) j + i))
 
 there : (c : After-deref-2) → (i : ℕ) → i < 16 → value_at c.args.other.now (c.args.page * 16 + i) ≡ value_at c.deref-2.result.now (c.from-other_start.result + i)
 there c i small =
-    page-cell c.other.inside.count c.other.inside.starts.items c.other.inside.cells.items c.args.other.now _ c.other.view_is c.other.invariant c.args.page i small
+    page-cell c.other.inside.count c.other.inside.starts.items c.other.inside.cells.items c.args.other.now _ c.other.view_is c.other.invariant.pages c.args.page i small
     ∙ (λ j. value_at (sym c.deref-2.ensures.value j) (sym (other_start c) j + i))
 
 pub index-requires : goal.index-requires
 index-requires c =
-    let within = page-within c.self.inside.count c.self.inside.starts.items c.self.inside.cells.items c.args.self.now _ c.self.view_is c.self.invariant c.args.page c.requires.page in
+    let within = page-within c.self.inside.count c.self.inside.starts.items c.self.inside.cells.items c.args.self.now _ c.self.view_is c.self.invariant.pages c.args.page c.requires.page in
     let long : vec_len c.self.inside.starts ≡ length c.self.inside.starts.items = search rules in
     omega (arith, within, long)
 
 pub index-requires-2 : goal.index-requires-2
 index-requires-2 c =
-    let within = page-within c.other.inside.count c.other.inside.starts.items c.other.inside.cells.items c.args.other.now _ c.other.view_is c.other.invariant c.args.page (omega (arith, c.requires.long, c.requires.page)) in
+    let within = page-within c.other.inside.count c.other.inside.starts.items c.other.inside.cells.items c.args.other.now _ c.other.view_is c.other.invariant.pages c.args.page (omega (arith, c.requires.long, c.requires.page)) in
     let long : vec_len c.other.inside.starts ≡ length c.other.inside.starts.items = search rules in
     omega (arith, within, long)
 
 pub different_from-requires-clause-inside : goal.different_from-requires-clause-inside
 different_from-requires-clause-inside c =
-    omega (arith, start (goal.at.different_from-requires-clause-inside c).After-deref-2, c.self.invariant.inside c.args.page, ap length c.deref.ensures.value)
+    omega (arith, start (goal.at.different_from-requires-clause-inside c).After-deref-2, c.self.invariant.pages.inside c.args.page, ap length c.deref.ensures.value)
 
 pub different_from-requires-clause-other_inside : goal.different_from-requires-clause-other_inside
 different_from-requires-clause-other_inside c =
-    omega (arith, other_start (goal.at.different_from-requires-clause-other_inside c).After-deref-2, c.other.invariant.inside c.args.page, ap length c.deref-2.ensures.value)
+    omega (arith, other_start (goal.at.different_from-requires-clause-other_inside c).After-deref-2, c.other.invariant.pages.inside c.args.page, ap length c.deref-2.ensures.value)
 
 pub returns-clause-found : goal.returns-clause-found
 returns-clause-found c =
@@ -73,5 +73,5 @@ returns-clause-none c = λ is i low small.
 
 pub returns-clause-few : goal.returns-clause-few
 returns-clause-few c =
-    let within = page-within c.self.inside.count c.self.inside.starts.items c.self.inside.cells.items c.args.self.now _ c.self.view_is c.self.invariant c.args.page c.requires.page in
-    omega (arith, within, c.self.invariant.few)
+    let within = page-within c.self.inside.count c.self.inside.starts.items c.self.inside.cells.items c.args.self.now _ c.self.view_is c.self.invariant.pages c.args.page c.requires.page in
+    omega (arith, within, c.self.invariant.pages.few)

@@ -8,7 +8,7 @@ use Rattle.mgn_nets.proofs.nets.Nets.is_same.Goals as goal
 pub are_same-requires-clause-owned : goal.are_same-requires-clause-owned
 are_same-requires-clause-owned c = λ i past within.
     subst (λ (xs : List ℕ). (page : ℕ) × (get_or xs page 0 ≤ i) × (i < get_or xs page 0 + 16)) (sym c.deref.ensures.value)
-    (c.self.invariant.owned i past (omega (arith, within, ap length c.deref-then-self-other.ensures.value)))
+    (c.self.invariant.pages.owned i past (omega (arith, within, ap length c.deref-then-self-other.ensures.value)))
 
 pub returns-then-self-other : goal.returns-then-self-other
 returns-then-self-other c = (
@@ -20,7 +20,7 @@ returns-then-self-other c = (
   λ same.
       c.are_same.ensures.1 (λ k inside.
       cell-as c.self.inside.starts.items c.deref.result.now c.self.inside.cells.items c.deref-then-self-other.result.now c.deref.ensures.value c.deref-then-self-other.ensures.value k
-      ∙ cells-same c.self.inside.count c.self.inside.starts.items c.self.inside.cells.items c.other.inside.starts.items c.other.inside.cells.items (vec_capacity c.self.inside.cells) (vec_capacity c.other.inside.cells) c.self.invariant (subst (λ (n : ℕ). ArePages n c.other.inside.starts.items c.other.inside.cells.items (vec_capacity c.other.inside.cells)) (sym c.if-self-other.true) c.other.invariant) (c.self.view_is ∙ same ∙ sym c.other.view_is ∙ sym other) k
+      ∙ cells-same c.self.inside.count c.self.inside.starts.items c.self.inside.cells.items c.other.inside.starts.items c.other.inside.cells.items (vec_capacity c.self.inside.cells) (vec_capacity c.other.inside.cells) c.self.invariant.pages (subst (λ (n : ℕ). ArePages n c.other.inside.starts.items c.other.inside.cells.items (vec_capacity c.other.inside.cells)) (sym c.if-self-other.true) c.other.invariant.pages) (c.self.view_is ∙ same ∙ sym c.other.view_is ∙ sym other) k
       ∙ sym (there k)),
 )
   where
@@ -36,7 +36,7 @@ returns-then-self-other c = (
 
     lent : (k : ℕ) → k < c.self.inside.count → k / 16 < length c.deref.result.now
     lent k within =
-        omega (arith, ap length c.deref.ensures.value, page-inside c.self.inside.count c.self.inside.starts.items c.self.invariant.pages k within)
+        omega (arith, ap length c.deref.ensures.value, page-inside c.self.inside.count c.self.inside.starts.items c.self.invariant.pages.pages k within)
 
 pub returns-else-self-other : goal.returns-else-self-other
 returns-else-self-other c = (
