@@ -10,7 +10,7 @@ use std::alloc::{AllocError, Global};
 use std::marker::Model;
 
 /// A copy of the nets of a margin unit's four portfolios. Of a portfolio that has the nets of the lots, as all have where
-/// nothing is held, there is no copy of its own: the book's lock is held while the copies are made. Contracts see the nets
+/// no order is held, there is no copy of its own: the book's lock is held while the copies are made. Contracts see the nets
 /// of all four.
 #[derive(Drop)]
 pub struct UnitCopy {
