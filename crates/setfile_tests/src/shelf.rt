@@ -44,3 +44,20 @@ fn a_shelf_takes_64_sets_more(rt: HostRuntime) -> Result<(), Fail> {
     put_all(&rt, rt.alloc(), &mut shelf)?;
     check_full(&rt, rt.alloc(), &mut shelf)
 }
+
+// Sets as a day has them that goes back and forth between two.
+const NAMES: [&[u8]; 5] = [b"FIRST", b"ONE", b"FIRST", b"ONE", b"TWO"];
+
+#[test]
+fn each_version_shows_its_set_though_one_is_put_again(rt: HostRuntime) -> Result<(), Fail> {
+    let mut shelf = SetList::new(rt.alloc(), bare(rt.alloc(), NAMES[0])?)?;
+    for i in 1..NAMES.len() {
+        let set = bare(rt.alloc(), NAMES[i])?;
+        let version = shelf.put(set).ok().ok_or("a set is refused")?;
+        assert_eq!(&rt; usize::from(version.number()), i);
+    }
+    for i in 0..NAMES.len() {
+        assert!(&rt; shows(&shelf, Version::new(i as u8), NAMES[i]));
+    }
+    Ok(())
+}
