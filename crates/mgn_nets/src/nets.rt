@@ -243,8 +243,13 @@ impl Nets {
         ensures { self.new ≡ slice_set self.old contract (value_at self.old contract +ℤ quantity) }
     {
         if quantity.size() != 0 {
-            self.kept.insert(contract / PAGE);
-            add_to(&mut self.starts, &mut self.cells, contract, quantity);
+            add_to(
+                &mut self.kept,
+                &mut self.starts,
+                &mut self.cells,
+                contract,
+                quantity,
+            );
         }
     }
 

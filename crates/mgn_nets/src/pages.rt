@@ -6,7 +6,7 @@ ghost use Rattle.std.specs.Vec.{vec_capacity};
 ghost use Rattle.mgn_num.specs.Amount.{IsQuantity};
 ghost use Rattle.mgn_span.specs.Scan.{value_at};
 ghost use Rattle.mgn_nets.specs.Pages.{ArePages, cell};
-ghost use Rattle.mgn_nets.specs.PageSets.{AreAmong};
+ghost use Rattle.mgn_nets.specs.PageSets.{AreAmong, has_page};
 
 use crate::page_set::PageSet;
 use mgn_num::Quantity;
@@ -54,14 +54,17 @@ pub(crate) fn cell_at(starts: &[u16], cells: &[Quantity], contract: usize) -> Qu
 }
 
 // Keeps a page from now on, all its quantities 0 as before.
-fn open(starts: &mut Vec<u16>, cells: &mut Vec<Quantity>, page: usize)
+fn open(kept: &mut PageSet, starts: &mut Vec<u16>, cells: &mut Vec<Quantity>, page: usize)
     requires pages { (count : ℕ) × ArePages count starts.old.items cells.old.items (vec_capacity cells.old) }
     requires page { page < length starts.old.items }
     requires closed { slice_index starts.old.items page ≡ 0 }
+    ensures kept { has_page kept.new.words page ≡ 1 }
+    ensures others_kept { (other : ℕ) → other ≢ page → has_page kept.new.words other ≡ has_page kept.old.words other }
     ensures starts { starts.new.items ≡ slice_set starts.old.items page (length cells.old.items) }
     ensures cells { cells.new.items ≡ cells.old.items ++ replicate 16 (pos 0) }
     ensures capacity { vec_capacity cells.new ≡ vec_capacity cells.old }
 {
+    kept.insert(page);
     starts[page] = cells.len() as u16;
     for _ in 0..PAGE {
         cells.push_reserved(Quantity::ZERO);
@@ -69,23 +72,24 @@ fn open(starts: &mut Vec<u16>, cells: &mut Vec<Quantity>, page: usize)
 }
 
 // The same, unless it is kept already.
-fn keep(starts: &mut Vec<u16>, cells: &mut Vec<Quantity>, page: usize)
+fn keep(kept: &mut PageSet, starts: &mut Vec<u16>, cells: &mut Vec<Quantity>, page: usize)
     requires pages { (count : ℕ) × ArePages count starts.old.items cells.old.items (vec_capacity cells.old) }
     requires page { page < length starts.old.items }
     ensures pages { (count : ℕ) → ArePages count starts.old.items cells.old.items (vec_capacity cells.old) →
         ArePages count starts.new.items cells.new.items (vec_capacity cells.new) }
     ensures kept { 0 < slice_index starts.new.items page }
-    ensures others { (other : ℕ) → other ≢ page → slice_index starts.new.items other ≡ slice_index starts.old.items other }
+    ensures among { AreAmong kept.old.words starts.old.items → AreAmong kept.new.words starts.new.items }
     ensures same { (c : ℕ) → cell starts.new.items cells.new.items c ≡ cell starts.old.items cells.old.items c }
     ensures long { length starts.new.items ≡ length starts.old.items }
 {
     if starts[page] == 0 {
-        open(starts, cells, page);
+        open(kept, starts, cells, page);
     }
 }
 
 // Adds to the quantity of a contract.
 pub(crate) fn add_to(
+    kept: &mut PageSet,
     starts: &mut Vec<u16>,
     cells: &mut Vec<Quantity>,
     contract: usize,
@@ -97,13 +101,13 @@ pub(crate) fn add_to(
     ensures pages { (count : ℕ) → contract < count →
         ArePages count starts.old.items cells.old.items (vec_capacity cells.old) →
         ArePages count starts.new.items cells.new.items (vec_capacity cells.new) }
-    ensures starts { (page : ℕ) → page ≢ contract / 16 → slice_index starts.new.items page ≡ slice_index starts.old.items page }
+    ensures among { AreAmong kept.old.words starts.old.items → AreAmong kept.new.words starts.new.items }
     ensures here { cell starts.new.items cells.new.items contract
         ≡ cell starts.old.items cells.old.items contract +ℤ quantity }
     ensures others { (other : ℕ) → other ≢ contract →
         cell starts.new.items cells.new.items other ≡ cell starts.old.items cells.old.items other }
 {
-    keep(starts, cells, contract / PAGE);
+    keep(kept, starts, cells, contract / PAGE);
     let place = usize::from(starts[contract / PAGE]) + contract % PAGE;
     cells[place] = cells[place].plus(quantity);
 }

@@ -1,11 +1,9 @@
-use Rattle.std.proofs.Common.{◌≡◌, ◌≢◌, ◌∙◌, ◌/◌, ⊎_elim, ap, arith, get_or, pos, set, sym, subst, List, ℤ}
-use Rattle.std.proofs.lemmas.Bool.{cases_eq}
+use Rattle.std.proofs.Common.{◌≡◌, ◌∙◌, ap, arith, get_or, pos, set, sym, subst, List, ℤ}
 use Rattle.std.proofs.lemmas.Int.{ints}
 use Rattle.std.proofs.lemmas.List.{set-get_or}
 use Rattle.std.specs.Prelude.{◌+ℤ◌}
 use Rattle.mgn_num.specs.Amount.{IsQuantity}
-use Rattle.mgn_nets.specs.PageSets.{has_page}
-use Rattle.mgn_nets.proofs.Paged.{listed-set, page-inside, row-at, row-within}
+use Rattle.mgn_nets.proofs.Paged.{listed-set, row-at, row-within}
 use Rattle.mgn_nets.proofs.nets.Nets.add.Goals as goal
 
 pub add_to-requires-clause-pages : goal.add_to-requires-clause-pages
@@ -20,23 +18,12 @@ add_to-requires-clause-small c =
     let was = row-at c.self.inside.count c.self.inside.starts.items c.self.inside.cells.items c.args.self.now c.self.view_is c.args.contract c.requires.contract in
     subst (λ (z : ℤ). IsQuantity (z +ℤ c.args.quantity)) (sym was) c.requires.small
 
-pub insert-requires : goal.insert-requires
-insert-requires c =
-    let within = row-within c.self.inside.count c.self.inside.starts.items c.self.inside.cells.items c.args.self.now c.self.view_is c.args.contract c.requires.contract in
-    omega (arith, c.self.invariant.pages.few, page-inside c.self.inside.count c.self.inside.starts.items c.self.invariant.pages.pages c.args.contract within)
-
 pub invariant_of-self : goal.invariant_of-self
 invariant_of-self c =
     let within = row-within c.self.inside.count c.self.inside.starts.items c.self.inside.cells.items c.args.self.now c.self.view_is c.args.contract c.requires.contract in
     record {
       pages = c.add_to.ensures.pages c.self.inside.count within c.self.invariant.pages;
-      among = λ page none.
-          ⊎_elim
-          (λ (own : page ≡ c.args.contract / 16).
-          absurd (omega (arith, none, ap (has_page c.insert.new.self.words) own, c.insert.ensures.own)))
-          (λ (other : page ≢ c.args.contract / 16).
-          c.add_to.ensures.starts page other ∙ c.self.invariant.among page (sym (c.insert.ensures.others page other) ∙ none))
-          (cases_eq page (c.args.contract / 16));
+      among = c.add_to.ensures.among c.self.invariant.among;
     }
 
 pub returns-then-size-ne0 : goal.returns-then-size-ne0
