@@ -1,9 +1,13 @@
 -- The sets of a shelf, of which equal ones stand once: for `put`.
-use Rattle.std.proofs.Common.{◌≡◌, ◌∙◌, ◌<◌, ◌≤◌, ◌++◌, ◌∷◌, [], ℕ, suc, List, ap, arith, get_or, length, length-append, refl, sym, ⊎_elim}
+use Rattle.std.proofs.Common.{◌≡◌, ◌∙◌, ◌<◌, ◌≤◌, ◌++◌, ◌∷◌, [], ℕ, suc, List, ap, arith, get_or, length, length-append, map, refl, sym, ⊎_elim}
 use Rattle.std.proofs.lemmas.Bool.{cases_lt}
 use Rattle.std.proofs.lemmas.List.{get_or_append_left, get_or_push}
-use Rattle.mgn_params.specs.Shelves.{ArePlaces, set_at, shelved}
+use Rattle.mgn_params.specs.Shelves.{ArePlaces, set_at}
 use Rattle.mgn_params.specs.Tables.{Tables, no_tables}
+
+-- the sets of all versions
+abbrev pub shelved : List Tables → List ℕ → List Tables
+shelved sets places = map (set_at sets) places
 
 -- a version more, of a set that is kept
 pub shelved-place : (sets : List Tables) (places : List ℕ) (p : ℕ) → shelved sets (places ++ p ∷ []) ≡ shelved sets places ++ set_at sets p ∷ []

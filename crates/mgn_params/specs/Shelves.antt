@@ -1,5 +1,5 @@
 -- The sets of a book by version (own profile): 0 for the first, then one more with each that is put.
-use Rattle.std.specs.Prelude.{ℕ, ◌<◌, ◌≤◌, List, [], length, map, slice_index, slice_index_or}
+use Rattle.std.specs.Prelude.{ℕ, ◌<◌, ◌≤◌, List, [], length, slice_index, slice_index_or}
 use Rattle.mgn_params.specs.Tables.{Tables, no_tables}
 
 -- the first set and at most 64 more
@@ -14,10 +14,7 @@ IsVersion number = number ≤ 64
 abbrev pub set_at : List Tables → ℕ → Tables
 set_at sets version = slice_index_or sets version (no_tables [])
 
--- the sets of a shelf by the places of each version's among those that are kept
-abbrev pub shelved : List Tables → List ℕ → List Tables
-shelved sets places = map (set_at sets) places
-
+-- where the set of each version stands among those that are kept
 pub record ArePlaces (sets : List Tables) (places : List ℕ) : Type 0 where
   pub first : 0 < length places
   pub few : length places ≤ 65

@@ -18,7 +18,7 @@ pub use limits::{
     MOST_MONTHS, MOST_MONTHS_EACH, MOST_SETS, MOST_SPREADS, MOST_SPREADS_EACH,
 };
 pub use set::ParamSet;
-pub use shelf::{PutFault, SetList, Shelf, Version, place_of_set};
+pub use shelf::{PutFault, SetList, Shelf, Version, place_of_set, set_of};
 pub use tables::{
     Class, Commodity, Contract, CreditSpread, Kind, Leg, LegSide, Month, SpotCharge, Spread, Style,
 };

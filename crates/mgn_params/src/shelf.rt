@@ -88,6 +88,17 @@ pub trait Shelf {
         ensures { version < length (sets self.now) → IsSomeAnd result (λ set. set.now ≡ set_at (sets self.now) version) };
 }
 
+/// The set of a version that a shelf shows.
+pub fn set_of<S: Shelf>(shelf: &S, version: Version) -> &ParamSet
+    requires { version < length (S.sets shelf.now) }
+    ensures { result.now ≡ set_at (S.sets shelf.now) version }
+{
+    match shelf.get(version) {
+        Some(set) => set,
+        None => unreachable!(),
+    }
+}
+
 /// Where a list has a set.
 pub fn place_of_set(sets: &[ParamSet], set: &ParamSet) -> Option<usize>
     ensures there { IfSome result (λ i. (i < length sets.now) × (set_at sets.now i ≡ set.now)) }
@@ -110,13 +121,13 @@ pub struct SetList {
 }
 
 impl Model for SetList {
-    ghost use Rattle.std.specs.Prelude.{List};
+    ghost use Rattle.std.specs.Prelude.{List, map};
     ghost use Rattle.mgn_params.specs.Tables.{Tables};
-    ghost use Rattle.mgn_params.specs.Shelves.{ArePlaces, shelved};
+    ghost use Rattle.mgn_params.specs.Shelves.{ArePlaces, set_at};
 
     ghost Value = { List Tables };
 
-    ghost view = { λ s. shelved s.sets.items s.places.items };
+    ghost view = { λ s. map (set_at s.sets.items) s.places.items };
 
     ghost invariant = { λ s. ArePlaces s.sets.items s.places.items };
 }

@@ -1,7 +1,7 @@
 use Rattle.std.proofs.Common.{◌≡◌, ◌∙◌, ◌<◌, ◌≤◌, ◌++◌, ◌∷◌, [], List, ap, arith, length, refl, rules, subst, sym}
-use Rattle.mgn_params.specs.Shelves.{ArePlaces, shelved}
+use Rattle.mgn_params.specs.Shelves.{ArePlaces}
 use Rattle.mgn_params.specs.Tables.{Tables}
-use Rattle.mgn_params.proofs.Shelved.{places-more, places-pushed, shelved-more}
+use Rattle.mgn_params.proofs.Shelved.{places-more, places-pushed, shelved, shelved-more}
 use Rattle.mgn_params.proofs.shelf.SetListShelf.put.Goals as goal
 
 pub invariant_of-self-in-Some : goal.invariant_of-self-in-Some
