@@ -16,7 +16,7 @@ use crate::in_force::{SwitchCall, switch_set};
 use crate::names::Likely;
 use mgn_ids::{AccountName, SessionNo};
 use mgn_machine::{Command, Reply, Statement};
-use mgn_params::{ParamSet, Shelf, Version, Work};
+use mgn_params::{ParamSet, Shelf, Version, Work, set_of};
 use mgn_plan::{Known, Plan};
 use mgn_register::{Register, StepFault, step};
 use mgn_unit::{PreparedUnits, Row};
@@ -161,9 +161,7 @@ impl Book {
         ensures possible { let book = self.now.book in
             IsPossible (set_at (S.sets shelf.now) book.state.version) book.rows result }
     {
-        let Some(set) = shelf.get(self.register.version()) else {
-            unreachable!();
-        };
+        let set = set_of(shelf, self.register.version());
         self.register.plan(set, command)
     }
 
@@ -233,9 +231,7 @@ impl Book {
         if self.history.reserve().is_err() {
             return Outcome::Memory;
         }
-        let Some(set) = shelf.get(self.register.version()) else {
-            unreachable!();
-        };
+        let set = set_of(shelf, self.register.version());
         let reply = match step(&mut self.register, alloc, set, command, plan, known, work) {
             Ok(reply) => reply,
             Err(StepFault::Memory) => return Outcome::Memory,
@@ -265,9 +261,7 @@ impl Book {
             IfOk result (λ told.
             told ≡ statement_found (set_at (S.sets shelf.now) state.version) state (place_of state account.now)) }
     {
-        let Some(set) = shelf.get(self.register.version()) else {
-            unreachable!();
-        };
+        let set = set_of(shelf, self.register.version());
         self.register.statement(alloc, set, *account)
     }
 

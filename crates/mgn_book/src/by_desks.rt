@@ -12,7 +12,7 @@ use crate::book::{Book, MOST_ENTRIES, Outcome};
 use mgn_desk::Desk;
 use mgn_ids::SessionNo;
 use mgn_machine::{Command, Reply};
-use mgn_params::{Shelf, Version, Work};
+use mgn_params::{Shelf, Version, Work, set_of};
 use mgn_pricing::{is_one_older, known_by};
 use std::alloc::Global;
 
@@ -70,9 +70,7 @@ impl Book {
         if is_one_older(desks, version) {
             return Decision::Stale(version);
         }
-        let Some(set) = shelf.get(version) else {
-            unreachable!();
-        };
+        let set = set_of(shelf, version);
         let plan = self.plan(shelf, command);
         let Some(known) = known_by(desks, version, set, self.rows(), &plan) else {
             return Decision::Apart;

@@ -14,7 +14,7 @@ ghost use Rattle.mgn_book.specs.Switches.{IsSwitched};
 use crate::history::History;
 use mgn_ids::SessionNo;
 use mgn_machine::{NewSet, Refusal, Reply};
-use mgn_params::{ParamSet, PutFault, Shelf, Work};
+use mgn_params::{ParamSet, PutFault, Shelf, Work, set_of};
 use mgn_register::{Register, StepFault};
 use mgn_unit::{NewRows, PreparedUnits, Priced, Row};
 use std::alloc::Global;
@@ -127,9 +127,7 @@ pub(crate) fn switch_set<S: Shelf>(
     ensures idle { let old = set_at (S.sets shelf.old) register.old.state.version in
         ArePreparedFor old set register.old.rows prepared.old.units.items → work.new ≡ work.old }
 {
-    let Some(old) = shelf.get(register.version()) else {
-        unreachable!();
-    };
+    let old = set_of(shelf, register.version());
     match register.rows_under(alloc, old, &set, prepared, work) {
         Ok(rows) => enter_set(
             register,
@@ -176,9 +174,7 @@ pub(crate) fn switch_known<S: Shelf>(
     ensures same_sets { OnErr result (S.sets shelf.new ≡ S.sets shelf.old) }
     ensures idle { AreAllKnown register.old.rows known.now → work.new ≡ work.old }
 {
-    let Some(old) = shelf.get(register.version()) else {
-        unreachable!();
-    };
+    let old = set_of(shelf, register.version());
     match register.amounts_under(alloc, old, &set, known, work) {
         Ok(amounts) => {
             let rows = NewRows::Kept(amounts);

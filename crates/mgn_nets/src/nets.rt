@@ -71,12 +71,20 @@ impl Nets {
     {
         let mut nets = Nets::flat(alloc, list.len())?;
         for i in 0..list.len() {
-            let quantity = list[i];
-            if quantity.size() != 0 {
-                nets.add(i, quantity);
-            }
+            nets.fill(i, list[i]);
         }
         Ok(nets)
+    }
+
+    // Puts a quantity where there is 0. One of 0 has no page kept.
+    fn fill(&mut self, contract: usize, quantity: Quantity)
+        requires contract { contract < length self.old }
+        requires empty { value_at self.old contract ≡ pos 0 }
+        ensures { self.new ≡ slice_set self.old contract quantity }
+    {
+        if quantity.size() != 0 {
+            self.add(contract, quantity);
+        }
     }
 
     /// An equal list. An error says that memory was refused.
@@ -116,7 +124,7 @@ impl Nets {
     {
         let mut nets = Nets::flat(alloc, places.len())?;
         for i in 0..places.len() {
-            nets.add(i, self.at_place(places[i]));
+            nets.fill(i, self.at_place(places[i]));
         }
         Ok(nets)
     }
@@ -236,21 +244,19 @@ impl Nets {
         different_from(&self.cells, start, &other.cells, other_start, from)
     }
 
-    /// The quantity at a place, with another added. One of 0 is not looked for, and has no page kept.
+    /// The quantity at a place, with another added.
     pub fn add(&mut self, contract: usize, quantity: Quantity)
         requires contract { contract < length self.old }
         requires small { IsQuantity (value_at self.old contract +ℤ quantity) }
         ensures { self.new ≡ slice_set self.old contract (value_at self.old contract +ℤ quantity) }
     {
-        if quantity.size() != 0 {
-            add_to(
-                &mut self.kept,
-                &mut self.starts,
-                &mut self.cells,
-                contract,
-                quantity,
-            );
-        }
+        add_to(
+            &mut self.kept,
+            &mut self.starts,
+            &mut self.cells,
+            contract,
+            quantity,
+        );
     }
 
     /// Quantities of 0 in place of these. It takes no memory.

@@ -2,11 +2,6 @@
 use Rattle.std.specs.Prelude.{ℕ, ◌<◌, ◌≤◌, List, [], length, slice_index, slice_index_or}
 use Rattle.mgn_params.specs.Tables.{Tables, no_tables}
 
--- the first set and at most 64 more
-pub record IsShelf (sets : List Tables) : Type 0 where
-  pub first : 0 < length sets
-  pub few : length sets ≤ 65
-
 abbrev pub IsVersion : ℕ → Type 0
 IsVersion number = number ≤ 64
 

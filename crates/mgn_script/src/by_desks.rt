@@ -14,7 +14,7 @@ ghost use Rattle.mgn_script.specs.Desks.{AreAtRest, is_done, is_in_force, is_new
 use mgn_book::{Book, Outcome};
 use mgn_ids::SessionNo;
 use mgn_machine::{Command, Reply};
-use mgn_params::{ParamSet, SetList, Shelf, Version, Work};
+use mgn_params::{ParamSet, SetList, Version, Work, set_of};
 use mgn_pricing::Desks;
 use mgn_unit::{PreparedUnits, Priced, Switch};
 use std::alloc::{AllocError, Global};
@@ -66,9 +66,7 @@ pub(crate) fn commit_command(
 {
     let session = SessionNo::new(1);
     let version = book.version();
-    let Some(set) = shelf.get(version) else {
-        unreachable!();
-    };
+    let set = set_of(shelf, version);
     let plan = book.plan(shelf, command);
     let Ok(known) = desks.foresee(alloc, version, set, book.rows(), &plan) else {
         return book.commit_plain(alloc, session, number, command, shelf, work);
@@ -161,9 +159,7 @@ pub(crate) fn commit_switch(
     ensures kept { is_refused result ≡ true → desks.new ≡ desks.old }
 {
     let session = SessionNo::new(1);
-    let Some(old) = shelf.get(book.version()) else {
-        unreachable!();
-    };
+    let old = set_of(shelf, book.version());
     let Some(known) = mark_all(alloc, book, desks, old, &set) else {
         let mut none = PreparedUnits::none(alloc);
         return book.commit_switch(alloc, session, number, set, shelf, &mut none, work);

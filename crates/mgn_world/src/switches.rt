@@ -10,7 +10,7 @@ ghost use Rattle.mgn_world.specs.Worlds.{IsSound, shown};
 use crate::phases::{Gathering, Phase, set_phase, take_gathering};
 use crate::state::{WorldState, session_at};
 use mgn_book::Outcome;
-use mgn_params::{ParamSet, Shelf, Work};
+use mgn_params::{ParamSet, Work, set_of};
 use mgn_unit::PreparedUnits;
 use std::alloc::{AllocError, Global};
 
@@ -54,9 +54,7 @@ impl WorldState {
         let Some(mut gathering) = take_gathering(&mut self.phases, place) else {
             return Ok(());
         };
-        let Some(old) = self.shelf.get(gathering.version) else {
-            unreachable!();
-        };
+        let old = set_of(&self.shelf, gathering.version);
         gathering.prepare(alloc, old, unit)?;
         set_phase(&mut self.phases, place, Phase::Gathered(gathering));
         Ok(())

@@ -11,7 +11,7 @@ ghost use Rattle.mgn_world.specs.World.{are_of, desks_with, desks_without, mark_
 
 use crate::phases::Seen;
 use mgn_desk::Desk;
-use mgn_params::{SetList, Shelf, Version, Work};
+use mgn_params::{SetList, Version, Work, set_of};
 use mgn_plan::{Plan, UnitChange};
 use mgn_pricing::{is_of, moves_of};
 use std::alloc::{AllocError, Global};
@@ -46,9 +46,7 @@ fn mark(
     ensures desks { OnOk result (AreRightDesks shelf.now desks.new) }
     ensures long { length desks.new ≡ length desks.old }
 {
-    let Some(set) = shelf.get(version) else {
-        unreachable!();
-    };
+    let set = set_of(shelf, version);
     let nets = seen.nets.each_ref();
     desks[seen.unit].mark(alloc, version, set, &nets)
 }
@@ -88,9 +86,7 @@ fn apply_one(desks: &mut [Desk], shelf: &SetList, version: Version, change: &Uni
     ensures desks { AreRightDesks shelf.now desks.new }
     ensures long { length desks.new ≡ length desks.old }
 {
-    let Some(set) = shelf.get(version) else {
-        unreachable!();
-    };
+    let set = set_of(shelf, version);
     desks[change.unit].apply(set, &moves_of(&change.change), &mut Work::new());
 }
 
@@ -104,9 +100,7 @@ fn take_back_one(desks: &mut [Desk], shelf: &SetList, version: Version, change: 
     ensures desks { AreRightDesks shelf.now desks.new }
     ensures long { length desks.new ≡ length desks.old }
 {
-    let Some(set) = shelf.get(version) else {
-        unreachable!();
-    };
+    let set = set_of(shelf, version);
     desks[change.unit].take_back(set, &moves_of(&change.change), &mut Work::new());
 }
 

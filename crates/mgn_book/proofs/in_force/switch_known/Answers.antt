@@ -8,7 +8,7 @@ use Rattle.mgn_book.proofs.in_force.switch_known.Goals as goal
 
 pub amounts_under-requires-clause-keeps : goal.amounts_under-requires-clause-keeps
 amounts_under-requires-clause-keeps g c =
-    let old_is : c.in-Some.old.now ≡ set_at (g.S.Shelf.sets c.args.shelf.now) c.args.register.now.state.version = search rules in
+    let old_is : c.set_of-old.result.now ≡ set_at (g.S.Shelf.sets c.args.shelf.now) c.args.register.now.state.version = search rules in
     subst (λ (t : Tables). KeepsPlaces t c.args.set) (sym old_is) c.requires.keeps
 
 pub returns-in-Ok-clause-switched : goal.returns-in-Ok-clause-switched

@@ -7,7 +7,7 @@ use Rattle.mgn_book.proofs.in_force.switch_set.Goals as goal
 
 pub rows_under-requires-clause-current : goal.rows_under-requires-clause-current
 rows_under-requires-clause-current g c =
-    let old_is : c.in-Some.old.now ≡ set_at (g.S.Shelf.sets c.args.shelf.now) c.args.register.now.state.version = search rules in
+    let old_is : c.set_of-old.result.now ≡ set_at (g.S.Shelf.sets c.args.shelf.now) c.args.register.now.state.version = search rules in
     let prepared = c.args.prepared.now in
     subst (λ (t : Tables). AreCurrent t c.args.set c.args.register.now.rows prepared.units.items prepared.current.items) (sym old_is) c.requires.current
 

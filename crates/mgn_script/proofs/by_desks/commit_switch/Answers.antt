@@ -18,19 +18,19 @@ commit_switch-requires-clause-current c =
     let book = c.args.book.now.book in
     c.none-none.ensures.current (set_at c.args.shelf.now book.state.version) c.args.set book.rows
 
-pub returns-in_default-mark_all-clause-desks : goal.returns-in_default-mark_all-clause-desks
-returns-in_default-mark_all-clause-desks c =
+pub returns-in_default-clause-desks : goal.returns-in_default-clause-desks
+returns-in_default-clause-desks c =
     let sets = c.args.shelf.now in
     let now = c.commit_switch.new.shelf in
     let old = c.args.book.now in
     let new = c.commit_switch.new.self in
     let committed = rw c.new-session.ensures at c.commit_switch.ensures.committed in
-    let same : c.mark_all.new.desks ≡ c.args.desks.now = c.in_default-mark_all.ensures.same refl in
+    let same : c.mark_all.new.desks ≡ c.args.desks.now = c.in_default.ensures.same refl in
     let rest = rest-switched sets now old new c.args.number c.args.set c.commit_switch.result c.args.desks.now committed c.commit_switch.ensures.rows c.commit_switch.ensures.sets c.requires.desks in
     subst (λ (desks : List DeskRows). AreAtRest now new.book desks) (sym same) rest
 
 pub commit_known_switch-outcome-requires-clause-known : goal.commit_known_switch-outcome-requires-clause-known
-commit_known_switch-outcome-requires-clause-known c = rw c.deref.ensures.value c.in-Some-mark_all.ensures.known
+commit_known_switch-outcome-requires-clause-known c = rw c.deref.ensures.value c.in-Some.ensures.known
 
 pub returns-clause-desks : goal.returns-clause-desks
 returns-clause-desks c =

@@ -1,6 +1,4 @@
-use Rattle.std.proofs.Common.{◌≡◌, ◌∙◌, ap, arith, get_or, pos, set, sym, subst, List, ℤ}
-use Rattle.std.proofs.lemmas.Int.{ints}
-use Rattle.std.proofs.lemmas.List.{set-get_or}
+use Rattle.std.proofs.Common.{◌∙◌, ap, get_or, pos, set, sym, subst, List, ℤ}
 use Rattle.std.specs.Prelude.{◌+ℤ◌}
 use Rattle.mgn_num.specs.Amount.{IsQuantity}
 use Rattle.mgn_nets.proofs.Paged.{listed-set, row-at, row-within}
@@ -26,16 +24,9 @@ invariant_of-self c =
       among = c.add_to.ensures.among c.self.invariant.among;
     }
 
-pub returns-then-size-ne0 : goal.returns-then-size-ne0
-returns-then-size-ne0 c =
+pub returns : goal.returns
+returns c =
     let within = row-within c.self.inside.count c.self.inside.starts.items c.self.inside.cells.items c.args.self.now c.self.view_is c.args.contract c.requires.contract in
     let was = row-at c.self.inside.count c.self.inside.starts.items c.self.inside.cells.items c.args.self.now c.self.view_is c.args.contract c.requires.contract in
     listed-set c.self.inside.count c.self.inside.starts.items c.self.inside.cells.items c.add_to.new.starts.items c.add_to.new.cells.items c.args.contract (get_or c.args.self.now c.args.contract (pos 0) +ℤ c.args.quantity) within (c.add_to.ensures.here ∙ ap (λ (z : ℤ). z +ℤ c.args.quantity) was) c.add_to.ensures.others
     ∙ ap (λ (xs : List ℤ). set xs c.args.contract (get_or c.args.self.now c.args.contract (pos 0) +ℤ c.args.quantity)) c.self.view_is
-
-pub returns-else-size-ne0 : goal.returns-else-size-ne0
-returns-else-size-ne0 c =
-    let was = c.args.self.now in
-    let none : c.args.quantity ≡ pos 0 = omega (arith, ints, c.size.ensures.value) in
-    let same : get_or was c.args.contract (pos 0) +ℤ c.args.quantity ≡ get_or was c.args.contract (pos 0) = omega (arith, ints, none) in
-    sym (ap (λ (n : ℤ). set was c.args.contract n) same ∙ set-get_or was c.args.contract (pos 0))

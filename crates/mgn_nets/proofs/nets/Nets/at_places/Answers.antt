@@ -1,28 +1,31 @@
 use Rattle.std.proofs.Common.{◌≡◌, ◌≢◌, ◌∙◌, ap, arith, get_or, length, length-set, rules, sym, ℕ, ⊎_elim}
 use Rattle.std.proofs.lemmas.Bool.{cases_eq}
-use Rattle.std.specs.Prelude.{◌+ℤ◌, None}
+use Rattle.std.specs.Prelude.{None}
 use Rattle.mgn_span.specs.Scan.{value_at}
 use Rattle.mgn_nets.specs.Numbers.{number_at}
 use Rattle.mgn_nets.proofs.Filling.{filled-here, filled-other}
 use Rattle.mgn_nets.proofs.Places.{at-places-all}
 use Rattle.mgn_nets.proofs.nets.Nets.at_places.Goals as goal
 
+pub fill-requires-clause-empty : goal.fill-requires-clause-empty
+fill-requires-clause-empty c = c.loop-i.invariant.rest c.loop-i.i (omega arith)
+
 pub loop-i-preserved : goal.loop-i-preserved
 loop-i-preserved c =
     let nets = c.loop-i.nets in
-    let new = c.add.new.self in
+    let new = c.fill.new.self in
     let i = c.loop-i.i in
     let q = c.at_place.result in
     let read : q ≡ number_at c.args.self.now (get_or c.args.places.now i None) = search rules in
-    let here = filled-here nets new i q c.add.ensures (omega (arith, c.loop-i.invariant.long, c.loop-i-test.true)) (c.loop-i.invariant.rest i (omega arith)) in
+    let here = filled-here nets new i q c.fill.ensures (omega (arith, c.loop-i.invariant.long, c.loop-i-test.true)) in
     record {
-      long = ap length c.add.ensures ∙ length-set nets i (value_at nets i +ℤ q) ∙ c.loop-i.invariant.long;
+      long = ap length c.fill.ensures ∙ length-set nets i q ∙ c.loop-i.invariant.long;
       done = λ k less.
           ⊎_elim
           (λ (own : k ≡ i). ap (value_at new) own ∙ here ∙ read ∙ ap (λ (n : ℕ). number_at c.args.self.now (get_or c.args.places.now n None)) (sym own))
-          (λ (other : k ≢ i). filled-other nets new i k q c.add.ensures other ∙ c.loop-i.invariant.done k (omega (arith, less, other)))
+          (λ (other : k ≢ i). filled-other nets new i k q c.fill.ensures other ∙ c.loop-i.invariant.done k (omega (arith, less, other)))
           (cases_eq k i);
-      rest = λ k low. filled-other nets new i k q c.add.ensures (λ own. absurd (omega (arith, own, low))) ∙ c.loop-i.invariant.rest k (omega (arith, low));
+      rest = λ k low. filled-other nets new i k q c.fill.ensures (λ own. absurd (omega (arith, own, low))) ∙ c.loop-i.invariant.rest k (omega (arith, low));
     }
 
 pub returns : goal.returns

@@ -1,4 +1,4 @@
-use Rattle.std.proofs.Common.{◌≡◌, ◌<◌, ◌∙◌, arith, ap, length, List, ℕ, subst, sym, refl}
+use Rattle.std.proofs.Common.{◌≡◌, ◌<◌, ◌∙◌, arith, ap, length, List, subst, sym, refl}
 use Rattle.std.specs.Prelude.{slice_set}
 use Rattle.std.proofs.lemmas.List.{set-set}
 use Rattle.mgn_params.specs.Shelves.{set_at}
@@ -17,10 +17,8 @@ returns-clause-step c =
     let is = c.in-Some.ensures.found in
     let took = (c.in-Some.ensures.taken c.in-Some.gathering is).1 in
     let put = c.set_phase.ensures ∙ ap (λ (xs : List Phase). slice_set xs c.args.place (Gathered c.prepare.new.self)) took ∙ set-set c.args.self.now.phases.items c.args.place Idle (Gathered c.prepare.new.self) in
-    let inside : c.args.place < length c.args.self.now.phases.items = omega (arith, c.requires.place, c.requires.sound.sixteen) in
-    let gathered : IsGathered c.args.self.now.shelf c.in-Some.gathering = of_phase c.args.self.now.shelf (length c.args.self.now.desks.items) c.args.self.now.phases.items c.args.place (Gathered c.in-Some.gathering) inside c.requires.sound.phases is in
     let version : c.gathering.inside.version ≡ c.in-Some.gathering.version = ap (λ (g : Gathering). g.version) c.gathering.view_is in
-    let old = c.in-Some-get.ensures (subst (λ (v : ℕ). v < length c.args.self.now.shelf) (sym version) gathered.inside) ∙ ap (set_at c.args.self.now.shelf) version in
+    let old = c.set_of-old.ensures ∙ ap (set_at c.args.self.now.shelf) version in
     prepares_is (shown c.args.self.now) c.args.place c.args.unit c.in-Some.gathering c.prepare.new.self c.set_phase.new.phases.items is
     (c.in_ok-prepare.ensures ∙ ap (λ (t : Tables). prepared_more t c.args.unit c.in-Some.gathering) old) put
 
@@ -33,4 +31,4 @@ returns-clause-sound c =
     let gathered : IsGathered c.args.self.now.shelf c.in-Some.gathering = of_phase c.args.self.now.shelf (length c.args.self.now.desks.items) c.args.self.now.phases.items c.args.place (Gathered c.in-Some.gathering) inside c.requires.sound.phases is in
     after_sound c.args.self.now record { shelf = c.args.self.now.shelf; book = c.args.self.now.book; desks = c.args.self.now.desks; locks = c.args.self.now.locks; phases = c.set_phase.new.phases } c.args.place (Gathered c.prepare.new.self)
     c.requires.sound refl c.requires.sound.book refl
-    (subst (IsGathered c.args.self.now.shelf) (sym c.in_ok-prepare.ensures) (prepared_sound c.args.self.now.shelf c.in-Some-get.old.now c.args.unit c.in-Some.gathering gathered)) put
+    (subst (IsGathered c.args.self.now.shelf) (sym c.in_ok-prepare.ensures) (prepared_sound c.args.self.now.shelf c.set_of-old.result.now c.args.unit c.in-Some.gathering gathered)) put
