@@ -12,7 +12,7 @@ import source
 
 # The places that make a count, by (file, function): calls that no clause keeps from working, or that are the last to lend one.
 ALLOWED = {
-    ("crates/mgn_desk/src/portfolio.rt", "bring_to"),
+    ("crates/mgn_desk/src/bringing.rt", "bring_net"),
     ("crates/mgn_ledger/src/ledger.rt", "enter"),
     ("crates/mgn_ledger/src/ledger.rt", "enter_switch"),
     ("crates/mgn_prepare/src/marker.rt", "mark"),

@@ -1,4 +1,4 @@
--- Totals, sums and stages after a change of one net, and what is worked out by them: for `move_net`.
+-- Totals, sums and stages after a change of one net, and what is worked out by them.
 use Rattle.std.proofs.Common.{◌≡◌, ℕ, ◌<◌, List, length, slice_set, pos, ℤ, ap, ◌∙◌, sym, arith, refl, All, length-set, eq-eqb, get_or-set_same}
 use Rattle.std.specs.Prelude.{◌+ℤ◌, ◌*ℤ◌}
 use Rattle.std.proofs.lemmas.Int.{ints}
@@ -9,16 +9,18 @@ use Rattle.mgn_params.specs.Tables.{Tables, contract_at, month_at, no_contract}
 use Rattle.mgn_span.specs.Deltas.{month_delta}
 use Rattle.mgn_span.specs.MonthDeltas.{intra_charge_by, month_deltas, net_delta_by, spot_charge_by}
 use Rattle.mgn_span.specs.Positions.{IsNet, positions}
-use Rattle.mgn_span.specs.Requirement.{scan_of}
 use Rattle.mgn_span.specs.Scan.{value_at}
 use Rattle.mgn_span.specs.Sizes.{IsDelta}
 use Rattle.mgn_span.specs.Words.{net_delta}
 use Rattle.mgn_span.proofs.MonthDeltaLemmas.{intra_charge_by-month_deltas, net_delta_by-month_deltas, spot_charge_by-month_deltas, value_at-month_deltas}
 use Rattle.mgn_scan.specs.Totals.{AreTotals}
+use Rattle.mgn_scan.proofs.TotalsLemmas.{scan_is}
 use Rattle.mgn_option.specs.Sums.{AreSums}
 use Rattle.mgn_tiers.specs.Tiers.{AreTiersOf}
 use Rattle.mgn_tiers.proofs.StartLemmas.{net_moved}
-use Rattle.mgn_desk.specs.WorkedPortfolios.{AreParts, charge_of, WorkedPortfolio}
+use Rattle.mgn_tiers.proofs.TierLemmas.{charge_of_run, spot_of_run}
+use Rattle.mgn_desk.specs.KeptRows.{row_charge}
+use Rattle.mgn_desk.specs.WorkedPortfolios.{AreParts, charge_of, row_of, WorkedPortfolio}
 use Rattle.mgn_desk.proofs.FrameLemmas.{changed, deltas_changed}
 use Rattle.mgn_span.proofs.DeltaLemmas.{month_delta_small, net_delta_small}
 
@@ -71,12 +73,13 @@ parts_after t p new i q limits are h is total_are sums_are tiers_are deltas =
     }
 
 -- the risk before credits by what is kept
-pub charge_is : (t : Tables) (p : WorkedPortfolio) (g : ℕ) (scan intra spot : ℤ) → AreParts t p → scan ≡ scan_of (positions t.contracts p.nets) g → intra ≡ pos (intra_charge_by t p.tiers.deltas g) → spot ≡ pos (spot_charge_by t p.tiers.deltas g) → scan +ℤ intra +ℤ spot ≡ charge_of t (positions t.contracts p.nets) g
-charge_is t p g scan intra spot are scan_is intra_is spot_is =
+pub charge_is : (t : Tables) (p : WorkedPortfolio) (g : ℕ) → AreParts t p → g < length t.commodities → row_charge (row_of p g) ≡ charge_of t (positions t.contracts p.nets) g
+charge_is t p g are low =
     let portfolio = positions t.contracts p.nets in
-    let first = intra_is ∙ ap (λ (ds : List ℤ). pos (intra_charge_by t ds g)) are.deltas ∙ ap pos (intra_charge_by-month_deltas t portfolio g) in
-    let second = spot_is ∙ ap (λ (ds : List ℤ). pos (spot_charge_by t ds g)) are.deltas ∙ ap pos (spot_charge_by-month_deltas t portfolio g) in
-    rw (scan_is, first, second) refl
+    let scan = scan_is t p.nets p.totals (row_of p g).scan g are.totals (omega (arith, low, are.totals.one_row_each)) refl in
+    let intra = ap pos (charge_of_run t p.tiers g are.tiers low ∙ ap (λ (ds : List ℤ). intra_charge_by t ds g) are.deltas ∙ intra_charge_by-month_deltas t portfolio g) in
+    let spot = ap pos (spot_of_run t p.tiers g are.tiers low ∙ ap (λ (ds : List ℤ). spot_charge_by t ds g) are.deltas ∙ spot_charge_by-month_deltas t portfolio g) in
+    rw (scan, intra, spot) refl
 
 -- the net delta
 pub net_delta_is : (t : Tables) (p : WorkedPortfolio) (g : ℕ) → AreParts t p → net_delta_by t.months p.tiers.deltas g ≡ net_delta t.months (positions t.contracts p.nets) g

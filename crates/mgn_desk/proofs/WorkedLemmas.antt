@@ -1,9 +1,8 @@
 -- What is kept of a portfolio once one commodity is brought after its nets: for `change` and `settle`.
-use Rattle.std.proofs.Common.{◌≡◌, ◌≢◌, ℕ, ◌<◌, Bool, true, false, List, length, slice_index, slice_set, pos, ℤ, unsigned_abs, ap, ◌∙◌, sym, subst, arith, refl, ⊎_elim, length-set, get_or-set_same, get_or-set_other}
+use Rattle.std.proofs.Common.{◌≡◌, ◌≢◌, ℕ, ◌<◌, Bool, true, false, List, length, slice_index, slice_set, pos, ℤ, unsigned_abs, ap, ◌∙◌, sym, arith, refl, ⊎_elim, length-set, get_or-set_same, get_or-set_other}
 use Rattle.std.specs.Prelude.{◌-ℤ◌, if◌then◌else◌}
 use Rattle.std.specs.Int.{int_max}
 use Rattle.std.proofs.lemmas.Bool.{cases_eq}
-use Rattle.std.proofs.lemmas.List.Elements.{All-set}
 use Rattle.mgn_num.specs.Signed.{signed_sum_below}
 use Rattle.mgn_params.specs.Limits.{IsWithinLimits}
 use Rattle.mgn_params.specs.Tables.{Tables, contract_at}
@@ -16,10 +15,10 @@ use Rattle.mgn_span.specs.Words.{net_delta}
 use Rattle.mgn_inter.specs.Credited.{AreCreditsOf}
 use Rattle.mgn_inter.specs.Rows.{Credited, named}
 use Rattle.mgn_span.proofs.SumLemmas.{signed_sum_below_same}
-use Rattle.mgn_desk.specs.WorkedPortfolios.{AreCharges, AreCreditsBy, AreParts, charge_of, IsBehind, IsPortfolio, IsReady, KeepsParts, KeepsRest, net_deltas_of, price_risks_of, SameBut, with_risks, worked_risk, WorkedPortfolio}
-use Rattle.mgn_desk.specs.Risks.{IsRisk}
+use Rattle.mgn_desk.specs.WorkedPortfolios.{AreCreditsBy, AreParts, charge_of, IsBehind, IsPortfolio, IsReady, net_deltas_of, price_risks_of, SameBut, with_credits, with_risks, worked_risk, WorkedPortfolio}
 use Rattle.mgn_desk.proofs.CreditLemmas.{credit_of}
 use Rattle.mgn_desk.proofs.FrameLemmas.{changed, same_but_changed}
+use Rattle.mgn_desk.proofs.MoveLemmas.{charge_is}
 use Rattle.mgn_desk.proofs.RowLemmas.{row-set}
 
 parts_with_risks : (t : Tables) (p : WorkedPortfolio) (risks : List ℤ) → AreParts t p → AreParts t (with_risks p risks)
@@ -29,7 +28,6 @@ pub ready_with_risks : (t : Tables) (p : WorkedPortfolio) (risks : List ℤ) →
 ready_with_risks t p risks is = record {
   parts = parts_with_risks t p risks is.parts;
   credits = is.credits;
-  charges = is.charges;
 }
 
 -- the credit of a commodity by what is kept
@@ -44,7 +42,7 @@ credit_by t nets c g are =
 pub worked_risk_is : (t : Tables) (p : WorkedPortfolio) (g : ℕ) → IsReady t p → g < length t.commodities → worked_risk p g ≡ risk t (positions t.contracts p.nets) g
 unfolding risk
 worked_risk_is t p g is h =
-    rw (is.charges.each g h, credit_by t p.nets p.credits g is.credits, is.parts.sums.each g h) refl
+    rw (charge_is t p g is.parts h, credit_by t p.nets p.credits g is.credits, is.parts.sums.each g h) refl
 
 -- Nothing is behind, and then the nets of one commodity change.
 
@@ -53,7 +51,6 @@ behind_none t g p is = record {
   was = p.nets;
   parts = is.ready.parts;
   credits = is.ready.credits;
-  charges = is.ready.charges;
   risks = is.risks;
   others = record {
     charges = λ k other. refl;
@@ -63,15 +60,14 @@ behind_none t g p is = record {
   };
 }
 
-pub behind_moved : (t : Tables) (old p : WorkedPortfolio) (i : ℕ) (q : ℤ) → IsWithinLimits t → i < length t.contracts → IsBehind t (contract_at t.contracts i).commodity old → p.nets ≡ changed old.nets i q → AreParts t p → KeepsRest old p → IsBehind t (contract_at t.contracts i).commodity p
-behind_moved t old p i q limits h behind nets parts rest =
+pub behind_moved : (t : Tables) (old p : WorkedPortfolio) (i : ℕ) (q : ℤ) → IsWithinLimits t → i < length t.contracts → IsBehind t (contract_at t.contracts i).commodity old → p.nets ≡ changed old.nets i q → AreParts t p → p.credits ≡ old.credits → p.risks ≡ old.risks → IsBehind t (contract_at t.contracts i).commodity p
+behind_moved t old p i q limits h behind nets parts credits risks =
     let step = same_but_changed t old.nets i q limits h behind.parts.totals.one_each in
     record {
       was = behind.was;
       parts = parts;
-      credits = rw rest.0 behind.credits;
-      charges = rw rest.1 behind.charges;
-      risks = rw rest.2 behind.risks;
+      credits = rw credits behind.credits;
+      risks = rw risks behind.risks;
       others = record {
         charges = λ k other. rw nets (step.charges k other) ∙ behind.others.charges k other;
         net_deltas = λ k other. rw nets (step.net_deltas k other) ∙ behind.others.net_deltas k other;
@@ -81,21 +77,6 @@ behind_moved t old p i q limits h behind nets parts rest =
     }
 
 -- What is written of the commodity.
-
--- the risks before credits
-charges_settled : (t : Tables) (old new charges : List ℤ) (g : ℕ) (x : ℤ) → g < length t.commodities → AreCharges t old charges → SameBut t g old new → IsRisk x → x ≡ charge_of t (positions t.contracts new) g → AreCharges t new (slice_set charges g x)
-charges_settled t old new charges g x low are same small is = record {
-  one_each = length-set charges g x ∙ are.one_each;
-  small = All-set IsRisk charges g x small are.small;
-  each = λ k inside.
-      ⊎_elim
-      (λ (here : k ≡ g).
-      let written = ap (λ (j : ℕ). value_at (slice_set charges g x) j) here ∙ get_or-set_same charges g x (pos 0) (omega (arith, low, are.one_each)) in
-      written ∙ is ∙ ap (λ (j : ℕ). charge_of t (positions t.contracts new) j) (sym here))
-      (λ (other : k ≢ g).
-      get_or-set_other charges g k x (pos 0) other ∙ are.each k inside ∙ sym (same.charges k other))
-      (cases_eq k g);
-}
 
 -- the rows of net deltas and price risks
 net_deltas_settled : (t : Tables) (old new : List ℤ) (g : ℕ) → g < length t.commodities → SameBut t g old new → slice_set (net_deltas_of t (positions t.contracts old)) g (net_delta t.months (positions t.contracts new) g) ≡ net_deltas_of t (positions t.contracts new)
@@ -140,35 +121,25 @@ portfolio_after t old p places g low behind is nets same long written =
       };
     }
 
--- all but the risks, once charges and credits are written
-pub ready_after : (t : Tables) (old p : WorkedPortfolio) (g : ℕ) → g < length t.commodities → IsBehind t g old → KeepsParts old p → AreCreditsOf t p.credits → let portfolio = positions t.contracts old.nets in p.credits.deltas ≡ slice_set old.credits.deltas g (net_delta t.months portfolio g) → p.credits.risks ≡ slice_set old.credits.risks g (unsigned_abs (price_risk2 (scenario_total g portfolio))) → p.charges ≡ slice_set old.charges g (charge_of t portfolio g) → IsRisk (charge_of t portfolio g) → IsReady t p
-ready_after t old p g low behind same credits deltas risks charges small =
+-- all but the risks, once the credits are written
+pub ready_after : (t : Tables) (old : WorkedPortfolio) (credits : Credited) (g : ℕ) → g < length t.commodities → IsBehind t g old → AreCreditsOf t credits → let portfolio = positions t.contracts old.nets in credits.deltas ≡ slice_set old.credits.deltas g (net_delta t.months portfolio g) → credits.risks ≡ slice_set old.credits.risks g (unsigned_abs (price_risk2 (scenario_total g portfolio))) → IsReady t (with_credits old credits)
+ready_after t old credits g low behind of_set deltas risks =
     let portfolio = positions t.contracts old.nets in
     record {
-      parts = record {
-        totals = rw (same.nets, same.totals) behind.parts.totals;
-        sums = rw (same.nets, same.sums) behind.parts.sums;
-        tiers = rw same.tiers behind.parts.tiers;
-        deltas = rw (same.nets, same.tiers) behind.parts.deltas;
-      };
+      parts = record { totals = behind.parts.totals; sums = behind.parts.sums; tiers = behind.parts.tiers; deltas = behind.parts.deltas };
       credits = record {
-        of_set = credits;
-        net_deltas = rw same.nets (deltas ∙ ap (λ (ds : List ℤ). slice_set ds g (net_delta t.months portfolio g)) behind.credits.net_deltas ∙ net_deltas_settled t behind.was old.nets g low behind.others);
-        price_risks = rw same.nets (risks ∙ ap (λ (rs : List ℕ). slice_set rs g (unsigned_abs (price_risk2 (scenario_total g portfolio)))) behind.credits.price_risks ∙ price_risks_settled t behind.was old.nets g low behind.others);
+        of_set = of_set;
+        net_deltas = deltas ∙ ap (λ (ds : List ℤ). slice_set ds g (net_delta t.months portfolio g)) behind.credits.net_deltas ∙ net_deltas_settled t behind.was old.nets g low behind.others;
+        price_risks = risks ∙ ap (λ (rs : List ℕ). slice_set rs g (unsigned_abs (price_risk2 (scenario_total g portfolio)))) behind.credits.price_risks ∙ price_risks_settled t behind.was old.nets g low behind.others;
       };
-      charges = rw (same.nets, charges) (charges_settled t behind.was old.nets old.charges g (charge_of t portfolio g) low behind.charges behind.others small refl);
     }
 
 -- all that is kept once the risks are written
-pub portfolio_written : (t : Tables) (old refreshed mended p : WorkedPortfolio) (places : List ℕ) (g : ℕ) → g < length t.commodities → IsBehind t g old → KeepsParts old refreshed → IsReady t refreshed → ((k : ℕ) → named k t.credits places ≡ false → slice_index refreshed.credits.credits k ≡ slice_index old.credits.credits k) → mended ≡ with_risks refreshed (slice_set refreshed.risks g (worked_risk refreshed g)) → p ≡ with_risks mended p.risks → length p.risks ≡ length mended.risks → ((k : ℕ) → k < length mended.risks → value_at p.risks k ≡ (if named k t.credits places then worked_risk mended k else value_at mended.risks k)) → IsPortfolio t p
-portfolio_written t old refreshed mended p places g low behind same is credits mended_is p_is long written =
-    let e : p ≡ with_risks refreshed p.risks = p_is ∙ ap (λ (y : WorkedPortfolio). with_risks y p.risks) mended_is in
-    let by : (k : ℕ) → worked_risk mended k ≡ worked_risk p k = λ k. ap (λ (y : WorkedPortfolio). worked_risk y k) mended_is ∙ sym (ap (λ (y : WorkedPortfolio). worked_risk y k) e) in
-    let row : mended.risks ≡ slice_set old.risks g (worked_risk p g) = ap (λ (y : WorkedPortfolio). y.risks) mended_is ∙ ap (λ (rs : List ℤ). slice_set rs g (worked_risk refreshed g)) same.risks ∙ ap (λ (r : ℤ). slice_set old.risks g r) (sym (ap (λ (y : WorkedPortfolio). worked_risk y g) e)) in
-    let rows_long : length mended.risks ≡ length old.risks = ap (λ (rs : List ℤ). length rs) row ∙ length-set old.risks g (worked_risk p g) in
-    portfolio_after t old p places g low behind (subst (λ (y : WorkedPortfolio). IsReady t y) (sym e) (ready_with_risks t refreshed p.risks is)) (ap (λ (y : WorkedPortfolio). y.nets) e ∙ same.nets) (λ n out.
-    ap (λ (y : WorkedPortfolio). slice_index y.credits.credits n) e ∙ credits n out) (long ∙ rows_long) (λ k inside.
-    written k (omega (arith, rows_long)) ∙ ap (λ (r : ℤ). if named k t.credits places then r else value_at mended.risks k) (by k) ∙ ap (λ (rs : List ℤ). if named k t.credits places then worked_risk p k else value_at rs k) row)
+pub portfolio_written : (t : Tables) (old p : WorkedPortfolio) (mended : List ℤ) (places : List ℕ) (g : ℕ) → g < length t.commodities → IsBehind t g old → IsReady t p → p.nets ≡ old.nets → ((k : ℕ) → named k t.credits places ≡ false → slice_index p.credits.credits k ≡ slice_index old.credits.credits k) → mended ≡ slice_set old.risks g (worked_risk p g) → length p.risks ≡ length mended → ((k : ℕ) → k < length mended → value_at p.risks k ≡ (if named k t.credits places then worked_risk p k else value_at mended k)) → IsPortfolio t p
+portfolio_written t old p mended places g low behind is nets credits row long written =
+    let rows_long : length mended ≡ length old.risks = ap (λ (rs : List ℤ). length rs) row ∙ length-set old.risks g (worked_risk p g) in
+    portfolio_after t old p places g low behind is nets credits (long ∙ rows_long) (λ k inside.
+    written k (omega (arith, rows_long)) ∙ ap (λ (rs : List ℤ). if named k t.credits places then worked_risk p k else value_at rs k) row)
 
 -- the sum of the risks by what is kept
 sum_is : (t : Tables) (p : WorkedPortfolio) → IsPortfolio t p → signed_sum_below (value_at p.risks) (length p.risks) ≡ signed_sum_below (risk t (positions t.contracts p.nets)) (length t.commodities)

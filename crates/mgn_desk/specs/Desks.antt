@@ -1,6 +1,8 @@
 -- The desk of a margin unit: empty, or its four portfolios under the set of a version.
 use Rattle.std.specs.Prelude.{ℕ, ◌≡◌, ℤ, Option, Some, None}
 use Rattle.mgn_params.specs.Tables.{Tables}
+use Rattle.mgn_span.specs.Positions.{IsNet}
+use Rattle.mgn_span.specs.Scan.{value_at}
 use Rattle.mgn_nets.specs.declared.portfolios.Portfolios.{Portfolios}
 use Rattle.mgn_nets.specs.Portfolios.{UnitNets}
 use Rattle.mgn_desk.specs.declared.desk.Marked.{Marked}
@@ -61,6 +63,21 @@ HasRows set (Some m) = AreRows set m.portfolios
 abbrev pub AreNetsOf : Option Marked → UnitNets → Type 0
 AreNetsOf None nets = ⊥
 AreNetsOf (Some m) nets = nets ≡ nets_of m.portfolios
+
+-- it is marked, with these nets of a contract
+abbrev pub nets_at : UnitNets → ℕ → Portfolios ℤ
+nets_at n i = record { lots = value_at n.lots i; buys = value_at n.buys i; sales = value_at n.sales i; all = value_at n.all i }
+
+abbrev pub AreNetsAt : Option Marked → ℕ → Portfolios ℤ → Type 0
+AreNetsAt None i nets = ⊥
+AreNetsAt (Some m) i nets = nets ≡ nets_at (nets_of m.portfolios) i
+
+-- nets of a contract within their limits
+pub record AreInLimits (nets : Portfolios ℤ) : Type 0 where
+  pub lots : IsNet nets.lots
+  pub buys : IsNet nets.buys
+  pub sales : IsNet nets.sales
+  pub all : IsNet nets.all
 
 -- its nets stay within their limits after moves
 abbrev pub CanMoveMarked : Moves → Option Marked → Type 0

@@ -9,39 +9,50 @@ use Rattle.mgn_nets.specs.Portfolios.{UnitNets}
 use Rattle.mgn_desk.specs.declared.moves.Moves.{Moves}
 use Rattle.mgn_desk.specs.declared.branch.Branch.{Branch}
 use Rattle.mgn_desk.specs.declared.unit_portfolios.UnitPortfolios.{UnitPortfolios}
-use Rattle.mgn_desk.specs.WorkedPortfolios.{ArePortfolioRows, IsPortfolio, WorkedPortfolio}
+use Rattle.mgn_desk.specs.declared.figures.Figures.{Figures}
+use Rattle.mgn_desk.specs.declared.portfolio.Portfolio.{Portfolio}
+use Rattle.mgn_desk.specs.declared.portfolio.Portfolio.TheVariants.{Lots, WithBuys, WithSales, WithAll}
+use Rattle.mgn_desk.specs.declared.unit_lists.UnitLists.{UnitLists}
+use Rattle.mgn_desk.specs.UnitLists.{AreLists, IsTogether, flat_lists, nets_of_lists}
+use Rattle.mgn_desk.specs.WorkedPortfolios.{AreFigures, AreFlatFigures, IsPortfolio, worked}
 use Rattle.mgn_desk.specs.Moved.{arrays_of_quantity, more_of}
 
--- what is kept of a branch: its own where it is apart, else that of the lots
-abbrev pub branch_of : WorkedPortfolio → Branch → WorkedPortfolio
-branch_of lots b = if b.apart then b.own else lots
+-- the figures of a branch: its own where it is apart, else those of the lots
+abbrev pub figures_of : Figures → Branch → Figures
+figures_of lots b = if b.apart then b.own else lots
 
 abbrev pub nets_of : UnitPortfolios → UnitNets
-nets_of p = record {
-  lots = p.lots.nets;
-  buys = (branch_of p.lots p.buys).nets;
-  sales = (branch_of p.lots p.sales).nets;
-  all = (branch_of p.lots p.all).nets;
-}
+nets_of p = nets_of_lists p.lists
 
 -- each has the rows that a set asks for
 pub record AreRows (set : Tables) (p : UnitPortfolios) : Type 0 where
-  pub lots : ArePortfolioRows set p.lots
-  pub buys : ArePortfolioRows set p.buys.own
-  pub sales : ArePortfolioRows set p.sales.own
-  pub all : ArePortfolioRows set p.all.own
+  pub lists : AreLists set p.lists
+  pub lots : AreFigures set p.lots
+  pub buys : AreFigures set p.buys.own
+  pub sales : AreFigures set p.sales.own
+  pub all : AreFigures set p.all.own
 
--- a branch has the rows that this set asks for, and is kept under it where it is apart
-pub record IsUnder (set : Tables) (b : Branch) : Type 0 where
-  pub rows : ArePortfolioRows set b.own
-  pub own : b.apart ≡ true → IsPortfolio set b.own
+-- nothing is held, and no figures of a branch count
+pub record AreFlat (set : Tables) (p : UnitPortfolios) : Type 0 where
+  pub lists : p.lists ≡ flat_lists set
+  pub lots : AreFlatFigures set p.lots
+  pub buys : AreFigures set p.buys.own
+  pub sales : AreFigures set p.sales.own
+  pub all : AreFigures set p.all.own
+
+-- a branch has the rows that this set asks for; where it is apart it is kept under the set, and else it has what the lots have
+pub record IsUnder (set : Tables) (w : Portfolio) (l : UnitLists) (b : Branch) : Type 0 where
+  pub rows : AreFigures set b.own
+  pub own : b.apart ≡ true → IsPortfolio set (worked w l b.own)
+  pub together : b.apart ≡ false → IsTogether w l
 
 -- each is kept under this set
 pub record ArePortfolios (set : Tables) (p : UnitPortfolios) : Type 0 where
-  pub lots : IsPortfolio set p.lots
-  pub buys : IsUnder set p.buys
-  pub sales : IsUnder set p.sales
-  pub all : IsUnder set p.all
+  pub lists : AreLists set p.lists
+  pub lots : IsPortfolio set (worked Lots p.lists p.lots)
+  pub buys : IsUnder set WithBuys p.lists p.buys
+  pub sales : IsUnder set WithSales p.lists p.sales
+  pub all : IsUnder set WithAll p.lists p.all
 
 -- those that are not apart move as the lots
 pub record AreParted (m : Moves) (p : UnitPortfolios) : Type 0 where

@@ -1,5 +1,5 @@
 -- The nets of a portfolio with what is kept of them, commodity by commodity.
-use Rattle.std.specs.Prelude.{ℕ, ◌≡◌, ◌≢◌, ◌<◌, ℤ, pos, ◌+ℤ◌, ◌-ℤ◌, unsigned_abs, List, length, map, slice_index, All}
+use Rattle.std.specs.Prelude.{ℕ, ◌≡◌, ◌≢◌, ◌<◌, ℤ, pos, ◌+ℤ◌, ◌-ℤ◌, unsigned_abs, List, length, map, replicate, slice_index}
 use Rattle.std.specs.Int.{int_max}
 use Rattle.std.specs.List.{range_with_len}
 use Rattle.mgn_params.specs.Tables.{Tables}
@@ -8,33 +8,26 @@ use Rattle.mgn_span.specs.MonthDeltas.{month_deltas}
 use Rattle.mgn_span.specs.Positions.{Position, positions}
 use Rattle.mgn_span.specs.Requirement.{intra_charge, minimum, risk, scan_of, spot_charge}
 use Rattle.mgn_span.specs.Scan.{price_risk2, scenario_total, value_at}
+use Rattle.mgn_span.specs.Words.{totals_of}
 use Rattle.mgn_scan.specs.Totals.{AreTotals}
 use Rattle.mgn_option.specs.Sums.{AreSums, Sums}
-use Rattle.mgn_tiers.specs.Tiers.{AreTierRows, AreTiersOf, Tiers}
+use Rattle.mgn_tiers.specs.Tiers.{AreTiersOf, Tiers, run_at}
 use Rattle.mgn_inter.specs.Credited.{AreCreditRows, AreCreditsOf}
 use Rattle.mgn_inter.specs.Rows.{Credited}
-use Rattle.mgn_desk.specs.Risks.{IsRisk}
+use Rattle.mgn_desk.specs.declared.figures.Figures.{Figures}
+use Rattle.mgn_desk.specs.declared.portfolio.Portfolio.{Portfolio}
+use Rattle.mgn_desk.specs.declared.unit_lists.UnitLists.{UnitLists}
+use Rattle.mgn_desk.specs.KeptRows.{KeptRow, row_charge, sums_by, tiers_by, totals_by}
+use Rattle.mgn_desk.specs.UnitLists.{deltas_in, nets_in, rows_in}
 
--- the nets of a set's contracts in file order; scenario totals, option sums, stages and credits; for each commodity its
--- risk before credits, and its risk
+-- the nets of a set's contracts in file order; scenario totals, option sums, stages and credits; the risk of each commodity
 pub record WorkedPortfolio : Type 0 where
   pub nets : List ℤ
   pub totals : List (List ℤ)
   pub sums : Sums
   pub tiers : Tiers
   pub credits : Credited
-  pub charges : List ℤ
   pub risks : List ℤ
-
--- as many rows as a set has contracts, months, commodities and intercommodity spreads
-pub record ArePortfolioRows (set : Tables) (p : WorkedPortfolio) : Type 0 where
-  pub nets : length p.nets ≡ length set.contracts
-  pub totals : length p.totals ≡ length set.commodities
-  pub minimums : length p.sums.minimums ≡ length set.commodities
-  pub tiers : AreTierRows set p.tiers
-  pub credits : AreCreditRows set p.credits
-  pub charges : length p.charges ≡ length set.commodities
-  pub risks : length p.risks ≡ length set.commodities
 
 -- The numbers of each commodity.
 
@@ -64,12 +57,6 @@ pub record AreCreditsBy (set : Tables) (nets : List ℤ) (credits : Credited) : 
   pub net_deltas : credits.deltas ≡ net_deltas_of set (positions set.contracts nets)
   pub price_risks : credits.risks ≡ price_risks_of set (positions set.contracts nets)
 
--- risks before credits
-pub record AreCharges (set : Tables) (nets charges : List ℤ) : Type 0 where
-  pub one_each : length charges ≡ length set.commodities
-  pub small : All IsRisk charges
-  pub each : (g : ℕ) → g < length set.commodities → value_at charges g ≡ charge_of set (positions set.contracts nets) g
-
 -- risks
 pub record AreRisks (set : Tables) (nets risks : List ℤ) : Type 0 where
   pub one_each : length risks ≡ length set.commodities
@@ -79,7 +66,6 @@ pub record AreRisks (set : Tables) (nets risks : List ℤ) : Type 0 where
 pub record IsReady (set : Tables) (p : WorkedPortfolio) : Type 0 where
   pub parts : AreParts set p
   pub credits : AreCreditsBy set p.nets p.credits
-  pub charges : AreCharges set p.nets p.charges
 
 -- all that is kept of a portfolio is that of its nets under this set: one net for each contract, within its limit
 pub record IsPortfolio (set : Tables) (p : WorkedPortfolio) : Type 0 where
@@ -98,35 +84,50 @@ pub record IsBehind (set : Tables) (g : ℕ) (p : WorkedPortfolio) : Type 0 wher
   pub was : List ℤ
   pub parts : AreParts set p
   pub credits : AreCreditsBy set was p.credits
-  pub charges : AreCharges set was p.charges
   pub risks : AreRisks set was p.risks
   pub others : SameBut set g was p.nets
 
--- the risk of a commodity by what is kept: at least the minimum
+-- the row of a commodity
+abbrev pub row_of : WorkedPortfolio → ℕ → KeptRow
+row_of p g = record {
+  scan = totals_of p.totals g;
+  tier = record { net_delta = value_at p.tiers.net_deltas g; run = run_at p.tiers.runs g };
+  minimum = slice_index p.sums.minimums g;
+}
+
+-- its risk by what is kept: at least the minimum
 abbrev pub worked_risk : WorkedPortfolio → ℕ → ℤ
-worked_risk p g = int_max (value_at p.charges g -ℤ pos (slice_index p.credits.credits g)) (pos (slice_index p.sums.minimums g))
+worked_risk p g =
+    int_max (row_charge (row_of p g) -ℤ pos (slice_index p.credits.credits g)) (pos (slice_index p.sums.minimums g))
 
--- For the steps of a change.
-
--- all but nets, totals, sums and stages is as it was
-abbrev pub KeepsRest : WorkedPortfolio → WorkedPortfolio → Type 0
-KeepsRest old new = (new.credits ≡ old.credits) × (new.charges ≡ old.charges) × (new.risks ≡ old.risks)
-
--- nets, totals, sums, stages and risks are as they were
-pub record KeepsParts (old new : WorkedPortfolio) : Type 0 where
-  pub nets : new.nets ≡ old.nets
-  pub totals : new.totals ≡ old.totals
-  pub sums : new.sums ≡ old.sums
-  pub tiers : new.tiers ≡ old.tiers
-  pub risks : new.risks ≡ old.risks
-
--- the same with other charges, with other credits
-abbrev pub with_charges : WorkedPortfolio → List ℤ → WorkedPortfolio
-with_charges p charges = record p { charges = charges }
-
+-- the same with other credits, with other risks
 abbrev pub with_credits : WorkedPortfolio → Credited → WorkedPortfolio
 with_credits p credits = record p { credits = credits }
 
--- the same with other risks
 abbrev pub with_risks : WorkedPortfolio → List ℤ → WorkedPortfolio
 with_risks p risks = record p { risks = risks }
+
+-- Of lists and figures.
+
+abbrev pub worked : Portfolio → UnitLists → Figures → WorkedPortfolio
+worked w l f = record {
+  nets = nets_in w l;
+  totals = totals_by (rows_in w l);
+  sums = sums_by (rows_in w l) f.value;
+  tiers = tiers_by (rows_in w l) (deltas_in w l);
+  credits = f.credits;
+  risks = f.risks;
+}
+
+-- as many of each as a set has commodities and intercommodity spreads
+pub record AreFigures (set : Tables) (f : Figures) : Type 0 where
+  pub credits : AreCreditRows set f.credits
+  pub risks : length f.risks ≡ length set.commodities
+
+-- those of nets of 0
+pub record AreFlatFigures (set : Tables) (f : Figures) : Type 0 where
+  pub credits : AreCreditsOf set f.credits
+  pub net_deltas : f.credits.deltas ≡ replicate (length set.commodities) (pos 0)
+  pub price_risks : f.credits.risks ≡ replicate (length set.commodities) 0
+  pub risks : f.risks ≡ replicate (length set.commodities) (pos 0)
+  pub value : f.value ≡ pos 0

@@ -1,78 +1,89 @@
-ghost use Rattle.std.specs.Prelude.{◌≡◌, ◌<◌, ◌+ℤ◌, length, true, false, All, IfOk};
+ghost use Rattle.std.specs.Prelude.{◌≡◌, ◌≢◌, ◌<◌, ◌+ℤ◌, length, true, false, All, IfOk};
 ghost use Rattle.mgn_params.specs.Tables.{Tables};
 ghost use Rattle.mgn_span.specs.Positions.{IsNet};
 ghost use Rattle.mgn_span.specs.Scan.{value_at};
-ghost use Rattle.mgn_desk.specs.WorkedPortfolios.{ArePortfolioRows, IsPortfolio};
-ghost use Rattle.mgn_desk.specs.Moved.{arrays_of_quantity, counted, more_of};
+ghost use Rattle.mgn_desk.specs.UnitLists.{AreLists, IsFollowed, IsTogether, nets_in};
+ghost use Rattle.mgn_desk.specs.WorkedPortfolios.{AreFigures, AreParts, IsPortfolio, worked};
+ghost use Rattle.mgn_desk.specs.declared.figures.Figures.{Figures};
+ghost use Rattle.mgn_desk.specs.declared.portfolio.Portfolio.{Portfolio};
+ghost use Rattle.mgn_desk.specs.declared.portfolio.Portfolio.TheVariants.{Lots};
+ghost use Rattle.mgn_desk.specs.declared.unit_lists.UnitLists.{UnitLists};
 
+use crate::bringing::bring_branch;
+use crate::figures::Figures;
 use crate::portfolio::Portfolio;
+use crate::unit_lists::UnitLists;
 use mgn_nets::Nets;
 use mgn_num::Quantity;
-use mgn_params::{ParamSet, Work};
+use mgn_params::ParamSet;
 use std::alloc::{AllocError, Global};
 
-/// A portfolio of a margin unit beside that of its lots. Until it first has other nets than the lots, what is kept of
-/// these is kept of it too, and nothing counts of its own but how long the rows are.
+/// The figures of a portfolio of a margin unit beside those of its lots. Until it first has other nets than the lots, the
+/// figures of these are its figures too, and nothing counts of its own but how many there are.
 #[derive(Drop)]
 pub(crate) struct Branch {
-    pub own: Portfolio,
+    pub own: Figures,
     pub apart: bool,
 }
 
 impl Branch {
-    ghost use Rattle.mgn_desk.specs.Portfolios.{IsUnder, branch_of};
+    ghost use Rattle.mgn_desk.specs.Portfolios.{IsUnder, figures_of};
 
-    // A branch with these nets beside the lots, as by `renew`. The only error is that memory was refused.
-    pub fn of_nets(
-        alloc: Global,
-        set: &ParamSet,
-        lots: &Portfolio,
-        near: &Portfolio,
-        nets: &Nets,
-    ) -> Result<Branch, AllocError>
-        requires near { IsPortfolio set.now near.now }
-        requires one_each { length nets.now ≡ length set.now.contracts }
-        requires nets { All IsNet nets.now }
-        ensures portfolio { IfOk result (IsUnder set.now) }
-        ensures nets { IfOk result (λ b. (branch_of lots.now b).nets ≡ nets.now) }
-        ensures together { IfOk result (λ b. nets.now ≡ lots.now.nets → b.apart ≡ false) }
+    // The branch of a unit that holds nothing. The only error is that memory was refused.
+    pub fn new(alloc: Global, set: &ParamSet) -> Result<Branch, AllocError>
+        ensures { IfOk result (λ b. AreFigures set.now b.own) }
     {
-        let own = Portfolio::new(alloc, set)?;
-        let mut branch = Branch { own, apart: false };
-        branch.renew(set, lots, near, nets);
-        Ok(branch)
+        Ok(Branch {
+            own: Figures::new(alloc, set)?,
+            apart: false,
+        })
     }
 
-    // These nets beside the lots in place of its own, by way of a portfolio that is near to them, under a set that its
-    // rows fit. Takes no memory.
-    pub fn renew(&mut self, set: &ParamSet, lots: &Portfolio, near: &Portfolio, nets: &Nets)
-        requires rows { ArePortfolioRows set.now self.old.own }
-        requires near { IsPortfolio set.now near.now }
-        requires one_each { length nets.now ≡ length set.now.contracts }
-        requires nets { All IsNet nets.now }
-        ensures portfolio { IsUnder set.now self.new }
-        ensures nets { (branch_of lots.now self.new).nets ≡ nets.now }
-        ensures together { nets.now ≡ lots.now.nets → self.new.apart ≡ false }
-    {
-        self.apart = !nets.is_same(lots.nets());
-        if self.apart {
-            self.own.renew_from(set, near, nets);
-        }
-    }
-
-    // What is kept of it.
-    pub fn kept<'a>(&'a self, lots: &'a Portfolio) -> &'a Portfolio
-        ensures { result.now ≡ branch_of lots.now self.now }
+    // Its figures.
+    pub fn figures<'a>(&'a self, lots: &'a Figures) -> &'a Figures
+        ensures { result.now ≡ figures_of lots.now self.now }
     {
         if self.apart { &self.own } else { lots }
     }
 
-    // Keeps it apart from now on, if it is to have other nets than the lots.
-    pub fn part(&mut self, lots: &Portfolio, is_other: bool)
-        requires { (set : Tables) × IsUnder set self.old × IsPortfolio set lots.now }
-        ensures kept { branch_of lots.now self.new ≡ branch_of lots.now self.old }
-        ensures portfolio { (set : Tables) → IsUnder set self.old → IsPortfolio set lots.now →
-            IsUnder set self.new }
+    // These nets beside those of the lots, in lists in which it has the nets of the lots still. Takes no memory.
+    pub fn renew(
+        &mut self,
+        set: &ParamSet,
+        lists: &mut UnitLists,
+        portfolio: Portfolio,
+        lots: &Figures,
+        lots_nets: &Nets,
+        nets: &Nets,
+    )
+        requires branch { portfolio ≢ Lots }
+        requires lists { AreLists set.now lists.old }
+        requires rows { AreFigures set.now self.old.own }
+        requires lots { IsPortfolio set.now (worked Lots lists.old lots.now) }
+        requires lots_nets { nets_in Lots lists.old ≡ lots_nets.now }
+        requires together { IsTogether portfolio lists.old }
+        requires parts { (w : Portfolio) → (f : Figures) × AreParts set.now (worked w lists.old f) }
+        requires one_each { length nets.now ≡ length set.now.contracts }
+        requires nets { All IsNet nets.now }
+        ensures under { IsUnder set.now portfolio lists.new self.new }
+        ensures lists { AreLists set.now lists.new }
+        ensures nets { nets_in portfolio lists.new ≡ nets.now }
+        ensures together { nets.now ≡ lots_nets.now → self.new.apart ≡ false }
+        ensures others { (w : Portfolio) → w ≢ portfolio → (f : Figures) → worked w lists.new f ≡ worked w lists.old f }
+        ensures others_together { (w : Portfolio) → w ≢ portfolio → IsTogether w lists.old → IsTogether w lists.new }
+    {
+        self.apart = !nets.is_same(lots_nets);
+        if self.apart {
+            self.own.copy_from(lots);
+            bring_branch(set, lists, &mut self.own, portfolio, lots_nets, nets);
+        }
+    }
+
+    // Has its own figures from now on, if it is to have other nets than the lots.
+    pub fn part(&mut self, lots: &Figures, is_other: bool)
+        requires { (set : Tables) × AreFigures set self.old.own × AreFigures set lots.now }
+        ensures under { (set : Tables) (w : Portfolio) (l : UnitLists) → IsPortfolio set (worked Lots l lots.now) →
+            IsUnder set w l self.old → IsUnder set w l self.new }
         ensures apart { is_other ≡ true → self.new.apart ≡ true }
         ensures together { is_other ≡ false → self.new.apart ≡ self.old.apart }
     {
@@ -82,20 +93,28 @@ impl Branch {
         }
     }
 
-    // Changes a net where it is kept apart. Else the lots' array is read again, since arrays are counted by portfolio.
-    pub fn follow(&mut self, set: &ParamSet, i: usize, quantity: Quantity, work: &mut Work)
-        requires portfolio { IsUnder set.now self.old }
+    // Brings its figures after a quantity more of a contract that its lists have followed, where it is apart.
+    pub fn follow(
+        &mut self,
+        set: &ParamSet,
+        lists: &UnitLists,
+        portfolio: Portfolio,
+        i: usize,
+        quantity: Quantity,
+    )
+        requires lists { AreLists set.now lists.now }
         requires contract { i < length set.now.contracts }
-        requires net { self.old.apart ≡ true → IsNet (value_at self.old.own.nets i +ℤ quantity) }
-        ensures portfolio { IsUnder set.now self.new }
+        requires rows { AreFigures set.now self.old.own }
+        requires before { self.old.apart ≡ true → (old : UnitLists)
+            × IsPortfolio set.now (worked portfolio old self.old.own)
+            × IsFollowed set.now i quantity portfolio old lists.now
+            × IsNet (value_at (nets_in portfolio old) i +ℤ quantity) }
+        requires together { self.old.apart ≡ false → IsTogether portfolio lists.now }
+        ensures under { IsUnder set.now portfolio lists.now self.new }
         ensures apart { self.new.apart ≡ self.old.apart }
-        ensures nets { self.new.apart ≡ true → self.new.own.nets ≡ more_of self.old.own.nets i quantity }
-        ensures counted { work.new ≡ counted work.old (arrays_of_quantity quantity) }
     {
         if self.apart {
-            self.own.follow(set, i, quantity, work);
-        } else if quantity.size() != 0 {
-            let _array = set.array(i, work);
+            self.own.follow(set, lists, portfolio, i, quantity);
         }
     }
 }

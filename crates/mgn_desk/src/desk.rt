@@ -5,7 +5,7 @@ ghost use Rattle.mgn_desk.specs.Moved.{counted};
 use crate::moves::Moves;
 use crate::unit_portfolios::UnitPortfolios;
 use mgn_nets::{Nets, Portfolios};
-use mgn_num::Cents;
+use mgn_num::{Cents, Quantity};
 use mgn_params::{ParamSet, Version, Work};
 use std::alloc::{AllocError, Global};
 use std::marker::Model;
@@ -42,7 +42,7 @@ impl Model for Desk {
 
 impl Desk {
     ghost use Rattle.mgn_nets.specs.Portfolios.{AreUnitNets, behind};
-    ghost use Rattle.mgn_desk.specs.Desks.{AreNetsOf, CanMoveMarked, HasRows, IsMarkedBy, IsMarkedTogether, Requires, Shown, StaysTogether, marked_with, moved_desk, shown, version_of};
+    ghost use Rattle.mgn_desk.specs.Desks.{AreInLimits, AreNetsAt, CanMoveMarked, HasRows, IsMarkedBy, IsMarkedTogether, Requires, Shown, StaysTogether, marked_with, moved_desk, shown, version_of};
     ghost use Rattle.mgn_desk.specs.Portfolios.{AreSmall, arrays_of, opposite};
 
     /// A desk of a unit that is not marked. Takes no memory.
@@ -155,14 +155,25 @@ impl Desk {
         self.apply(set, &moves.opposite(), work);
     }
 
-    /// The nets of the four portfolios of a marked desk.
-    pub fn nets(&self) -> Portfolios<&Nets>
+    /// How many contracts the nets of a marked desk are of.
+    pub fn contract_count(&self) -> usize
         requires { (set : Tables) × IsMarkedBy set self.now.marked }
-        ensures nets { AreNetsOf self.now.marked (behind result) }
-        ensures limits { (set : Tables) → IsMarkedBy set self.now.marked → AreUnitNets set (behind result) }
+        ensures { (set : Tables) → IsMarkedBy set self.now.marked → result ≡ length set.contracts }
     {
         match &self.marked {
-            Some(marked) => marked.portfolios.nets(),
+            Some(marked) => marked.portfolios.lists.nets.len(),
+            None => unreachable!(),
+        }
+    }
+
+    /// The nets of a contract in the four portfolios of a marked desk, above 0 bought and below 0 sold.
+    pub fn nets_at(&self, contract: usize) -> Portfolios<Quantity>
+        requires { (set : Tables) × IsMarkedBy set self.now.marked × (contract < length set.contracts) }
+        ensures nets { AreNetsAt self.now.marked contract result }
+        ensures limits { AreInLimits result }
+    {
+        match &self.marked {
+            Some(marked) => marked.portfolios.lists.nets_at(contract),
             None => unreachable!(),
         }
     }

@@ -2,13 +2,17 @@
 #![tactic(auto)]
 
 mod branch;
+mod bringing;
 mod commodity_row;
-mod commodity_rows;
 mod desk;
+mod figures;
 mod moves;
+mod own_rows;
 mod portfolio;
+mod risks;
+mod step;
+mod unit_lists;
 mod unit_portfolios;
 
 pub use desk::Desk;
 pub use moves::Moves;
-pub use portfolio::Portfolio;

@@ -1,12 +1,13 @@
 ghost use Rattle.std.specs.Prelude.{◌≡◌, ◌<◌, length, false, IfOk, IsTrue, ◌↔◌};
 ghost use Rattle.mgn_params.specs.Tables.{Tables};
 ghost use Rattle.mgn_desk.specs.Moved.{counted};
-ghost use Rattle.mgn_desk.specs.Portfolios.{IsUnder};
-ghost use Rattle.mgn_desk.specs.WorkedPortfolios.{IsPortfolio};
 
 use crate::branch::Branch;
+use crate::bringing::bring_lots;
+use crate::figures::Figures;
 use crate::moves::Moves;
 use crate::portfolio::Portfolio;
+use crate::unit_lists::UnitLists;
 use mgn_nets::{Nets, Portfolios};
 use mgn_num::{Cents, Quantity};
 use mgn_params::{ParamSet, Work};
@@ -15,7 +16,8 @@ use std::alloc::{AllocError, Global};
 /// The four portfolios of a margin unit under one set.
 #[derive(Drop)]
 pub(crate) struct UnitPortfolios {
-    pub lots: Portfolio,
+    pub lists: UnitLists,
+    pub lots: Figures,
     pub buys: Branch,
     pub sales: Branch,
     pub all: Branch,
@@ -23,7 +25,25 @@ pub(crate) struct UnitPortfolios {
 
 impl UnitPortfolios {
     ghost use Rattle.mgn_nets.specs.Portfolios.{AreUnitNets, behind};
-    ghost use Rattle.mgn_desk.specs.Portfolios.{AreParted, ArePortfolios, AreRows, AreSmall, AreTogether, CanMove, KeepsTogether, StaysApart, arrays_of, moved_by, nets_of, requirements_of};
+    ghost use Rattle.mgn_desk.specs.Portfolios.{AreFlat, AreParted, ArePortfolios, AreRows, AreSmall, AreTogether, CanMove, KeepsTogether, StaysApart, arrays_of, moved_by, nets_of, requirements_of};
+
+    // Nets of 0. The only error is that memory was refused.
+    fn new(alloc: Global, set: &ParamSet) -> Result<UnitPortfolios, AllocError>
+        ensures { IfOk result (AreFlat set.now) }
+    {
+        let lists = UnitLists::new(alloc, set)?;
+        let lots = Figures::new(alloc, set)?;
+        let buys = Branch::new(alloc, set)?;
+        let sales = Branch::new(alloc, set)?;
+        let all = Branch::new(alloc, set)?;
+        Ok(UnitPortfolios {
+            lists,
+            lots,
+            buys,
+            sales,
+            all,
+        })
+    }
 
     // These nets. The only error is that memory was refused.
     pub fn of_nets(
@@ -36,23 +56,17 @@ impl UnitPortfolios {
         ensures nets { IfOk result (λ p. nets_of p ≡ behind nets.now) }
         ensures together { IfOk result (λ p. AreTogether (behind nets.now) (p.buys, p.sales, p.all)) }
     {
-        let lots = Portfolio::of_nets(alloc, set, nets.lots)?;
-        let buys = Branch::of_nets(alloc, set, &lots, &lots, nets.buys)?;
-        let sales = Branch::of_nets(alloc, set, &lots, &lots, nets.sales)?;
-        let all = Branch::of_nets(alloc, set, &lots, nearest(&lots, &buys, &sales), nets.all)?;
-        Ok(UnitPortfolios {
-            lots,
-            buys,
-            sales,
-            all,
-        })
+        let mut portfolios = UnitPortfolios::new(alloc, set)?;
+        portfolios.bring(set, nets);
+        Ok(portfolios)
     }
 
     // Whether all that is kept is as long as a set asks for.
     pub fn fits(&self, set: &ParamSet) -> bool
         ensures { IsTrue result ↔ AreRows set.now self.now }
     {
-        self.lots.fits(set)
+        self.lists.fits(set)
+            && self.lots.fits(set)
             && self.buys.own.fits(set)
             && self.sales.own.fits(set)
             && self.all.own.fits(set)
@@ -66,18 +80,40 @@ impl UnitPortfolios {
         ensures nets { nets_of self.new ≡ behind nets.now }
         ensures together { AreTogether (behind nets.now) (self.new.buys, self.new.sales, self.new.all) }
     {
-        self.lots.renew(set, nets.lots);
-        self.buys.renew(set, &self.lots, &self.lots, nets.buys);
-        self.sales.renew(set, &self.lots, &self.lots, nets.sales);
-        let near = nearest(&self.lots, &self.buys, &self.sales);
-        self.all.renew(set, &self.lots, near, nets.all);
+        self.lists.flatten();
+        self.lots.flatten(set);
+        self.bring(set, nets);
     }
 
-    // Keeps those apart that are to move by something else than the lots.
+    // These nets in place of nets of 0. Takes no memory.
+    fn bring(&mut self, set: &ParamSet, nets: &Portfolios<&Nets>)
+        requires flat { AreFlat set.now self.old }
+        requires nets { AreUnitNets set.now (behind nets.now) }
+        ensures portfolios { ArePortfolios set.now self.new }
+        ensures nets { nets_of self.new ≡ behind nets.now }
+        ensures together { AreTogether (behind nets.now) (self.new.buys, self.new.sales, self.new.all) }
+    {
+        let lists = &mut self.lists;
+        let lots = &mut self.lots;
+        bring_lots(set, lists, lots, nets.lots);
+        self.buys.renew(set, lists, Portfolio::WithBuys, lots, nets.lots, nets.buys);
+        self.sales.renew(
+            set,
+            lists,
+            Portfolio::WithSales,
+            lots,
+            nets.lots,
+            nets.sales,
+        );
+        self.all
+            .renew(set, lists, Portfolio::WithAll, lots, nets.lots, nets.all);
+    }
+
+    // Has those apart that are to move by something else than the lots.
     fn part(&mut self, moves: &Moves)
         requires { (set : Tables) × ArePortfolios set self.old }
         ensures portfolios { (set : Tables) → ArePortfolios set self.old → ArePortfolios set self.new }
-        ensures nets { nets_of self.new ≡ nets_of self.old }
+        ensures lists { self.new.lists ≡ self.old.lists }
         ensures parted { AreParted moves.now self.new }
         ensures together { KeepsTogether moves.now self.old self.new }
     {
@@ -86,7 +122,7 @@ impl UnitPortfolios {
         self.all.part(&self.lots, differ(moves.all, moves.lots));
     }
 
-    // Moves the nets of one contract, once those are kept apart that move by something else than the lots.
+    // Moves the nets of one contract, once those are apart that move by something else than the lots.
     fn follow(&mut self, set: &ParamSet, moves: &Moves, work: &mut Work)
         requires portfolios { ArePortfolios set.now self.old }
         requires contract { moves.now.contract < length set.now.contracts }
@@ -97,10 +133,21 @@ impl UnitPortfolios {
         ensures apart { StaysApart self.old self.new }
         ensures counted { work.new ≡ counted work.old (arrays_of moves.now) }
     {
-        self.lots.follow(set, moves.contract, moves.lots, work);
-        self.buys.follow(set, moves.contract, moves.buys, work);
-        self.sales.follow(set, moves.contract, moves.sales, work);
-        self.all.follow(set, moves.contract, moves.all, work);
+        let together = Portfolios {
+            lots: false,
+            buys: !self.buys.apart,
+            sales: !self.sales.apart,
+            all: !self.all.apart,
+        };
+        self.lists.follow(set, moves, &together, work);
+        let (lists, i) = (&self.lists, moves.contract);
+        self.lots.follow(set, lists, Portfolio::Lots, i, moves.lots);
+        self.buys
+            .follow(set, lists, Portfolio::WithBuys, i, moves.buys);
+        self.sales
+            .follow(set, lists, Portfolio::WithSales, i, moves.sales);
+        self.all
+            .follow(set, lists, Portfolio::WithAll, i, moves.all);
     }
 
     // Moves the nets of one contract. A portfolio that is not moved costs nothing.
@@ -117,17 +164,6 @@ impl UnitPortfolios {
         self.follow(set, moves, work);
     }
 
-    pub fn nets(&self) -> Portfolios<&Nets>
-        ensures { behind result ≡ nets_of self.now }
-    {
-        Portfolios {
-            lots: self.lots.nets(),
-            buys: self.buys.kept(&self.lots).nets(),
-            sales: self.sales.kept(&self.lots).nets(),
-            all: self.all.kept(&self.lots).nets(),
-        }
-    }
-
     pub fn requirements(&self) -> Portfolios<Cents>
         ensures requirements { (set : Tables) → ArePortfolios set self.now →
             result ≡ requirements_of set (nets_of self.now) }
@@ -135,9 +171,9 @@ impl UnitPortfolios {
     {
         Portfolios {
             lots: self.lots.requirement(),
-            buys: self.buys.kept(&self.lots).requirement(),
-            sales: self.sales.kept(&self.lots).requirement(),
-            all: self.all.kept(&self.lots).requirement(),
+            buys: self.buys.figures(&self.lots).requirement(),
+            sales: self.sales.figures(&self.lots).requirement(),
+            all: self.all.figures(&self.lots).requirement(),
         }
     }
 }
@@ -147,16 +183,4 @@ fn differ(a: Quantity, b: Quantity) -> bool
     ensures other { a ≡ b → result ≡ false }
 {
     a.contracts() != b.contracts()
-}
-
-// What is kept that is nearest to all nets: of the branches with buys and with sales one that is apart, else the lots.
-fn nearest<'a>(lots: &'a Portfolio, buys: &'a Branch, sales: &'a Branch) -> &'a Portfolio
-    ensures { (set : Tables) → IsPortfolio set lots.now → IsUnder set buys.now → IsUnder set sales.now →
-        IsPortfolio set result.now }
-{
-    if buys.apart {
-        &buys.own
-    } else {
-        sales.kept(lots)
-    }
 }

@@ -14,7 +14,9 @@ use Rattle.std.proofs.lemmas.List.{ext_get_or}
 use Rattle.mgn_params.specs.Tables.{Tables}
 use Rattle.mgn_nets.specs.Portfolios.{UnitNets}
 use Rattle.mgn_desk.specs.declared.desk.Marked.{Marked}
-use Rattle.mgn_desk.specs.Desks.{DeskRows, IsMarkedBy, Requires}
+use Rattle.mgn_nets.specs.declared.portfolios.Portfolios.{Portfolios}
+use Rattle.mgn_desk.proofs.DeskLemmas.{unit_nets_are}
+use Rattle.mgn_desk.specs.Desks.{AreNetsAt, DeskRows, IsMarkedBy, Requires, nets_at}
 use Rattle.mgn_desk.specs.Portfolios.{AreSmall, nets_of, requirements_of}
 use Rattle.mgn_unit.specs.declared.change.Change.{Change}
 use Rattle.mgn_unit.specs.declared.row.Row.{Row}
@@ -22,7 +24,7 @@ use Rattle.mgn_unit.specs.Rows.{Priced, Prices, nets_in}
 use Rattle.mgn_plan.specs.declared.plans.UnitChange.{UnitChange}
 use Rattle.mgn_plan.specs.Plans.{moved_nets, row_at}
 use Rattle.mgn_pricing.specs.Desks.{is_of}
-use Rattle.mgn_pricing.specs.Given.{IsRight, fits, fits_change, marked_in, same_four, same_nets}
+use Rattle.mgn_pricing.specs.Given.{IsRight, fits, fits_change, has_nets, marked_in, same_four, same_nets}
 use Rattle.mgn_pricing.proofs.Moved.{prices-by}
 
 pub any_map : {A B : Type 0} (f : A → B) (p : B → Bool) (xs : List A) → list_any (λ a. p (f a)) xs ≡ list_any p (map f xs)
@@ -49,15 +51,6 @@ same-bool false true d e = d.1 (e.0 refl)
 decided : (xs ys : List ℤ) → Decides (same_nets xs ys) (xs ≡ ys)
 decided xs ys = slice_eq-Decides Decides-int_eq xs ys (same_nets xs ys) refl
 
-pub not-same : (xs ys : List ℤ) → (xs ≡ ys → ⊥) → false ≡ same_nets xs ys
-not-same xs ys differ = same-bool false (same_nets xs ys) (λ e. cc, λ e. absurd (differ e)) (decided xs ys)
-
-pub not-here : (xs ys : List ℤ) (i : ℕ) (d : ℤ) → (get_or xs i d ≡ get_or ys i d → ⊥) → false ≡ same_nets xs ys
-not-here xs ys i d differ = not-same xs ys (λ e. differ (ap (λ (zs : List ℤ). get_or zs i d) e))
-
-pub all-same : (xs ys : List ℤ) → length xs ≡ length ys → ((k : ℕ) → k < length xs → get_or xs k (pos 0) ≡ get_or ys k (pos 0)) → true ≡ same_nets xs ys
-all-same xs ys long each = sym ((decided xs ys).1 (ext_get_or (pos 0) xs ys long each))
-
 -- A desk that fits.
 
 both-true : (a b : Bool) → (a && b) ≡ true → (a ≡ true) × (b ≡ true)
@@ -73,6 +66,36 @@ same-is m n e =
   where
     four-same : (m n : UnitNets) → m.lots ≡ n.lots → m.buys ≡ n.buys → m.sales ≡ n.sales → m.all ≡ n.all → m ≡ n
     four-same m n a b c d = λ j. record { lots = a j; buys = b j; sales = c j; all = d j }
+
+-- marked nets, contract by contract
+
+abbrev pub AreLong : Tables → UnitNets → Type 0
+AreLong t n = (length n.lots ≡ length t.contracts) × (length n.buys ≡ length t.contracts) × (length n.sales ≡ length t.contracts) × (length n.all ≡ length t.contracts)
+
+each-same : (m n : UnitNets) (count : ℕ) → length m.lots ≡ count → length m.buys ≡ count → length m.sales ≡ count → length m.all ≡ count → length n.lots ≡ count → length n.buys ≡ count → length n.sales ≡ count → length n.all ≡ count → ((k : ℕ) → k < count → nets_at n k ≡ nets_at m k) → same_four m n ≡ true
+each-same m n count a b c d e f g h each =
+    let lots : m.lots ≡ n.lots = ext_get_or (pos 0) m.lots n.lots (a ∙ sym e) (λ k less. sym (ap (λ (four : Portfolios ℤ). four.lots) (each k (omega (arith, less, a))))) in
+    let buys : m.buys ≡ n.buys = ext_get_or (pos 0) m.buys n.buys (b ∙ sym f) (λ k less. sym (ap (λ (four : Portfolios ℤ). four.buys) (each k (omega (arith, less, b))))) in
+    let sales : m.sales ≡ n.sales = ext_get_or (pos 0) m.sales n.sales (c ∙ sym g) (λ k less. sym (ap (λ (four : Portfolios ℤ). four.sales) (each k (omega (arith, less, c))))) in
+    let all : m.all ≡ n.all = ext_get_or (pos 0) m.all n.all (d ∙ sym h) (λ k less. sym (ap (λ (four : Portfolios ℤ). four.all) (each k (omega (arith, less, d))))) in
+    rw ((decided m.lots n.lots).1 lots, (decided m.buys n.buys).1 buys, (decided m.sales n.sales).1 sales, (decided m.all n.all).1 all) refl
+
+pub has-each : (t : Tables) (marked : Option Marked) (n : UnitNets) → IsMarkedBy t marked → AreLong t n → ((k : ℕ) → k < length t.contracts → AreNetsAt marked k (nets_at n k)) → true ≡ has_nets n marked
+has-each t None n is long each = absurd is
+has-each t (Some m) n is long each =
+    let are = unit_nets_are t m.portfolios is in
+    sym (each-same (nets_of m.portfolios) n (length t.contracts) are.lots.one_each are.buys.one_each are.sales.one_each are.all.one_each long.0 long.1 long.2 long.3 each)
+
+has-same : (n : UnitNets) (marked : Option Marked) (i : ℕ) (four : Portfolios ℤ) → AreNetsAt marked i four → has_nets n marked ≡ true → four ≡ nets_at n i
+has-same n None i four at same = absurd at
+has-same n (Some m) i four at same = at ∙ ap (λ (x : UnitNets). nets_at x i) (same-is (nets_of m.portfolios) n same)
+
+pub has-not : (n : UnitNets) (marked : Option Marked) (i : ℕ) (four : Portfolios ℤ) → AreNetsAt marked i four → (four ≡ nets_at n i → ⊥) → false ≡ has_nets n marked
+has-not n marked i four at other = by (has_nets n marked) refl
+  where
+    by : (b : Bool) → has_nets n marked ≡ b → false ≡ b
+    by false is = refl
+    by true is = absurd (other (has-same n marked i four at is))
 
 pub fits-of : (version : ℕ) (nets : UnitNets) (m : Option Marked) → fits version nets m ≡ true → is_of version m ≡ true
 fits-of version nets None is = cc

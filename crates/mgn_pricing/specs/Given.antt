@@ -38,7 +38,11 @@ abbrev pub same_four : UnitNets → UnitNets → Bool
 same_four m n =
     same_nets m.lots n.lots && (same_nets m.buys n.buys && (same_nets m.sales n.sales && same_nets m.all n.all))
 
--- a desk is marked under the version with these nets
+-- a desk is marked with these nets, and under the version
+abbrev pub has_nets : UnitNets → Option Marked → Bool
+has_nets nets None = false
+has_nets nets (Some m) = same_four (nets_of m.portfolios) nets
+
 abbrev pub fits : ℕ → UnitNets → Option Marked → Bool
 fits version nets None = false
 fits version nets (Some m) = m.version == version && same_four (nets_of m.portfolios) nets

@@ -1,6 +1,6 @@
 //! Desks that are given with a command.
 
-ghost use Rattle.std.specs.Prelude.{◌≡◌, ◌<◌, ◌==◌, IfSome, is_some, length, map, None, All};
+ghost use Rattle.std.specs.Prelude.{◌≡◌, ◌<◌, ◌==◌, ◌↔◌, IfSome, IsTrue, is_some, length, map, All};
 ghost use Rattle.std.specs.Option.{option_map_or};
 ghost use Rattle.std.specs.List.{list_any, position};
 ghost use Rattle.mgn_plan.specs.Plans.{CanChange, Foresees, IsPossible, KnowsAll, moved_nets, row_at};
@@ -8,15 +8,17 @@ ghost use Rattle.mgn_span.specs.Scan.{value_at};
 ghost use Rattle.mgn_num.specs.Amount.{IsQuantity};
 ghost use Rattle.mgn_unit.specs.Rows.{IsChange, IsRoomy, IsRow, Prices, more_at, nets_in};
 ghost use Rattle.std.specs.Prelude.{◌+ℤ◌};
-ghost use Rattle.mgn_pricing.specs.Given.{IsRight, desk_of, fit_plan, fits, fits_change, is_older, is_one_older, same_nets};
+ghost use Rattle.mgn_desk.specs.Desks.{IsMarkedBy, nets_at};
+ghost use Rattle.mgn_params.specs.Tables.{Tables};
+ghost use Rattle.mgn_pricing.specs.Given.{IsRight, fit_plan, fits, fits_change, has_nets, is_older, is_one_older};
 
 use crate::desks::is_of;
 use mgn_desk::Desk;
-use mgn_nets::Nets;
+use mgn_nets::{Nets, Portfolios};
 use mgn_num::Quantity;
 use mgn_params::{ParamSet, Version};
 use mgn_plan::{Known, Plan, UnitChange};
-use mgn_unit::{Change, Gain, PortfolioRow, Priced, Row};
+use mgn_unit::{Change, Priced, Row};
 
 // Whether a desk is marked under a version before this one.
 fn is_older(desk: &Desk, version: Version) -> bool
@@ -64,30 +66,31 @@ fn moved_net(row: &Nets, i: usize, contract: usize, quantity: Quantity) -> Quant
     }
 }
 
-// Whether nets are those of a row with a quantity more of one contract.
-fn are_moved(nets: &Nets, row: &Nets, contract: usize, quantity: Quantity) -> bool
-    requires contract { contract < length row.now }
-    requires small { IsQuantity (value_at row.now contract +ℤ quantity) }
-    ensures { result ≡ same_nets nets.now (more_at row.now contract quantity) }
+// Whether the nets of a contract are those of a row after a change.
+fn are_moved(nets: &Portfolios<Quantity>, row: &Row, i: usize, change: &Change) -> bool
+    requires { (set : Tables) × IsRow set row.now × IsChange set change.now × (i < length set.contracts) }
+    ensures { IsTrue result ↔ (nets.now ≡ nets_at (moved_nets change.now (nets_in row.now)) i) }
 {
-    if nets.len() != row.len() {
-        return false;
-    }
-    for i in 0..nets.len() {
-        if nets.at(i) != moved_net(row, i, contract, quantity) {
+    let contract = change.contract;
+    nets.lots == moved_net(&row.lots.nets, i, contract, change.lots.quantity)
+        && nets.buys == moved_net(&row.buys.nets, i, contract, change.buys.quantity)
+        && nets.sales == moved_net(&row.sales.nets, i, contract, change.sales.quantity)
+        && nets.all == moved_net(&row.all.nets, i, contract, change.all.quantity)
+}
+
+// Whether a marked desk has the nets of a row after a change.
+fn has_moved(desk: &Desk, set: &ParamSet, row: &Row, change: &Change) -> bool
+    requires marked { IsMarkedBy set.now desk.now.marked }
+    requires row { IsRow set.now row.now }
+    requires change { IsChange set.now change.now }
+    ensures { result ≡ has_nets (moved_nets change.now (nets_in row.now)) desk.now.marked }
+{
+    for i in 0..desk.contract_count() {
+        if !are_moved(&desk.nets_at(i), row, i, change) {
             return false;
         }
     }
     true
-}
-
-// Whether nets are those of a portfolio's row after a gain in one contract.
-fn have_gained(nets: &Nets, row: &PortfolioRow, contract: usize, gain: &Gain) -> bool
-    requires contract { contract < length row.now.nets }
-    requires small { IsQuantity (value_at row.now.nets contract +ℤ gain.now.quantity) }
-    ensures { result ≡ same_nets nets.now (more_at row.now.nets contract gain.now.quantity) }
-{
-    are_moved(nets, &row.nets, contract, gain.quantity)
 }
 
 // Whether a desk is marked under a version with the nets of a row after a change.
@@ -98,15 +101,7 @@ fn fits(desk: &Desk, version: Version, set: &ParamSet, row: &Row, change: &Chang
     requires right { IsRight set.now version desk.now.marked }
     ensures { result ≡ fits version (moved_nets change.now (nets_in row.now)) desk.now.marked }
 {
-    if !is_of(desk, version) {
-        return false;
-    }
-    let nets = desk.nets();
-    let i = change.contract;
-    have_gained(nets.lots, &row.lots, i, &change.lots)
-        && have_gained(nets.buys, &row.buys, i, &change.buys)
-        && have_gained(nets.sales, &row.sales, i, &change.sales)
-        && have_gained(nets.all, &row.all, i, &change.all)
+    is_of(desk, version) && has_moved(desk, set, row, change)
 }
 
 // What a unit requires after a change of its row, by its desk; none where no desk fits.

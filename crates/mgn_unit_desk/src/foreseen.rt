@@ -1,9 +1,8 @@
 //! What a call knows of its command's unit before it looks at the book, by a desk in step.
 
-ghost use Rattle.std.specs.Prelude.{ℕ, ◌≡◌, ◌<◌, ◌≤◌, ◌^◌, ◌+ℤ◌, length, unsigned_abs, All, IfSome, IsTrue, None, Some};
+ghost use Rattle.std.specs.Prelude.{ℕ, ◌≡◌, ◌≤◌, ◌^◌, ◌+ℤ◌, unsigned_abs, All, IfSome, IsTrue, None, Some};
 ghost use Rattle.mgn_params.specs.Tables.{Tables};
 ghost use Rattle.mgn_span.specs.Positions.{IsNet};
-ghost use Rattle.mgn_span.specs.Scan.{value_at};
 ghost use Rattle.mgn_holds.specs.Holds.{IsHeld};
 ghost use Rattle.mgn_unit.specs.Rows.{IsChange};
 ghost use Rattle.mgn_desk.specs.Desks.{CanMoveMarked, IsMarkedBy};
@@ -15,7 +14,6 @@ use mgn_day::Shows;
 use mgn_desk::Desk;
 use mgn_holds::Held;
 use mgn_machine::{Command, Hold};
-use mgn_nets::Nets;
 use mgn_num::Quantity;
 use mgn_params::ParamSet;
 use mgn_slots::SlotNames;
@@ -65,13 +63,12 @@ fn change_by(set: &ParamSet, command: &Command, order: &Option<Hold>) -> Option<
 }
 
 // Whether a net stays within its limit with a quantity more.
-fn stays_within(nets: &Nets, contract: usize, quantity: Quantity) -> bool
-    requires contract { contract < length nets.now }
-    requires nets { All IsNet nets.now }
+fn stays_within(net: Quantity, quantity: Quantity) -> bool
+    requires net { IsNet net }
     requires quantity { unsigned_abs quantity ≤ 10 ^ 7 }
-    ensures { IsTrue result → IsNet (value_at nets.now contract +ℤ quantity) }
+    ensures { IsTrue result → IsNet (net +ℤ quantity) }
 {
-    nets.at(contract).plus(quantity).size() <= LARGEST_NET
+    net.plus(quantity).size() <= LARGEST_NET
 }
 
 // Whether the nets of a marked desk stay within their limits by a change.
@@ -79,12 +76,11 @@ fn can_follow(desk: &Desk, change: &Change) -> bool
     requires { (set : Tables) × IsMarkedBy set desk.now.marked × IsChange set change.now }
     ensures { IsTrue result → CanMoveMarked (moves_of change.now) desk.now.marked }
 {
-    let nets = desk.nets();
-    let contract = change.contract;
-    stays_within(nets.lots, contract, change.lots.quantity)
-        && stays_within(nets.buys, contract, change.buys.quantity)
-        && stays_within(nets.sales, contract, change.sales.quantity)
-        && stays_within(nets.all, contract, change.all.quantity)
+    let nets = desk.nets_at(change.contract);
+    stays_within(nets.lots, change.lots.quantity)
+        && stays_within(nets.buys, change.buys.quantity)
+        && stays_within(nets.sales, change.sales.quantity)
+        && stays_within(nets.all, change.all.quantity)
 }
 
 impl<'a, T: Shows, J: SlotNames> UnitDesk<'a, T, J> {

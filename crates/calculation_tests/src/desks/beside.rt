@@ -129,21 +129,33 @@ fn difference(new: Quantity, old: Quantity) -> Quantity
 }
 
 // Whether the net of a contract stays within its limit with a quantity more.
-fn expect_room(rt: &impl Abort, nets: &Nets, contract: usize, quantity: Quantity)
-    requires nets { All IsNet nets.now }
-    requires contract { contract < length nets.now }
-    ensures { IsNet (value_at nets.now contract +ℤ quantity) }
+fn expect_room(rt: &impl Abort, net: Quantity, quantity: Quantity)
+    requires { IsNet net }
+    ensures { IsNet (net +ℤ quantity) }
 {
     assert!(rt; quantity.size() <= 20_000_000);
-    let net = nets.at(contract).plus(quantity);
-    assert!(rt; net.size() <= 10_000_000);
+    assert!(rt; net.plus(quantity).size() <= 10_000_000);
 }
 
-// Whether the nets shown are those of a list.
-fn expect_same(rt: &impl Abort, shown: &Nets, nets: &NetList) {
-    assert_eq!(rt; shown.len(), nets.nets.len());
-    for i in 0..shown.len() {
-        assert_eq!(rt; shown.at(i), nets.nets[i]);
+// The net of a contract in a list.
+fn net_at(rt: &impl Abort, list: &NetList, i: usize) -> Quantity {
+    assert!(rt; i < list.nets.len());
+    list.nets[i]
+}
+
+// Whether the nets that a desk shows are those of four lists.
+fn expect_same(rt: &impl Abort, set: &ParamSet, desk: &Desk, lists: [&NetList; 4])
+    requires { IsMarkedBy set.now desk.now.marked }
+{
+    let [lots, buys, sales, all] = lists;
+    for i in 0..desk.contract_count() {
+        let nets = Portfolios {
+            lots: net_at(rt, lots, i),
+            buys: net_at(rt, buys, i),
+            sales: net_at(rt, sales, i),
+            all: net_at(rt, all, i),
+        };
+        assert_eq!(rt; desk.nets_at(i), nets);
     }
 }
 
@@ -190,11 +202,11 @@ fn expect_rooms(rt: &impl Abort, set: &ParamSet, desk: &Desk, moves: &Moves)
     requires contract { moves.now.contract < length set.now.contracts }
     ensures { CanMoveMarked moves.now desk.now.marked }
 {
-    let nets = desk.nets();
-    expect_room(rt, nets.lots, moves.contract, moves.lots);
-    expect_room(rt, nets.buys, moves.contract, moves.buys);
-    expect_room(rt, nets.sales, moves.contract, moves.sales);
-    expect_room(rt, nets.all, moves.contract, moves.all);
+    let nets = desk.nets_at(moves.contract);
+    expect_room(rt, nets.lots, moves.lots);
+    expect_room(rt, nets.buys, moves.buys);
+    expect_room(rt, nets.sales, moves.sales);
+    expect_room(rt, nets.all, moves.all);
 }
 
 impl<'a> Beside<'a> {
@@ -325,11 +337,12 @@ impl<'a> Beside<'a> {
 
     // Whether the desk shows the lists.
     fn nets_agree(&self, rt: &impl Abort) {
-        let nets = self.desk.nets();
-        expect_same(rt, nets.lots, &self.lots);
-        expect_same(rt, nets.buys, &self.buys);
-        expect_same(rt, nets.sales, &self.sales);
-        expect_same(rt, nets.all, &self.all);
+        expect_same(
+            rt,
+            self.set,
+            &self.desk,
+            [&self.lots, &self.buys, &self.sales, &self.all],
+        );
     }
 
     // Whether it requires so much.

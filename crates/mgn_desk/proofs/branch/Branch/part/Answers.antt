@@ -1,12 +1,16 @@
-use Rattle.mgn_desk.proofs.BranchLemmas.{rows_of, under_own}
+use Rattle.std.proofs.Common.{rules, subst, sym, true≢false}
+use Rattle.mgn_desk.specs.declared.figures.Figures.{Figures}
+use Rattle.mgn_desk.specs.WorkedPortfolios.{IsPortfolio, worked}
+use Rattle.mgn_desk.proofs.BranchLemmas.{figures_are}
+use Rattle.mgn_desk.proofs.BringLemmas.{together_portfolio}
 use Rattle.mgn_desk.proofs.branch.Branch.part.Goals as goal
 
-pub copy_from-requires : goal.copy_from-requires
-copy_from-requires c =
-    let set' = c.requires.0 in
-    (set', c.requires.1.rows, rows_of set' c.args.lots.now c.requires.2)
-
-pub returns-then-not-self-clause-portfolio : goal.returns-then-not-self-clause-portfolio
-returns-then-not-self-clause-portfolio c =
-    λ set' under lots.
-    under_own set' _ (rw c.copy_from.ensures lots)
+pub returns-then-not-self-clause-under : goal.returns-then-not-self-clause-under
+returns-then-not-self-clause-under c =
+    λ set w l is under.
+    let own = subst (λ (f : Figures). IsPortfolio set (worked w l f)) (sym c.copy_from.ensures) (together_portfolio set w l c.args.lots.now (under.together (search rules)) is) in
+    record {
+      rows = figures_are set w l c.copy_from.new.self own;
+      own = λ apart. own;
+      together = λ apart. absurd (true≢false apart);
+    }

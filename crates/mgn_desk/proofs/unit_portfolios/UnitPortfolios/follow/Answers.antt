@@ -1,12 +1,30 @@
-use Rattle.std.proofs.Common.{◌∙◌, ◌+◌, ap, ℕ}
-use Rattle.mgn_desk.specs.Moved.{arrays_of_quantity, counted}
-use Rattle.mgn_desk.proofs.MovedLemmas.{counted_more}
+use Rattle.mgn_desk.specs.declared.portfolio.Portfolio.TheVariants.{Lots, WithBuys, WithSales, WithAll}
+use Rattle.mgn_desk.proofs.UnitLemmas.{unit_parts}
 use Rattle.mgn_desk.proofs.unit_portfolios.UnitPortfolios.follow.Goals as goal
 
-pub returns-clause-counted : goal.returns-clause-counted
-returns-clause-counted c =
-    let m = c.args.moves.now in
-    let first = c.follow.ensures.counted in
-    let second = c.follow-2.ensures.counted ∙ ap (λ (n : ℕ). counted n (arrays_of_quantity m.buys)) first ∙ counted_more c.args.work.now (arrays_of_quantity m.lots) (arrays_of_quantity m.buys) in
-    let third = c.follow-3.ensures.counted ∙ ap (λ (n : ℕ). counted n (arrays_of_quantity m.sales)) second ∙ counted_more c.args.work.now (arrays_of_quantity m.lots + arrays_of_quantity m.buys) (arrays_of_quantity m.sales) in
-    c.follow-4.ensures.counted ∙ ap (λ (n : ℕ). counted n (arrays_of_quantity m.all)) third ∙ counted_more c.args.work.now (arrays_of_quantity m.lots + arrays_of_quantity m.buys + arrays_of_quantity m.sales) (arrays_of_quantity m.all)
+pub follow-requires-clause-parts : goal.follow-requires-clause-parts
+follow-requires-clause-parts c = λ w. unit_parts c.args.set.now c.args.self.now c.requires.portfolios w
+
+pub follow-requires-2-clause-before : goal.follow-requires-2-clause-before
+follow-requires-2-clause-before c = (c.args.self.now.lists, c.requires.portfolios.lots, c.follow.ensures.followed Lots, c.requires.nets.lots)
+
+pub follow-requires-3-clause-before : goal.follow-requires-3-clause-before
+follow-requires-3-clause-before c =
+    λ apart. (c.args.self.now.lists, c.requires.portfolios.buys.own apart, c.follow.ensures.followed WithBuys, c.requires.nets.buys)
+
+pub follow-requires-4-clause-before : goal.follow-requires-4-clause-before
+follow-requires-4-clause-before c =
+    λ apart. (c.args.self.now.lists, c.requires.portfolios.sales.own apart, c.follow.ensures.followed WithSales, c.requires.nets.sales)
+
+pub follow-requires-5-clause-before : goal.follow-requires-5-clause-before
+follow-requires-5-clause-before c =
+    λ apart. (c.args.self.now.lists, c.requires.portfolios.all.own apart, c.follow.ensures.followed WithAll, c.requires.nets.all)
+
+pub returns-clause-nets : goal.returns-clause-nets
+returns-clause-nets c =
+    λ i. record {
+      lots = (c.follow.ensures.followed Lots).nets i;
+      buys = (c.follow.ensures.followed WithBuys).nets i;
+      sales = (c.follow.ensures.followed WithSales).nets i;
+      all = (c.follow.ensures.followed WithAll).nets i;
+    }
