@@ -1,9 +1,9 @@
 -- Lists that have followed moves, portfolio by portfolio: for `UnitLists::follow`.
-use Rattle.std.proofs.Common.{◌≡◌, ◌≢◌, ◌<◌, ◌∙◌, ℕ, ℤ, Bool, true, List, ap, arith, get_or, get_or-set_other, get_or-set_same, length, length-set, map, refl, set, sym, subst, Option, None, ⊎_elim}
+use Rattle.std.proofs.Common.{◌≡◌, ◌≢◌, ◌<◌, ◌∙◌, ℕ, ℤ, List, ap, arith, get_or, get_or-set_other, get_or-set_same, length, length-set, map, refl, set, sym, subst, Option, None, ⊎_elim}
 use Rattle.std.specs.Prelude.{◌+ℤ◌}
 use Rattle.std.proofs.lemmas.Bool.{cases_eq}
 use Rattle.std.proofs.lemmas.Int.{ints}
-use Rattle.std.proofs.lemmas.List.{map-set, set-get_or}
+use Rattle.std.proofs.lemmas.List.{map-set}
 use Rattle.mgn_num.specs.Amount.{IsQuantity}
 use Rattle.mgn_params.specs.Limits.{IsWithinLimits}
 use Rattle.mgn_params.specs.declared.tables.Contract.{Contract}
@@ -22,7 +22,7 @@ use Rattle.mgn_desk.specs.declared.unit_lists.UnitLists.{UnitLists}
 use Rattle.mgn_desk.specs.KeptRows.{HasRowRoom, IsRowStepped, KeptRow, delta_of, no_row, step_of}
 use Rattle.mgn_desk.specs.Moved.{more_of}
 use Rattle.mgn_desk.specs.Steps.{delta_after, deltas_after, net_after, nets_after, steps_of}
-use Rattle.mgn_desk.specs.UnitLists.{AreLists, IsFollowed, IsTogether, deltas_in, either_row, four_at, four_of, nets_in, no_own, one_of, own_at, own_of, quantity_of, row_before, rows_shown, step_at}
+use Rattle.mgn_desk.specs.UnitLists.{AreLists, IsFollowed, IsTogether, deltas_in, either_row, four_at, nets_in, no_own, one_of, own_at, own_of, quantity_of, row_before, rows_shown, step_at}
 use Rattle.mgn_desk.specs.WorkedPortfolios.{AreParts, row_of, worked}
 use Rattle.mgn_desk.proofs.AddLemmas.{own, own_low, row_room}
 use Rattle.mgn_desk.proofs.KeptLemmas.{row_before_is, row_is, rows_one_each}
@@ -219,30 +219,3 @@ still_none t m g s old first second third lots WithSales are none same =
     are.all_others WithSales (apart WithSales WithAll (λ e. omega (arith, e))) ∙ are.sales_none (are.buys_others WithSales (apart WithSales WithBuys (λ e. omega (arith, e))) ∙ none) same
 still_none t m g s old first second third lots WithAll are none same =
     are.all_none (are.sales_others WithAll (apart WithAll WithSales (λ e. omega (arith, e))) ∙ are.buys_others WithAll (apart WithAll WithBuys (λ e. omega (arith, e))) ∙ none) same
-
--- Lists of which all portfolios are together with the lots and move as these do.
-
-pub alike_written : (t : Tables) (m : Moves) (g : ℕ) (step : Step) (k : Contract) (old lots new : UnitLists) → k ≡ contract_at t.contracts m.contract → g ≡ own t m.contract → step ≡ (steps t old m).lots → ((w : Portfolio) → one_of w (steps t old m) ≡ (steps t old m).lots) → lots ≡ record old { rows = set old.rows g (row_before Lots lots g) } → new ≡ record lots { nets = set lots.nets m.contract (four_of (net_after step)); deltas = set lots.deltas k.month (four_of (delta_after k.delta step)) } → AreWritten t m old new (row_before Lots lots g) (own_at old g)
-alike_written t m g step k old lots new contract here is alike kept last =
-    let s = steps t old m in
-    let d = (contract_at t.contracts m.contract).delta in
-    let nets : four_of (net_after s.lots) ≡ nets_after s = λ i. record { lots = net_after s.lots; buys = net_after (sym (alike WithBuys) i); sales = net_after (sym (alike WithSales) i); all = net_after (sym (alike WithAll) i) } in
-    let deltas : four_of (delta_after d s.lots) ≡ deltas_after d s = λ i. record { lots = delta_after d s.lots; buys = delta_after d (sym (alike WithBuys) i); sales = delta_after d (sym (alike WithSales) i); all = delta_after d (sym (alike WithAll) i) } in
-    record {
-      nets = ap (λ (l : UnitLists). l.nets) last ∙ (λ i. set (kept i).nets m.contract (four_of (net_after (is i)))) ∙ ap (λ (four : Portfolios ℤ). set old.nets m.contract four) nets;
-      deltas = ap (λ (l : UnitLists). l.deltas) last ∙ (λ i. set (kept i).deltas (contract i).month (four_of (delta_after (contract i).delta (is i)))) ∙ ap (λ (four : Portfolios ℤ). set old.deltas (month t m.contract) four) deltas;
-      rows = ap (λ (l : UnitLists). l.rows) last ∙ ap (λ (l : UnitLists). l.rows) kept ∙ ap (λ (j : ℕ). set old.rows j (row_before Lots lots g)) here;
-      owns = ap (λ (l : UnitLists). l.own) last ∙ ap (λ (l : UnitLists). l.own) kept ∙ sym (set-get_or old.own g no_own) ∙ ap (λ (j : ℕ). set old.own j (own_at old g)) here;
-    }
-
-pub alike_stepped : (t : Tables) (i g : ℕ) (s step : Step) (old lots : UnitLists) (w : Portfolio) → own_of w (own_at old g) ≡ None → step ≡ s → IsRowStepped t i (row_before Lots old g) (row_before Lots lots g) step → IsRowStepped t i (row_before w old g) (either_row (row_before Lots lots g) (own_of w (own_at old g))) s
-alike_stepped t i g s step old lots w none is row =
-    let r = get_or old.rows g no_row in
-    let after = row_before Lots lots g in
-    subst (λ (o : Option KeptRow). IsRowStepped t i (either_row r o) (either_row after o) s) (sym none) (subst (λ (x : Step). IsRowStepped t i r after x) is row)
-
-pub all_together : (l : UnitLists) (m : Moves) (known : Portfolios Bool) → ((w : Portfolio) → one_of w known ≡ true → IsTogether w l × (quantity_of w m ≡ m.lots)) → known.buys ≡ true → known.sales ≡ true → known.all ≡ true → (w : Portfolio) → IsTogether w l × (quantity_of w m ≡ m.lots)
-all_together l m known are buys sales all Lots = (record { nets = refl; deltas = refl; none = λ g. refl }, refl)
-all_together l m known are buys sales all WithBuys = are WithBuys buys
-all_together l m known are buys sales all WithSales = are WithSales sales
-all_together l m known are buys sales all WithAll = are WithAll all

@@ -77,9 +77,6 @@ rows_in w l = rows_shown w l.rows l.own
 abbrev pub no_four : Portfolios ℤ
 no_four = record { lots = pos 0; buys = pos 0; sales = pos 0; all = pos 0 }
 
-abbrev pub four_of : ℤ → Portfolios ℤ
-four_of n = record { lots = n; buys = n; sales = n; all = n }
-
 abbrev pub four_at : List (Portfolios ℤ) → ℕ → Portfolios ℤ
 four_at fours i = slice_index_or fours i no_four
 

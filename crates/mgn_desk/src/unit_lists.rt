@@ -1,12 +1,10 @@
 ghost use Rattle.std.specs.Prelude.{◌≡◌, ◌≢◌, ◌<◌, ◌+ℤ◌, ◌↔◌, true, pos, length, slice_set, None, IfOk, IsSomeAnd, IsTrue};
 ghost use Rattle.mgn_params.specs.Tables.{Tables};
-ghost use Rattle.mgn_num.specs.Amount.{IsQuantity};
 ghost use Rattle.mgn_span.specs.Positions.{IsNet};
-ghost use Rattle.mgn_span.specs.Sizes.{IsDelta};
 ghost use Rattle.mgn_span.specs.Scan.{value_at};
 ghost use Rattle.mgn_desk.specs.KeptRows.{HasRowRoom, IsRowStepped, KeptRow};
-ghost use Rattle.mgn_desk.specs.UnitLists.{AreLists, IsFollowed, IsTogether, either_row, flat_lists, four_at, four_of, nets_in, one_of, own_at, own_of, quantity_of, row_at, row_before};
-ghost use Rattle.mgn_desk.specs.Steps.{AreDeltasRoomy, AreNetsRoomy, StaysAsLots, delta_after, deltas_after, net_after, nets_after, steps_of};
+ghost use Rattle.mgn_desk.specs.UnitLists.{AreLists, IsFollowed, IsTogether, either_row, flat_lists, four_at, nets_in, one_of, own_at, own_of, quantity_of, row_at, row_before};
+ghost use Rattle.mgn_desk.specs.Steps.{AreDeltasRoomy, AreNetsRoomy, StaysAsLots, deltas_after, nets_after, steps_of};
 ghost use Rattle.mgn_desk.specs.Moved.{arrays_of_quantity, counted};
 ghost use Rattle.mgn_desk.specs.Portfolios.{arrays_of};
 ghost use Rattle.mgn_desk.specs.WorkedPortfolios.{AreParts, worked};
@@ -146,30 +144,6 @@ impl UnitLists {
         };
     }
 
-    // Writes the net and the month delta of the lots after a step as those of all portfolios.
-    fn write_alike(&mut self, i: usize, contract: &Contract, step: &Step)
-        requires contract { i < length self.old.nets }
-        requires month { contract.now.month < length self.old.deltas }
-        requires net { IsQuantity (net_after step.now) }
-        requires delta { IsDelta (delta_after contract.now.delta step.now) }
-        ensures { self.new ≡ record self.old { nets = slice_set self.old.nets i (four_of (net_after step.now)); deltas = slice_set self.old.deltas contract.now.month (four_of (delta_after contract.now.delta step.now)) } }
-    {
-        let net = step.net_after();
-        *self.nets.at_mut(i) = Portfolios {
-            lots: net,
-            buys: net,
-            sales: net,
-            all: net,
-        };
-        let delta = step.delta_after(contract.delta);
-        *self.deltas.at_mut(contract.month) = Portfolios {
-            lots: delta,
-            buys: delta,
-            sales: delta,
-            all: delta,
-        };
-    }
-
     // Whether a branch needs no row of its own for a step, beside that of the lots: it has the lots' row and moves as this
     // does, or nothing moves.
     fn stays(&self, g: usize, branch: Portfolio, lots: &Step, step: &Step) -> bool
@@ -239,8 +213,8 @@ impl UnitLists {
     {
         if !together && !self.stays(g, branch, lots, step) {
             self.move_own(set, i, g, branch, step, work);
-        } else {
-            read_array(set, i, step, work);
+        } else if step.quantity.size() != 0 {
+            let _array = set.array(i, work);
         }
     }
 
@@ -258,64 +232,10 @@ impl UnitLists {
         }
     }
 
-    // Follows moves by which the branches, which are together with the lots, move as these do.
-    fn follow_alike(&mut self, set: &ParamSet, moves: &Moves, work: &mut Work)
-        requires lists { AreLists set.now self.old }
-        requires contract { moves.now.contract < length set.now.contracts }
-        requires net { IsNet (value_at (nets_in Lots self.old) moves.now.contract +ℤ moves.now.lots) }
-        requires parts { (f : Figures) × AreParts set.now (worked Lots self.old f) }
-        requires together { (w : Portfolio) → IsTogether w self.old × (quantity_of w moves.now ≡ moves.now.lots) }
-        ensures lists { AreLists set.now self.new }
-        ensures followed { (w : Portfolio) →
-            IsFollowed set.now moves.now.contract (quantity_of w moves.now) w self.old self.new }
-        ensures together { (w : Portfolio) → IsTogether w self.new }
-        ensures counted { work.new ≡ counted work.old (arrays_of moves.now) }
-    {
-        set.limits();
-        let i = moves.contract;
-        let contract = set.contract_at(i);
-        let net = self.nets.at(i).lots;
-        let delta = self.deltas.at(contract.month).lots;
-        let step = Step::new(net, delta, moves.lots);
-        self.follow_lots(set, i, contract.commodity, &step, work);
-        // Arrays are counted by portfolio.
-        read_array(set, i, &step, work);
-        read_array(set, i, &step, work);
-        read_array(set, i, &step, work);
-        self.write_alike(i, contract, &step);
-    }
-
     /// Follows moves of the nets of one contract. A branch of which it is known that it is together with the lots stays so;
     /// so does its row of the commodity where it moves by as much and from the same as that of the lots. Else it has a row
     /// of its own from then on.
     pub fn follow(
-        &mut self,
-        set: &ParamSet,
-        moves: &Moves,
-        together: &Portfolios<bool>,
-        work: &mut Work,
-    )
-        requires lists { AreLists set.now self.old }
-        requires contract { moves.now.contract < length set.now.contracts }
-        requires nets { (w : Portfolio) → IsNet (value_at (nets_in w self.old) moves.now.contract +ℤ quantity_of w moves.now) }
-        requires parts { (w : Portfolio) → (f : Figures) × AreParts set.now (worked w self.old f) }
-        requires together { (w : Portfolio) → one_of w together.now ≡ true →
-            IsTogether w self.old × (quantity_of w moves.now ≡ moves.now.lots) }
-        ensures lists { AreLists set.now self.new }
-        ensures followed { (w : Portfolio) →
-            IsFollowed set.now moves.now.contract (quantity_of w moves.now) w self.old self.new }
-        ensures together { (w : Portfolio) → IsTogether w self.old → quantity_of w moves.now ≡ moves.now.lots → IsTogether w self.new }
-        ensures counted { work.new ≡ counted work.old (arrays_of moves.now) }
-    {
-        if together.buys && together.sales && together.all {
-            self.follow_alike(set, moves, work);
-        } else {
-            self.follow_apart(set, moves, together, work);
-        }
-    }
-
-    // The same, portfolio by portfolio.
-    fn follow_apart(
         &mut self,
         set: &ParamSet,
         moves: &Moves,
@@ -375,16 +295,6 @@ impl UnitLists {
     }
 }
 
-// Reads the array of a contract for a step, which counts it, where the step moves.
-fn read_array(set: &ParamSet, i: usize, step: &Step, work: &mut Work)
-    requires { i < length set.now.contracts }
-    ensures { work.new ≡ counted work.old (arrays_of_quantity step.now.quantity) }
-{
-    if step.quantity.size() != 0 {
-        let _array = set.array(i, work);
-    }
-}
-
 // Moves the row that a branch has of its own, made from that of the lots where it had none.
 fn move_row(
     own: &mut Option<CommodityRow>,
@@ -399,12 +309,8 @@ fn move_row(
     ensures row { IsSomeAnd own.new (λ r. IsRowStepped set.now i (either_row lots.now own.old) r step.now) }
     ensures counted { work.new ≡ counted work.old (arrays_of_quantity step.now.quantity) }
 {
-    if own.is_none() {
-        *own = Some(*lots);
-    }
-    if step.quantity.size() != 0
-        && let Some(row) = own
-    {
+    let row = own.get_or_insert(*lots);
+    if step.quantity.size() != 0 {
         row.add(set, i, step, work);
     }
 }
