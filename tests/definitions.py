@@ -22,7 +22,7 @@ import source
 MOST = 1704
 APART = ("mgn_setfile",)
 # What a contract may leave to believe, without what a set's file says, and without comments and types.
-BELIEVED = {"run_script": 791, "mgn_world::run": 972, "mgn_service::exec": 561, "mgn_service::close": 556}
+BELIEVED = {"run_script": 791, "mgn_world::run": 977, "mgn_service::exec": 561, "mgn_service::close": 556}
 HEAD = re.compile(r"(?:(?:pub|abbrev|unfoldable|opaque|data|record)\s+)+([^\s:({]+)")
 FIXITY = re.compile(r"infix[lr]?\s+\d+\s+(\S+)")
 # key: (crate, file, name); lines: with comment and type; believed: without; scope: the use lines that its words are read by
